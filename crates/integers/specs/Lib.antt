@@ -1,0 +1,11 @@
+-- Integer mathematics over the library's ℤ and its orders. Examples shows how each part is used.
+pub mod Ring
+pub mod Polynomial
+pub mod Identity
+pub mod Order
+pub mod Certificate
+pub mod Linear
+pub mod Division
+pub mod Size
+pub mod Lex
+pub mod Examples
