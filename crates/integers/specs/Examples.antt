@@ -1,7 +1,7 @@
 -- How each part of the crate is used, in one line each.
 use mathlib.Core.Path.{_≡_}
-use mathlib.Core.List.{List, [], _∷_}
-use lib.IntN.{ℤ, pos, negsuc, negℤ, _+ℤ_, _-ℤ_, _*ℤ_}
+use mathlib.Core.List.{[], _∷_}
+use lib.IntN.{ℤ, pos, _+ℤ_, _-ℤ_, _*ℤ_}
 use Rattle.integers.specs.Identity.{by-ring, by-eq, reads}
 
 -- ---- identities: by-ring takes the atoms, and `search` reads the two sides
@@ -22,5 +22,5 @@ square-of-values : (f : ℤ → ℤ → ℤ) (u v : ℤ) → (f u v -ℤ f v u) 
 square-of-values f u v = by-ring (f u v ∷ f v u ∷ []) (search reads depth 20) (search reads depth 20) tt
 
 -- ---- from an equation: x − y is a multiple of l − r
-power-of-golden-ratio : (x : ℤ) → x *ℤ x ≡ x +ℤ pos 1 → x *ℤ x *ℤ x ≡ pos 2 *ℤ x +ℤ pos 1
-power-of-golden-ratio x h = by-eq (x ∷ []) (x +ℤ pos 1) h (search reads depth 20) (search reads depth 20) tt
+cube-from-square : (x : ℤ) → x *ℤ x ≡ x +ℤ pos 1 → x *ℤ x *ℤ x ≡ pos 2 *ℤ x +ℤ pos 1
+cube-from-square x h = by-eq (x ∷ []) (x +ℤ pos 1) h (search reads depth 20) (search reads depth 20) tt

@@ -1,7 +1,7 @@
 -- Identities of polynomials over ℤ in one line: `by-ring (a ∷ b ∷ []) (search reads) (search reads) tt`, where the list holds the atoms.
 -- An atom is any term: a variable, a stuck call, a product. `search reads depth 20 fits 5000` reads an expression of any usual size.
 use mathlib.Core.Path.{_≡_, refl, sym, _∙_, ap, ap₂}
-use mathlib.Core.List.{List, [], _∷_}
+use mathlib.Core.List.{List, _∷_}
 use Prim.Native.Nat.{ℕ}
 use lib.Dec.{T}
 use lib.IntN.{ℤ, pos, negsuc, negℤ, _+ℤ_, _-ℤ_, _*ℤ_, +ℤ-invr, *ℤ-zero}
