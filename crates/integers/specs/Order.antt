@@ -6,7 +6,7 @@ use mathlib.Core.Bool.{Bool, true, false, not, cond}
 use Prim.Native.Nat.{ℕ, zero, suc, _+_, _*_, _-_, _<_, _≤_}
 use native.Mathlib.Nat.{le-antisymm, mul-pos, zero-lt-suc}
 use native.Mathlib.Omega.{arith}
-use lib.Dec.{T, leb, ltb, leb→le, le→leb, ltb→lt, lt→ltb, nltb→le}
+use lib.Dec.{T, ltb, leb→le, le→leb, ltb→lt, lt→ltb, nltb→le}
 use lib.IntN.{ℤ, pos, negsuc, sucℤ, subℕ, _+ℤ_, _*ℤ_, +ℤ-one, +ℤ-assoc, +ℤ-comm, +ℤ-idl, ℤ-discrete}
 use lib.Signed.{leZ, ltZ, _≤ℤ_, _<ℤ_, ltZ-yes, ltZ-no, leZ-yes, ≤ℤ-refl, <ℤ-≤ℤ-trans, clashℤ}
 use Rattle.integers.specs.Ring.{*ℤ-+ℤ, *ℤ-pos-one}
