@@ -1,15 +1,18 @@
 -- Laws of the inner product and of combinations, for vectors of any length. Two vectors are compared by their inner products with
 -- every vector (`_≈_`): then sums need no word on lengths, and every vector equation is one of integers.
 use mathlib.Core.Path.{_≡_, refl, sym, ap, ap₂, _∙_, subst}
-use mathlib.Core.List.{List, [], _∷_, map}
+use mathlib.Core.Logic.{⊎-elim}
+use mathlib.Core.List.{List, [], _∷_}
 use Prim.Native.Nat.{ℕ, zero, suc}
-use lib.IntN.{ℤ, pos, negsuc, _+ℤ_, _-ℤ_, _*ℤ_, zero-*ℤ, *ℤ-zero, *ℤ-comm, +ℤ-idl, +ℤ-idr}
-use lib.Signed.{_≤ℤ_, ≤ℤ-refl}
-use lib.ListN.{length, replicate}
+use lib.IntN.{ℤ, pos, _+ℤ_, _*ℤ_, zero-*ℤ, *ℤ-zero, *ℤ-comm, +ℤ-comm, +ℤ-idl, +ℤ-idr}
+use lib.Signed.{_≤ℤ_, _<ℤ_, ≤ℤ-refl, <ℤ-irrefl}
+use lib.ListN.{length}
 use Rattle.integers.specs.Ring.{*ℤ-pos-one}
 use Rattle.integers.specs.Identity.{by-ring, reads}
-use Rattle.integers.specs.Order.{*ℤ-nonneg, square-nonneg, +ℤ-mono}
-use Rattle.lattices.specs.Vector.{Vec, N, Zero, nth, dot, _⊕_, _⊙_, _⊖_, comb}
+use Rattle.integers.specs.Order.{≤ℤ-antisymm, ≤ℤ-of-≡, zero-or-not, square-pos}
+use Rattle.integers.specs.Certificate.{nn-sq, _⊞_, le, by-nn}
+use Rattle.integers.specs.Lists.{same}
+use Rattle.lattices.specs.Vector.{Vec, N, Zero, nth, dot, _⊕_, _⊙_, comb}
 
 -- ---- the inner product is symmetric and linear in each vector
 pub dot-nil : (u : Vec) → dot u [] ≡ pos 0
@@ -57,7 +60,7 @@ pub ruleset bilinear = (dot-⊕, dot-⊙, dot-⊕ʳ, dot-⊙ʳ)
 pub N-nonneg : (u : Vec) → pos 0 ≤ℤ N u
 unfolding dot
 N-nonneg [] = ≤ℤ-refl (pos 0)
-N-nonneg (x ∷ u) = +ℤ-mono (square-nonneg x) (N-nonneg u)
+N-nonneg (x ∷ u) = nn-sq x ⊞ N-nonneg u
 
 -- ---- vectors compared by their inner products
 infix 4 _≈_
@@ -134,8 +137,8 @@ pub ≈-Zero : {v : Vec} → v ≈ [] → Zero v
 pub N-Zero : (v : Vec) → N v ≡ pos 0 → Zero v
 unfolding dot
 N-Zero [] e i = refl
-N-Zero (x ∷ v) e zero = square-zero x (sum-zero (square-nonneg x) (N-nonneg v) e)
-N-Zero (x ∷ v) e (suc i) = N-Zero v (sum-zero (N-nonneg v) (square-nonneg x) (+ℤ-comm (N v) (x *ℤ x) ∙ e)) i
+N-Zero (x ∷ v) e zero = square-zero x (sum-zero (nn-sq x) (N-nonneg v) e)
+N-Zero (x ∷ v) e (suc i) = N-Zero v (sum-zero (N-nonneg v) (nn-sq x) (+ℤ-comm (N v) (x *ℤ x) ∙ e)) i
 
 -- equal lists from ≈
 pub ≈-≡ : (u v : Vec) → length u ≡ length v → u ≈ v → u ≡ v
