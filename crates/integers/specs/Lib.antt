@@ -7,5 +7,6 @@ pub mod Certificate
 pub mod Linear
 pub mod Division
 pub mod Size
+pub mod Lists
 pub mod Lex
 pub mod Examples

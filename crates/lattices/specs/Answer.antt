@@ -1,0 +1,94 @@
+-- The answers of the services Reduction and Nearest for every input: a refusal with its number and all else zero, or the answer.
+-- Unused places of every answer hold zero.
+use mathlib.Core.List.{List, [], _∷_, _++_, map}
+use Prim.Native.Nat.{ℕ, zero, suc}
+use lib.IntN.{ℤ, pos}
+use lib.ListN.{length, replicate}
+use Rattle.lattices.specs.Vector.{Vec, N, nth, comb, distance}
+use Rattle.lattices.specs.Nearest.{nearest}
+use Rattle.lattices.specs.Greedy.{Row, Counted, vectors, reduction}
+use Rattle.lattices.specs.Refusal.{Input, basis, firstOf, vectorChecks, targetChecks, mostVectors, mostCoordinates}
+
+-- a list of n numbers: the given ones, then zeros
+abbrev pub padded : ℕ → List ℤ → List ℤ
+padded zero l = []
+padded (suc n) [] = pos 0 ∷ padded n []
+padded (suc n) (x ∷ l) = x ∷ padded n l
+
+-- a table of h rows of w numbers: the given rows, then zeros
+abbrev pub table : ℕ → ℕ → List (List ℤ) → List (List ℤ)
+table zero w rows = []
+table (suc h) w [] = padded w [] ∷ table h w []
+table (suc h) w (r ∷ rows) = padded w r ∷ table h w rows
+
+-- row i of V: what each vector of the reduced list counts in input i
+abbrev pub rowsOfV : ℕ → List Row → List (List ℤ)
+rowsOfV zero rows = []
+rowsOfV (suc i) rows = rowsOfV i rows ++ (map (λ r. nth (r .v) i) rows ∷ [])
+
+-- the answer of Reduction
+pub record Reduction : Type 0 where
+  pub refusal : ℕ
+  pub place : ℕ
+  pub basis : List (List ℤ)
+  pub u : List (List ℤ)
+  pub v : List (List ℤ)
+  pub squares : List ℤ
+  pub passes : ℕ
+
+abbrev pub noReduction : ℕ → Reduction
+noReduction n = record {
+  refusal = n;
+  place = 0;
+  basis = table mostVectors mostCoordinates [];
+  u = table mostVectors mostVectors [];
+  v = table mostVectors mostVectors [];
+  squares = padded mostVectors [];
+  passes = 0;
+}
+
+abbrev pub reductionGiven : Counted → Reduction
+reductionGiven c = record {
+  refusal = 0;
+  place = 0;
+  basis = table mostVectors mostCoordinates (vectors (c .rows));
+  u = table mostVectors mostVectors (map (λ r. r .u) (c .rows));
+  v = table mostVectors mostVectors (rowsOfV (length (c .rows)) (c .rows));
+  squares = padded mostVectors (map (λ r. N (r .vector)) (c .rows));
+  passes = c .passes;
+}
+
+unfoldable pub reductionOf : Input → Reduction
+reductionOf i = elim (firstOf vectorChecks i) [ zero ↦ reductionGiven (reduction (basis i)) | suc n ↦ noReduction (suc n) ]
+
+-- the answer of Nearest: coefficients on the reduced basis, the lattice vector, its squared distance from the target
+pub record Nearest : Type 0 where
+  pub refusal : ℕ
+  pub place : ℕ
+  pub vector : List ℤ
+  pub coefficients : List ℤ
+  pub square : ℤ
+
+abbrev pub noNearest : ℕ → Nearest
+noNearest n = record {
+  refusal = n;
+  place = 0;
+  vector = padded mostCoordinates [];
+  coefficients = padded mostVectors [];
+  square = pos 0;
+}
+
+abbrev pub nearestGiven : List Vec → Vec → Nearest
+nearestGiven bs t =
+    let x = nearest bs t in
+    record {
+      refusal = 0;
+      place = 0;
+      vector = padded mostCoordinates (comb x bs);
+      coefficients = padded mostVectors x;
+      square = distance t (comb x bs);
+    }
+
+unfoldable pub nearestOf : Input → Nearest
+nearestOf i = elim (firstOf (vectorChecks ++ targetChecks) i)
+    [ zero ↦ nearestGiven (vectors (reduction (basis i) .rows)) (i .target) | suc n ↦ noNearest (suc n) ]
