@@ -1,10 +1,17 @@
 -- How each part of the crate is used, in one line each.
 use mathlib.Core.Path.{_≡_}
 use mathlib.Core.List.{[], _∷_}
+use Prim.Native.Nat.{ℕ}
+use native.Mathlib.Omega.{arith}
 use lib.IntN.{ℤ, pos, _+ℤ_, _-ℤ_, _*ℤ_}
 use lib.Signed.{_≤ℤ_, _<ℤ_}
+use mir.Syntax.{w64}
+use mir.Val.{SFits}
 use Rattle.integers.specs.Identity.{by-ring, by-eq, reads}
 use Rattle.integers.specs.Certificate.{NN, _⊞_, _⊠_, nn-sq, nn-pos, le, lt, eq, positivity, by-nn, by-lt, nn-false}
+use Rattle.integers.specs.Linear.{toN, toN-<, toN-≡, fromN-<, fromN-≡}
+use Rattle.integers.specs.Size.{Within, within-sub, within-mul, fits-within}
+use Rattle.integers.specs.Division.{up, quot, rest, quot-rest, rest-nonneg}
 
 -- ---- identities: by-ring takes the atoms, and `search` reads the two sides
 square-of-sum : (a b : ℤ) → (a +ℤ b) *ℤ (a +ℤ b) ≡ a *ℤ a +ℤ pos 2 *ℤ a *ℤ b +ℤ b *ℤ b
@@ -35,7 +42,7 @@ twice-product a b = by-nn (a ∷ b ∷ []) (nn-sq (a -ℤ b)) (search reads) (se
 square-increases : (a b : ℤ) → NN a → a <ℤ b → (a *ℤ a) <ℤ (b *ℤ b)
 square-increases a b h k = by-lt (a ∷ b ∷ []) (lt k ⊠ (lt k ⊞ nn-pos 2 ⊠ h ⊞ nn-pos 2) ⊞ nn-pos 2 ⊠ h) (search reads) (search reads depth 20) tt
 
--- the shortest vector's bound in a reduced basis with Gram entries A, B and c
+-- for vectors u, v of squared lengths A ≤ B with ⟨u, v⟩ = −c and 2c ≤ A: no pu + qv with p, q ≠ 0 is shorter than u + v
 reduced-bound : (A B c p q : ℤ) → NN c → (pos 2 *ℤ c) ≤ℤ A → A ≤ℤ B → NN (p *ℤ p -ℤ pos 1) → NN (q *ℤ q -ℤ pos 1) → (A +ℤ B -ℤ pos 2 *ℤ c) ≤ℤ (p *ℤ p *ℤ A +ℤ q *ℤ q *ℤ B -ℤ pos 2 *ℤ p *ℤ q *ℤ c)
 reduced-bound A B c p q n h k P Q =
     by-nn (A ∷ B ∷ c ∷ p ∷ q ∷ []) (n ⊠ (P ⊞ Q ⊞ nn-sq (p -ℤ q)) ⊞ le h ⊠ (P ⊞ Q) ⊞ le k ⊠ Q) (search reads depth 20) (search reads depth 20) tt
@@ -50,3 +57,22 @@ no-integer-between x h k = nn-false (x ∷ []) (lt h ⊞ lt k) (search reads dep
 
 not-negative : (x y z : ℤ) → NN z → NN (x *ℤ x *ℤ z +ℤ (y *ℤ y +ℤ pos 3))
 not-negative x y z h = search positivity
+
+-- ---- linear goals without a certificate: `omega` finds it; each hypothesis is carried over by `toN`
+chain : (a b c d : ℤ) → (a +ℤ pos 2 *ℤ b) ≤ℤ c → (c -ℤ b) <ℤ d → (a +ℤ b) <ℤ d
+chain a b c d h k =
+    let ρ = a ∷ b ∷ c ∷ d ∷ [] in
+    fromN-< ρ (search reads) (search reads) (omega (arith, toN ρ (search reads) (search reads) h, toN-< ρ (search reads) (search reads) k))
+
+sum-is-difference : (x y s : ℤ) → x +ℤ y ≡ s → x -ℤ y ≡ s → y ≡ pos 0
+sum-is-difference x y s h k =
+    let ρ = x ∷ y ∷ s ∷ [] in
+    fromN-≡ ρ (search reads) (search reads) (omega (arith, toN-≡ ρ (search reads) (search reads) h, toN-≡ ρ (search reads) (search reads) k))
+
+-- ---- floor division: quotient and remainder are atoms
+quotient-bound : (k : ℕ) (w : ℤ) → (quot k w *ℤ up k) ≤ℤ w
+quotient-bound k w = by-nn (quot k w ∷ up k ∷ rest k w ∷ w ∷ []) (rest-nonneg k w ⊞ eq (pos 1) (quot-rest k w)) (search reads) (search reads depth 20) tt
+
+-- ---- overflow: bounds are carried along the expression, and the last comparison computes
+determinant-fits : (a b c d : ℤ) → Within 1000000000 a → Within 1000000000 b → Within 1000000000 c → Within 1000000000 d → SFits w64 (a *ℤ d -ℤ b *ℤ c)
+determinant-fits a b c d ha hb hc hd = fits-within (within-sub (within-mul ha hd) (within-mul hb hc)) tt

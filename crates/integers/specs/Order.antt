@@ -1,5 +1,5 @@
 -- The order of ℤ: laws of `lib.Signed`'s `_≤ℤ_` and `_<ℤ_` under sums and products, and their tests as equations.
--- All follow from `gap`: a ≤ b says that b is a and a natural number.
+-- The laws rest on `gap`: a ≤ b says that b is a plus a natural number.
 use mathlib.Core.Path.{_≡_, refl, sym, ap, _∙_, subst}
 use mathlib.Core.Logic.{_≢_, _⊎_, inl, inr}
 use mathlib.Core.Bool.{Bool, true, false, not, cond}
