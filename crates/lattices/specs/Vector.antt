@@ -5,7 +5,8 @@ use Prim.Native.Nat.{ℕ, zero, suc}
 use lib.IntN.{ℤ, pos, _+ℤ_, _*ℤ_}
 use lib.ListN.{length}
 -- entries, sum, difference and multiple of lists of numbers
-unfoldable pub use Rattle.integers.specs.Lists.{nth, _⊕_, _⊖_, _⊙_}
+pub use Rattle.integers.specs.Lists.{nth, _⊖_}
+unfoldable pub use Rattle.integers.specs.Lists.{_⊕_, _⊙_}
 
 -- a vector: its list of coordinates
 abbrev pub Vec : Type 0

@@ -1,0 +1,170 @@
+-- Laws of the inner product and of combinations, for vectors of any length. Two vectors are compared by their inner products with
+-- every vector (`_≈_`): then sums need no word on lengths, and every vector equation is one of integers.
+use mathlib.Core.Path.{_≡_, refl, sym, ap, ap₂, _∙_, subst}
+use mathlib.Core.Logic.{⊎-elim}
+use mathlib.Core.List.{List, [], _∷_}
+use Prim.Native.Nat.{ℕ, zero, suc}
+use lib.IntN.{ℤ, pos, _+ℤ_, _*ℤ_, zero-*ℤ, *ℤ-zero, *ℤ-comm, +ℤ-comm, +ℤ-idl, +ℤ-idr}
+use lib.Signed.{_≤ℤ_, _<ℤ_, ≤ℤ-refl, <ℤ-irrefl}
+use lib.ListN.{length}
+use Rattle.integers.specs.Ring.{*ℤ-pos-one}
+use Rattle.integers.specs.Identity.{by-ring, reads}
+use Rattle.integers.specs.Order.{≤ℤ-antisymm, ≤ℤ-of-≡, zero-or-not, square-pos}
+use Rattle.integers.specs.Certificate.{nn-sq, _⊞_, le, by-nn}
+use Rattle.integers.specs.Lists.{same}
+use Rattle.lattices.specs.Vector.{Vec, N, Zero, nth, dot, _⊕_, _⊙_, comb}
+
+-- ---- the inner product is symmetric and linear in each vector
+pub dot-nil : (u : Vec) → dot u [] ≡ pos 0
+unfolding dot
+dot-nil [] = refl
+dot-nil (x ∷ u) = refl
+
+pub nil-dot : (u : Vec) → dot [] u ≡ pos 0
+unfolding dot
+nil-dot u = refl
+
+pub dot-comm : (u v : Vec) → dot u v ≡ dot v u
+unfolding dot
+dot-comm [] v = sym (dot-nil v)
+dot-comm (x ∷ u) [] = refl
+dot-comm (x ∷ u) (y ∷ v) = ap₂ _+ℤ_ (*ℤ-comm x y) (dot-comm u v)
+
+pub dot-⊕ : (u v w : Vec) → dot (u ⊕ v) w ≡ dot u w +ℤ dot v w
+unfolding dot _⊕_
+dot-⊕ [] v w = sym (+ℤ-idl (dot v w))
+dot-⊕ (x ∷ u) [] w = sym (+ℤ-idr (dot (x ∷ u) w))
+dot-⊕ (x ∷ u) (y ∷ v) [] = refl
+dot-⊕ (x ∷ u) (y ∷ v) (z ∷ w) = ap (λ s. (x +ℤ y) *ℤ z +ℤ s) (dot-⊕ u v w) ∙ regroup x y z (dot u w) (dot v w)
+  where
+    regroup : (x y z a b : ℤ) → (x +ℤ y) *ℤ z +ℤ (a +ℤ b) ≡ (x *ℤ z +ℤ a) +ℤ (y *ℤ z +ℤ b)
+    regroup x y z a b = by-ring (x ∷ y ∷ z ∷ a ∷ b ∷ []) (search reads) (search reads) tt
+
+pub dot-⊙ : (k : ℤ) (u w : Vec) → dot (k ⊙ u) w ≡ k *ℤ dot u w
+unfolding dot _⊙_
+dot-⊙ k [] w = sym (*ℤ-zero k)
+dot-⊙ k (x ∷ u) [] = sym (*ℤ-zero k)
+dot-⊙ k (x ∷ u) (z ∷ w) = ap (λ s. k *ℤ x *ℤ z +ℤ s) (dot-⊙ k u w) ∙ regroup k x z (dot u w)
+  where
+    regroup : (k x z a : ℤ) → k *ℤ x *ℤ z +ℤ k *ℤ a ≡ k *ℤ (x *ℤ z +ℤ a)
+    regroup k x z a = by-ring (k ∷ x ∷ z ∷ a ∷ []) (search reads) (search reads) tt
+
+pub dot-⊕ʳ : (u v w : Vec) → dot w (u ⊕ v) ≡ dot w u +ℤ dot w v
+dot-⊕ʳ u v w = dot-comm w (u ⊕ v) ∙ dot-⊕ u v w ∙ ap₂ _+ℤ_ (dot-comm u w) (dot-comm v w)
+
+pub dot-⊙ʳ : (k : ℤ) (u w : Vec) → dot w (k ⊙ u) ≡ k *ℤ dot w u
+dot-⊙ʳ k u w = dot-comm w (k ⊙ u) ∙ dot-⊙ k u w ∙ ap (λ s. k *ℤ s) (dot-comm u w)
+
+pub ruleset bilinear = (dot-⊕, dot-⊙, dot-⊕ʳ, dot-⊙ʳ)
+
+pub N-nonneg : (u : Vec) → pos 0 ≤ℤ N u
+unfolding dot
+N-nonneg [] = ≤ℤ-refl (pos 0)
+N-nonneg (x ∷ u) = nn-sq x ⊞ N-nonneg u
+
+-- ---- vectors compared by their inner products
+infix 4 _≈_
+pub record _≈_ (u v : Vec) : Type 0 where
+  pub on : (w : Vec) → dot u w ≡ dot v w
+
+pub ≈-refl : {u : Vec} → u ≈ u
+≈-refl = record { on = λ w. refl }
+
+pub ≈-of-≡ : {u v : Vec} → u ≡ v → u ≈ v
+≈-of-≡ e = record { on = λ w. ap (λ u. dot u w) e }
+
+pub ≈-sym : {u v : Vec} → u ≈ v → v ≈ u
+≈-sym e = record { on = λ w. sym (e .on w) }
+
+pub ≈-trans : {u v w : Vec} → u ≈ v → v ≈ w → u ≈ w
+≈-trans e f = record { on = λ w. e .on w ∙ f .on w }
+
+pub ≈-⊕ : {u v x y : Vec} → u ≈ v → x ≈ y → (u ⊕ x) ≈ (v ⊕ y)
+≈-⊕ {u} {v} {x} {y} e f = record { on = λ w. dot-⊕ u x w ∙ ap₂ _+ℤ_ (e .on w) (f .on w) ∙ sym (dot-⊕ v y w) }
+
+pub ≈-⊙ : (k : ℤ) {u v : Vec} → u ≈ v → (k ⊙ u) ≈ (k ⊙ v)
+≈-⊙ k {u} {v} e = record { on = λ w. dot-⊙ k u w ∙ ap (λ s. k *ℤ s) (e .on w) ∙ sym (dot-⊙ k v w) }
+
+pub ≈-dot : {u v x y : Vec} → u ≈ v → x ≈ y → dot u x ≡ dot v y
+≈-dot {u} {v} {x} {y} e f = e .on x ∙ dot-comm v x ∙ f .on v ∙ dot-comm y v
+
+pub ≈-N : {u v : Vec} → u ≈ v → N u ≡ N v
+≈-N e = ≈-dot e e
+
+-- entry i is the inner product with the i-th unit vector
+pub unit : ℕ → Vec
+unit zero = pos 1 ∷ []
+unit (suc i) = pos 0 ∷ unit i
+
+pub nth-dot : (u : Vec) (i : ℕ) → nth u i ≡ dot u (unit i)
+unfolding dot unit
+nth-dot [] i = refl
+nth-dot (x ∷ u) zero = sym (ap₂ _+ℤ_ (*ℤ-pos-one x) (dot-nil u) ∙ +ℤ-idr x)
+nth-dot (x ∷ u) (suc i) = nth-dot u i ∙ sym (ap (λ s. s +ℤ dot u (unit i)) (*ℤ-zero x) ∙ +ℤ-idl (dot u (unit i)))
+
+pub ≈-nth : {u v : Vec} → u ≈ v → (i : ℕ) → nth u i ≡ nth v i
+≈-nth {u} {v} e i = nth-dot u i ∙ e .on (unit i) ∙ sym (nth-dot v i)
+
+pub zero-dot : (v : Vec) → Zero v → (w : Vec) → dot v w ≡ pos 0
+unfolding dot
+zero-dot [] e w = refl
+zero-dot (x ∷ v) e [] = refl
+zero-dot (x ∷ v) e (z ∷ w) = ap₂ (λ a b. a *ℤ z +ℤ b) (e 0) (zero-dot v (λ i. e (suc i)) w) ∙ +ℤ-idr (pos 0 *ℤ z) ∙ zero-*ℤ z
+
+pub nth-≈ : (u v : Vec) → ((i : ℕ) → nth u i ≡ nth v i) → u ≈ v
+unfolding dot
+nth-≈ u v e = record { on = λ w. go u v e w }
+  where
+    go : (u v : Vec) → ((i : ℕ) → nth u i ≡ nth v i) → (w : Vec) → dot u w ≡ dot v w
+    go [] v e w = nil-dot w ∙ sym (zero-dot v (λ i. sym (e i)) w)
+    go (x ∷ u) [] e w = zero-dot (x ∷ u) e w ∙ sym (nil-dot w)
+    go (x ∷ u) (y ∷ v) e [] = dot-nil (x ∷ u) ∙ sym (dot-nil (y ∷ v))
+    go (x ∷ u) (y ∷ v) e (z ∷ w) = ap₂ (λ a b. a *ℤ z +ℤ b) (e 0) (go u v (λ i. e (suc i)) w)
+
+sum-zero : {a b : ℤ} → pos 0 ≤ℤ a → pos 0 ≤ℤ b → a +ℤ b ≡ pos 0 → a ≡ pos 0
+sum-zero {a} {b} h k e = ≤ℤ-antisymm (by-nn (a ∷ b ∷ []) (k ⊞ le (≤ℤ-of-≡ e)) (search reads) (search reads) tt) h
+
+square-zero : (x : ℤ) → x *ℤ x ≡ pos 0 → x ≡ pos 0
+square-zero x e = ⊎-elim (λ z. z) (λ f. absurd (<ℤ-irrefl (subst (λ y. pos 0 <ℤ y) e (square-pos f)))) (zero-or-not x)
+
+-- a vector is zero exactly when its squared length is, and then it is ≈ []
+pub Zero-≈ : {v : Vec} → Zero v → v ≈ []
+Zero-≈ {v} e = record { on = λ w. zero-dot v e w ∙ sym (nil-dot w) }
+
+pub ≈-Zero : {v : Vec} → v ≈ [] → Zero v
+≈-Zero e i = ≈-nth e i
+
+pub N-Zero : (v : Vec) → N v ≡ pos 0 → Zero v
+unfolding dot
+N-Zero [] e i = refl
+N-Zero (x ∷ v) e zero = square-zero x (sum-zero (nn-sq x) (N-nonneg v) e)
+N-Zero (x ∷ v) e (suc i) = N-Zero v (sum-zero (N-nonneg v) (nn-sq x) (+ℤ-comm (N v) (x *ℤ x) ∙ e)) i
+
+-- equal lists from ≈
+pub ≈-≡ : (u v : Vec) → length u ≡ length v → u ≈ v → u ≡ v
+≈-≡ u v l e = same l (≈-nth e)
+
+-- ---- combinations
+-- the inner products of all vectors of a list with one
+abbrev pub against : List Vec → Vec → List ℤ
+against [] w = []
+against (b ∷ bs) w = dot b w ∷ against bs w
+
+pub comb-dot : (x : List ℤ) (bs : List Vec) (w : Vec) → dot (comb x bs) w ≡ dot x (against bs w)
+unfolding comb dot
+comb-dot [] bs w = refl
+comb-dot (x ∷ xs) [] w = refl
+comb-dot (x ∷ xs) (b ∷ bs) w = dot-⊕ (x ⊙ b) (comb xs bs) w ∙ ap₂ _+ℤ_ (dot-⊙ x b w) (comb-dot xs bs w)
+
+pub comb-⊕ : (x y : List ℤ) (bs : List Vec) → comb (x ⊕ y) bs ≈ comb x bs ⊕ comb y bs
+comb-⊕ x y bs = record { on = λ w. simp (comb-dot, dot-⊕) }
+
+pub comb-⊙ : (k : ℤ) (x : List ℤ) (bs : List Vec) → comb (k ⊙ x) bs ≈ k ⊙ comb x bs
+comb-⊙ k x bs = record { on = λ w. simp (comb-dot, dot-⊙) }
+
+pub comb-cons : (x : ℤ) (xs : List ℤ) (b : Vec) (bs : List Vec) → comb (x ∷ xs) (b ∷ bs) ≈ x ⊙ b ⊕ comb xs bs
+unfolding comb
+comb-cons x xs b bs = ≈-refl
+
+pub comb-≈ : {x y : List ℤ} (bs : List Vec) → x ≈ y → comb x bs ≈ comb y bs
+comb-≈ {x} {y} bs e = record { on = λ w. comb-dot x bs w ∙ e .on (against bs w) ∙ sym (comb-dot y bs w) }

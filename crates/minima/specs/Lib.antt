@@ -1,0 +1,7 @@
+-- Theorems about reduced lists: least values, interpolation and rounding, successive minima, the nearest vector.
+pub mod Values
+pub mod Rounding
+pub mod Reduced
+pub mod Table
+pub mod Layers
+pub mod NearestLaws
