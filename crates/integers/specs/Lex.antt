@@ -1,16 +1,17 @@
 -- Lists of integers compared from the first entry on as signed numbers: the order of the tie rule. First the definitions, then the laws.
-use mathlib.Core.Path.{_≡_, refl, sym, _∙_, ap, ap₂, subst, subst₂}
+use mathlib.Core.Path.{_≡_, refl, sym, _∙_, ap, ap₂, subst}
 use mathlib.Core.Logic.{_⊎_, inl, inr, ⊎-elim}
 use mathlib.Core.Bool.{Bool, true, false}
 use mathlib.Core.List.{List, [], _∷_, _++_}
 use Prim.Native.Nat.{ℕ, zero, suc}
 use native.Mathlib.Omega.{arith}
-use lib.IntN.{ℤ, pos, negsuc, _+ℤ_, _*ℤ_, +ℤ-idl, +ℤ-idr, +ℤ-comm, zero-*ℤ, *ℤ-zero}
+use lib.IntN.{ℤ, pos, negsuc, _+ℤ_, _*ℤ_, +ℤ-idl, zero-*ℤ, *ℤ-zero}
 use lib.Dec.{T}
 use lib.ListN.{length}
 use lib.Signed.{ltZ, _<ℤ_, _≤ℤ_, <ℤ-≤ℤ-trans, <ℤ-irrefl, clashℤ}
 use Rattle.integers.specs.Identity.{reads, by-ring, by-eq}
-use Rattle.integers.specs.Order.{≤ℤ-of-<ℤ, ≤ℤ-of-≡, ≤ℤ-antisymm, ≤ℤ-or-<ℤ, <ℤ-of-add-one, add-one-≤ℤ, +ℤ-mono-r, *ℤ-mono, *ℤ-mono-<, *ℤ-cancel-≤, <ℤ-ltZ, ≤ℤ-ltZ}
+use Rattle.integers.specs.Order.{≤ℤ-of-<ℤ, ≤ℤ-of-≡, ≤ℤ-antisymm, ≤ℤ-or-<ℤ, *ℤ-mono, *ℤ-mono-<, *ℤ-cancel-≤, <ℤ-ltZ, ≤ℤ-ltZ}
+use Rattle.integers.specs.Certificate.{_⊞_, lt, by-lt}
 use Rattle.integers.specs.Lists.{nth, _⊕_, _⊙_, _⊖_, nth-⊙, entries, same}
 
 -- is the first list below the second?
@@ -26,8 +27,7 @@ Nonneg (x ∷ l) = (pos 0 <ℤ x) ⊎ ((x ≡ pos 0) × Nonneg l)
 
 -- ---- the sign of the first entry
 
--- the first entry is at least 0
-head-nonneg : (x : ℤ) (u : List ℤ) → Nonneg (x ∷ u) → pos 0 ≤ℤ x
+pub head-nonneg : (x : ℤ) (u : List ℤ) → Nonneg (x ∷ u) → pos 0 ≤ℤ x
 head-nonneg x u (inl h) = ≤ℤ-of-<ℤ h
 head-nonneg x u (inr h) = ≤ℤ-of-≡ (sym (h .0))
 
@@ -35,7 +35,7 @@ positive-or-zero : {x : ℤ} → pos 0 ≤ℤ x → (pos 0 <ℤ x) ⊎ (x ≡ po
 positive-or-zero {x} h = ⊎-elim (λ k. inr (≤ℤ-antisymm k h)) inl (≤ℤ-or-<ℤ x (pos 0))
 
 +ℤ-positive : {x y : ℤ} → pos 0 <ℤ x → pos 0 ≤ℤ y → pos 0 <ℤ (x +ℤ y)
-+ℤ-positive {x} h k = <ℤ-≤ℤ-trans h (rw (+ℤ-idr x) at (+ℤ-mono-r x k))
++ℤ-positive {x} {y} h k = by-lt (x ∷ y ∷ []) (lt h ⊞ k) (search reads) (search reads) tt
 
 *ℤ-positive : {m x : ℤ} → pos 0 <ℤ m → pos 0 <ℤ x → pos 0 <ℤ (m *ℤ x)
 *ℤ-positive {m} h k = rw (*ℤ-zero m) at (*ℤ-mono-< h k)
@@ -58,19 +58,10 @@ difference-≡ : (x y : ℤ) → x +ℤ negsuc 0 *ℤ y ≡ pos 0 → x ≡ y
 difference-≡ x y e = by-eq (x ∷ y ∷ []) (pos 1) e (search reads) (search reads) tt
 
 <ℤ-difference : {x y : ℤ} → x <ℤ y → pos 0 <ℤ (y +ℤ negsuc 0 *ℤ x)
-<ℤ-difference {x} {y} h = <ℤ-of-add-one (subst₂ _≤ℤ_ low high (+ℤ-mono-r (negsuc 0 *ℤ x) (add-one-≤ℤ h)))
-  where
-    low : negsuc 0 *ℤ x +ℤ (x +ℤ pos 1) ≡ pos 1
-    low = by-ring (x ∷ []) (search reads) (search reads) tt
-
-    high : negsuc 0 *ℤ x +ℤ y ≡ y +ℤ negsuc 0 *ℤ x
-    high = +ℤ-comm (negsuc 0 *ℤ x) y
+<ℤ-difference {x} {y} h = by-lt (x ∷ y ∷ []) (lt h) (search reads) (search reads) tt
 
 difference-<ℤ : (x y : ℤ) → pos 0 <ℤ (y +ℤ negsuc 0 *ℤ x) → x <ℤ y
-difference-<ℤ x y h = <ℤ-of-add-one (subst (λ z. (x +ℤ pos 1) ≤ℤ z) back (+ℤ-mono-r x (add-one-≤ℤ h)))
-  where
-    back : x +ℤ (y +ℤ negsuc 0 *ℤ x) ≡ y
-    back = by-ring (x ∷ y ∷ []) (search reads) (search reads) tt
+difference-<ℤ x y h = by-lt (x ∷ y ∷ []) (lt h) (search reads) (search reads) tt
 
 -- ---- laws of Nonneg
 
@@ -191,7 +182,7 @@ nonneg-below (x ∷ k) [] p = refl
 nonneg-below (x ∷ k) (y ∷ l) (inl h) = below-> k l (difference-<ℤ y x h)
 nonneg-below (x ∷ k) (y ∷ l) (inr h) = below-≡ k l (difference-≡ x y (h .0)) ∙ nonneg-below k l (h .1)
 
--- ---- so below is a linear order
+-- ---- so on lists of one length below is a strict linear order
 
 pub below-irrefl : (k : List ℤ) → below k k ≡ false
 below-irrefl k = nonneg-below k k (nonneg-zeros (k ⊖ k) (λ i. simp entries (≡-difference {x = nth k i} refl)))
@@ -208,11 +199,13 @@ below-negtrans a b c e f p q =
     through i = simp entries (by-ring (nth a i ∷ nth b i ∷ nth c i ∷ []) (search reads) (search reads) tt)
 
 pub below-antisymm : (k l : List ℤ) → length k ≡ length l → below k l ≡ false → below l k ≡ false → k ≡ l
-below-antisymm k l e p q =
-    same e (λ i. difference-≡ (nth k i) (nth l i) (simp entries at (nonneg-anti (k ⊖ l) (below-false k l e p) (nonneg-ext (l ⊖ k) (negsuc 0 ⊙ (k ⊖ l)) turned (below-false l k (sym e) q)) i)))
+below-antisymm k l e p q = same e (λ i. difference-≡ (nth k i) (nth l i) (simp entries at (nonneg-anti (k ⊖ l) (below-false k l e p) opposite i)))
   where
     turned : (i : ℕ) → nth (l ⊖ k) i ≡ nth (negsuc 0 ⊙ (k ⊖ l)) i
     turned i = simp entries (by-ring (nth k i ∷ nth l i ∷ []) (search reads) (search reads) tt)
+
+    opposite : Nonneg (negsuc 0 ⊙ (k ⊖ l))
+    opposite = nonneg-ext (l ⊖ k) (negsuc 0 ⊙ (k ⊖ l)) turned (below-false l k (sym e) q)
 
 -- a last entry that both lists share does not count
 pub below-last : (k l : List ℤ) (j : ℤ) → length k ≡ length l → below (k ++ (j ∷ [])) (l ++ (j ∷ [])) ≡ below k l
