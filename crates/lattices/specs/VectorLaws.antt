@@ -2,11 +2,12 @@
 -- every vector (`_≈_`): then sums need no word on lengths, and every vector equation is one of integers.
 use mathlib.Core.Path.{_≡_, refl, sym, ap, ap₂, _∙_, subst}
 use mathlib.Core.Logic.{⊎-elim}
-use mathlib.Core.List.{List, [], _∷_}
+use mathlib.Core.List.{List, [], _∷_, _++_, reverse, reverse-cons}
 use Prim.Native.Nat.{ℕ, zero, suc}
 use lib.IntN.{ℤ, pos, _+ℤ_, _*ℤ_, zero-*ℤ, *ℤ-zero, *ℤ-comm, +ℤ-comm, +ℤ-idl, +ℤ-idr}
 use lib.Signed.{_≤ℤ_, _<ℤ_, ≤ℤ-refl, <ℤ-irrefl}
-use lib.ListN.{length}
+use native.Mathlib.Omega.{arith}
+use lib.ListN.{length, length-reverse}
 use Rattle.integers.specs.Ring.{*ℤ-pos-one}
 use Rattle.integers.specs.Identity.{by-ring, reads}
 use Rattle.integers.specs.Order.{≤ℤ-antisymm, ≤ℤ-of-≡, zero-or-not, square-pos}
@@ -84,6 +85,12 @@ pub ≈-⊕ : {u v x y : Vec} → u ≈ v → x ≈ y → (u ⊕ x) ≈ (v ⊕ y
 
 pub ≈-⊙ : (k : ℤ) {u v : Vec} → u ≈ v → (k ⊙ u) ≈ (k ⊙ v)
 ≈-⊙ k {u} {v} e = record { on = λ w. dot-⊙ k u w ∙ ap (λ s. k *ℤ s) (e .on w) ∙ sym (dot-⊙ k v w) }
+
+pub ⊕-comm : (u v : Vec) → u ⊕ v ≈ v ⊕ u
+⊕-comm u v = record { on = λ w. dot-⊕ u v w ∙ +ℤ-comm (dot u w) (dot v w) ∙ sym (dot-⊕ v u w) }
+
+pub ⊕-assoc : (u v x : Vec) → u ⊕ (v ⊕ x) ≈ u ⊕ v ⊕ x
+⊕-assoc u v x = record { on = λ w. simp dot-⊕ (by-ring (dot u w ∷ dot v w ∷ dot x w ∷ []) (search reads) (search reads) tt) }
 
 pub ≈-dot : {u v x y : Vec} → u ≈ v → x ≈ y → dot u x ≡ dot v y
 ≈-dot {u} {v} {x} {y} e f = e .on x ∙ dot-comm v x ∙ f .on v ∙ dot-comm y v
@@ -168,3 +175,20 @@ comb-cons x xs b bs = ≈-refl
 
 pub comb-≈ : {x y : List ℤ} (bs : List Vec) → x ≈ y → comb x bs ≈ comb y bs
 comb-≈ {x} {y} bs e = record { on = λ w. comb-dot x bs w ∙ e .on (against bs w) ∙ sym (comb-dot y bs w) }
+
+-- ---- combinations from the last vector on, and in reverse
+pub comb-last : (x : List ℤ) (bs : List Vec) (j : ℤ) (b : Vec) → length x ≡ length bs → comb (x ++ (j ∷ [])) (bs ++ (b ∷ [])) ≈ comb x bs ⊕ j ⊙ b
+unfolding comb
+comb-last [] [] j b e = ⊕-comm (j ⊙ b) []
+comb-last [] (c ∷ bs) j b e = absurd (omega arith)
+comb-last (x ∷ xs) [] j b e = absurd (omega arith)
+comb-last (x ∷ xs) (c ∷ bs) j b e = ≈-trans (≈-⊕ ≈-refl (comb-last xs bs j b (omega arith))) (⊕-assoc (x ⊙ c) (comb xs bs) (j ⊙ b))
+
+pub comb-reverse : (x : List ℤ) (bs : List Vec) → length x ≡ length bs → comb (reverse x) (reverse bs) ≈ comb x bs
+comb-reverse [] [] e = ≈-refl
+comb-reverse [] (c ∷ bs) e = absurd (omega arith)
+comb-reverse (x ∷ xs) [] e = absurd (omega arith)
+comb-reverse (x ∷ xs) (c ∷ bs) e =
+    rw (reverse-cons x xs, reverse-cons c bs)
+    (≈-trans (comb-last (reverse xs) (reverse bs) x c (length-reverse xs ∙ omega arith ∙ sym (length-reverse bs)))
+    (≈-trans (≈-⊕ (comb-reverse xs bs (omega arith)) ≈-refl) (≈-trans (⊕-comm (comb xs bs) (x ⊙ c)) (≈-sym (comb-cons x xs c bs)))))
