@@ -142,13 +142,13 @@ nonneg-anti (x ∷ u) (inr h) (inr k) (suc i) = nonneg-anti u (h .1) (k .1) i
 abbrev first : Bool → Bool → Bool → Bool
 first s t b = elim s [ true ↦ true | false ↦ elim t [ true ↦ false | false ↦ b ] ]
 
-below-< : {x y : ℤ} (k l : List ℤ) → x <ℤ y → below (x ∷ k) (y ∷ l) ≡ true
+pub below-< : {x y : ℤ} (k l : List ℤ) → x <ℤ y → below (x ∷ k) (y ∷ l) ≡ true
 below-< {x} {y} k l h = ap (λ s. first s (ltZ y x) (below k l)) (<ℤ-ltZ h)
 
-below-> : {x y : ℤ} (k l : List ℤ) → y <ℤ x → below (x ∷ k) (y ∷ l) ≡ false
+pub below-> : {x y : ℤ} (k l : List ℤ) → y <ℤ x → below (x ∷ k) (y ∷ l) ≡ false
 below-> k l h = ap₂ (λ s t. first s t (below k l)) (≤ℤ-ltZ (≤ℤ-of-<ℤ h)) (<ℤ-ltZ h)
 
-below-≡ : {x y : ℤ} (k l : List ℤ) → x ≡ y → below (x ∷ k) (y ∷ l) ≡ below k l
+pub below-≡ : {x y : ℤ} (k l : List ℤ) → x ≡ y → below (x ∷ k) (y ∷ l) ≡ below k l
 below-≡ k l e = ap₂ (λ s t. first s t (below k l)) (≤ℤ-ltZ (≤ℤ-of-≡ (sym e))) (≤ℤ-ltZ (≤ℤ-of-≡ e))
 
 true-false {ℓ} : {X : Type ℓ} {b : Bool} → b ≡ true → b ≡ false → X

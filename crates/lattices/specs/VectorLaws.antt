@@ -4,7 +4,7 @@ use mathlib.Core.Path.{_≡_, refl, sym, ap, ap₂, _∙_, subst}
 use mathlib.Core.Logic.{⊎-elim}
 use mathlib.Core.List.{List, [], _∷_, _++_, reverse, reverse-cons}
 use Prim.Native.Nat.{ℕ, zero, suc}
-use lib.IntN.{ℤ, pos, _+ℤ_, _*ℤ_, zero-*ℤ, *ℤ-zero, *ℤ-comm, +ℤ-comm, +ℤ-idl, +ℤ-idr}
+use lib.IntN.{ℤ, pos, negsuc, _+ℤ_, _*ℤ_, zero-*ℤ, *ℤ-zero, *ℤ-comm, +ℤ-comm, +ℤ-idl, +ℤ-idr}
 use lib.Signed.{_≤ℤ_, _<ℤ_, ≤ℤ-refl, <ℤ-irrefl}
 use native.Mathlib.Omega.{arith}
 use lib.ListN.{length, length-reverse}
@@ -13,7 +13,7 @@ use Rattle.integers.specs.Identity.{by-ring, reads}
 use Rattle.integers.specs.Order.{≤ℤ-antisymm, ≤ℤ-of-≡, zero-or-not, square-pos}
 use Rattle.integers.specs.Certificate.{nn-sq, _⊞_, le, by-nn}
 use Rattle.integers.specs.Lists.{same}
-use Rattle.lattices.specs.Vector.{Vec, N, Zero, nth, dot, _⊕_, _⊙_, comb}
+use Rattle.lattices.specs.Vector.{Vec, N, Zero, nth, dot, _⊕_, _⊙_, _⊖_, comb}
 
 -- ---- the inner product is symmetric and linear in each vector
 pub dot-nil : (u : Vec) → dot u [] ≡ pos 0
@@ -135,8 +135,8 @@ square-zero : (x : ℤ) → x *ℤ x ≡ pos 0 → x ≡ pos 0
 square-zero x e = ⊎-elim (λ z. z) (λ f. absurd (<ℤ-irrefl (subst (λ y. pos 0 <ℤ y) e (square-pos f)))) (zero-or-not x)
 
 -- a vector is zero exactly when its squared length is, and then it is ≈ []
-pub Zero-≈ : {v : Vec} → Zero v → v ≈ []
-Zero-≈ {v} e = record { on = λ w. zero-dot v e w ∙ sym (nil-dot w) }
+pub Zero-≈ : (v : Vec) → Zero v → v ≈ []
+Zero-≈ v e = record { on = λ w. zero-dot v e w ∙ sym (nil-dot w) }
 
 pub ≈-Zero : {v : Vec} → v ≈ [] → Zero v
 ≈-Zero e i = ≈-nth e i
@@ -175,6 +175,18 @@ comb-cons x xs b bs = ≈-refl
 
 pub comb-≈ : {x y : List ℤ} (bs : List Vec) → x ≈ y → comb x bs ≈ comb y bs
 comb-≈ {x} {y} bs e = record { on = λ w. comb-dot x bs w ∙ e .on (against bs w) ∙ sym (comb-dot y bs w) }
+
+pub comb-none : (x : List ℤ) → comb x [] ≈ []
+unfolding comb
+comb-none [] = ≈-refl
+comb-none (x ∷ xs) = ≈-refl
+
+pub comb-zero : (x : List ℤ) → Zero x → (bs : List Vec) → comb x bs ≈ []
+unfolding comb
+comb-zero x e bs = comb-≈ {x = x} bs (Zero-≈ x e)
+
+pub ⊖-zero : (t : Vec) {v : Vec} → v ≈ [] → t ⊖ v ≈ t
+⊖-zero t {v} e = record { on = λ w. dot-⊕ t (negsuc 0 ⊙ v) w ∙ ap (λ s. dot t w +ℤ s) (dot-⊙ (negsuc 0) v w ∙ ap (λ s. negsuc 0 *ℤ s) (e .on w ∙ nil-dot w)) ∙ +ℤ-idr (dot t w) }
 
 -- ---- combinations from the last vector on, and in reverse
 pub comb-last : (x : List ℤ) (bs : List Vec) (j : ℤ) (b : Vec) → length x ≡ length bs → comb (x ++ (j ∷ [])) (bs ++ (b ∷ [])) ≈ comb x bs ⊕ j ⊙ b

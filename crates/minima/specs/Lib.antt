@@ -1,7 +1,9 @@
 -- Theorems about reduced lists: least values, interpolation and rounding, successive minima, the nearest vector.
 pub mod Values
+pub mod ValueLaws
 pub mod Rounding
 pub mod Reduced
+pub mod ReducedLaws
 pub mod Table
 pub mod Layers
 pub mod NearestLaws
