@@ -87,11 +87,11 @@ moves-total (subtract x rows r rest e k) =
     (+ℤ-mono (≤ℤ-refl (total rows)) (+ℤ-mono k (≤ℤ-refl (total rest))))
 
 -- ---- ordering by length: every row is at least as long as those before it
-abbrev AtLeast : ℤ → List Row → Type 0
+abbrev pub AtLeast : ℤ → List Row → Type 0
 AtLeast s [] = Unit {0}
 AtLeast s (r ∷ rows) = (s ≤ℤ N (r .vector)) × AtLeast s rows
 
-abbrev Sorted : List Row → Type 0
+abbrev pub Sorted : List Row → Type 0
 Sorted [] = Unit {0}
 Sorted (r ∷ rows) = AtLeast (N (r .vector)) rows × Sorted rows
 

@@ -80,7 +80,7 @@ moves-length (exchange p) = perm-length p
 moves-length (subtract x rows r rest e h) =
     length-append rows (r ∷ rest) ∙ ap (λ n. n + suc (length rest)) (sym (length-credited x (r .v) rows)) ∙ sym (length-append (credited x (r .v) rows) (less x rows r ∷ rest))
 
-length-before : (r : Row) (rows : List Row) → length (before r rows) ≡ length rows
+pub length-before : (r : Row) (rows : List Row) → length (before r rows) ≡ length rows
 length-before r [] = refl
 length-before r (s ∷ rows) = ap suc (length-before s rows)
 
@@ -91,7 +91,7 @@ round-moves k reduce m (r ∷ rows) e = after
     (moves-append (m (before r rows) (length-before r rows ∙ omega arith)) (lastOf r rows ∷ [])))
     (pass-moves (reduce (before r rows)) (lastOf r rows))
 
-ordered-moves : (k : ℕ) (reduce : List Row → Counted) → Moving k reduce → (rows : List Row) → length rows ≡ suc k → Moves rows (joined (round reduce (order rows)))
+pub ordered-moves : (k : ℕ) (reduce : List Row → Counted) → Moving k reduce → (rows : List Row) → length rows ≡ suc k → Moves rows (joined (round reduce (order rows)))
 ordered-moves k reduce m rows e = after (exchange (order-perm rows)) (round-moves k reduce m (order rows) (sym (perm-length (order-perm rows)) ∙ e))
 
 repeat-moves : (k : ℕ) (reduce : List Row → Counted) → Moving k reduce → (fuel : ℕ) (rows : List Row) → length rows ≡ suc k → Moves rows (repeat reduce fuel rows .rows)
