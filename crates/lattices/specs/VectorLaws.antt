@@ -176,6 +176,10 @@ comb-cons x xs b bs = ≈-refl
 pub comb-≈ : {x y : List ℤ} (bs : List Vec) → x ≈ y → comb x bs ≈ comb y bs
 comb-≈ {x} {y} bs e = record { on = λ w. comb-dot x bs w ∙ e .on (against bs w) ∙ sym (comb-dot y bs w) }
 
+pub comb-nil : (bs : List Vec) → comb [] bs ≈ []
+unfolding comb
+comb-nil bs = ≈-refl
+
 pub comb-none : (x : List ℤ) → comb x [] ≈ []
 unfolding comb
 comb-none [] = ≈-refl

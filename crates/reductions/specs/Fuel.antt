@@ -14,14 +14,13 @@ use Rattle.integers.specs.Certificate.{NN, _⊞_, le, lt, by-lt}
 use Rattle.lattices.specs.Vector.{N}
 use Rattle.lattices.specs.Permutation.{perm-length}
 use Rattle.lattices.specs.Greedy.{Row, vectors, order, lastOf, before, less, credited, Counted, Pass, pass, round, shorter, joined, repeat, total, greedy}
-use Rattle.reductions.specs.Moves.{Moves, Moving, order-perm, before-last, length-before, vectors-credited, moves-length, ordered-moves, greedy-moves}
-use Rattle.reductions.specs.Lengths.{NoLonger, moves-under, under-last, total-append, total-credited, total-nonneg, perm-total, moves-total, order-sorted, sorted-last, Sorted}
-use Rattle.minima.specs.Reduced.{Under}
+use Rattle.reductions.specs.Moves.{Moves, Moving, order-perm, before-last, length-before, moves-length, ordered-moves, greedy-moves}
+use Rattle.reductions.specs.Lengths.{NoLonger, moves-no-longer, no-longer-credited, last-no-longer, total-append, total-credited, total-nonneg, perm-total, moves-total, order-sorted, sorted-last, Sorted}
 
 -- step 6 asks for a repetition only when the last row became shorter than it was
 shorter-than : (s : ℤ) (r : Row) (rows : List Row) → shorter r rows ≡ true → NoLonger s rows → N (r .vector) <ℤ s
 shorter-than s r [] e h = absurd (false≢true e)
-shorter-than s r (q ∷ rows) e h = <ℤ-≤ℤ-trans (ltZ-true e) (under-last s q rows h)
+shorter-than s r (q ∷ rows) e h = <ℤ-≤ℤ-trans (ltZ-true e) (last-no-longer s q rows h)
 
 -- where the list is in order, a repetition makes the sum of the squared lengths fall
 falls-sorted : (k : ℕ) (reduce : List Row → Counted) → Moving k reduce → (rows : List Row) → length rows ≡ suc k → Sorted rows
@@ -48,7 +47,7 @@ falls-sorted k reduce m (r ∷ rows) e s q =
 
     fell : N (p .last .vector) <ℤ N (l .vector)
     fell = shorter-than (N (l .vector)) (p .last) (p .first) q
-        (subst (λ vs. Under (N (l .vector)) vs) (sym (vectors-credited _ (l .v) (c .rows))) (moves-under (N (l .vector)) n (sorted-last r rows s)))
+        (no-longer-credited (N (l .vector)) _ (l .v) (c .rows) (moves-no-longer (N (l .vector)) n (sorted-last r rows s)))
 
     old : total (r ∷ rows) ≡ total b +ℤ (N (l .vector) +ℤ pos 0)
     old = ap total (sym (before-last r rows)) ∙ total-append b (l ∷ [])

@@ -11,45 +11,26 @@ use Rattle.lattices.specs.Vector.{Vec, N}
 use Rattle.lattices.specs.VectorLaws.{N-nonneg}
 use Rattle.lattices.specs.Permutation.{Perm, same, skip, swap, then}
 use Rattle.lattices.specs.Greedy.{Row, vectors, insert, order, lastOf, before, less, credited, total}
-use Rattle.minima.specs.Reduced.{Under}
+use Rattle.reductions.specs.Every.{Every, moves-every}
 use Rattle.reductions.specs.Moves.{Moves, none, after, exchange, subtract, vectors-credited}
 
 -- ---- no row longer than s
 abbrev pub NoLonger : ℤ → List Row → Type 0
-NoLonger s rows = Under s (vectors rows)
-
-pub under-append : (s : ℤ) (a b : List Row) → NoLonger s a → NoLonger s b → NoLonger s (a ++ b)
-under-append s [] b h k = k
-under-append s (r ∷ a) b h k = (h .0, under-append s a b (h .1) k)
-
-pub under-left : (s : ℤ) (a b : List Row) → NoLonger s (a ++ b) → NoLonger s a
-under-left s [] b h = tt
-under-left s (r ∷ a) b h = (h .0, under-left s a b (h .1))
-
-pub under-right : (s : ℤ) (a b : List Row) → NoLonger s (a ++ b) → NoLonger s b
-under-right s [] b h = h
-under-right s (r ∷ a) b h = under-right s a b (h .1)
-
-perm-under : (s : ℤ) {a b : List Row} → Perm a b → NoLonger s a → NoLonger s b
-perm-under s (same l) h = h
-perm-under s (skip x p) h = (h .0, perm-under s p (h .1))
-perm-under s (swap x y l) h = (h .1 .0, (h .0, h .1 .1))
-perm-under s (then p q) h = perm-under s q (perm-under s p h)
+NoLonger s = Every (λ r. N (r .vector) ≤ℤ s)
 
 -- no vector on the way is longer than the longest input
-pub moves-under : (s : ℤ) {a b : List Row} → Moves a b → NoLonger s a → NoLonger s b
-moves-under s (none a) h = h
-moves-under s (after p q) h = moves-under s q (moves-under s p h)
-moves-under s (exchange p) h = perm-under s p h
-moves-under s (subtract x rows r rest e k) h =
-    let t = under-right s rows (r ∷ rest) h in
-    under-append s (credited x (r .v) rows) (less x rows r ∷ rest)
-    (subst (λ l. Under s l) (sym (vectors-credited x (r .v) rows)) (under-left s rows (r ∷ rest) h))
-    (≤ℤ-trans k (t .0), t .1)
+pub moves-no-longer : (s : ℤ) {a b : List Row} → Moves a b → NoLonger s a → NoLonger s b
+moves-no-longer s = moves-every (λ r. N (r .vector) ≤ℤ s) (λ r q x h k. h) (λ x rows r k h p. ≤ℤ-trans k p)
 
-pub under-last : (s : ℤ) (r : Row) (rows : List Row) → NoLonger s (r ∷ rows) → N (lastOf r rows .vector) ≤ℤ s
-under-last s r [] h = h .0
-under-last s r (q ∷ rows) h = under-last s q rows (h .1)
+pub no-longer-credited : (s : ℤ) (x v : List ℤ) (rows : List Row) → NoLonger s rows → NoLonger s (credited x v rows)
+unfolding credited
+no-longer-credited s [] v rows h = h
+no-longer-credited s (x ∷ xs) v [] h = h
+no-longer-credited s (x ∷ xs) v (r ∷ rows) h = (h .0, no-longer-credited s xs v rows (h .1))
+
+pub last-no-longer : (s : ℤ) (r : Row) (rows : List Row) → NoLonger s (r ∷ rows) → N (lastOf r rows .vector) ≤ℤ s
+last-no-longer s r [] h = h .0
+last-no-longer s r (q ∷ rows) h = last-no-longer s q rows (h .1)
 
 -- ---- the sum of the squared lengths
 sum : List Vec → ℤ
@@ -88,8 +69,7 @@ moves-total (subtract x rows r rest e k) =
 
 -- ---- ordering by length: every row is at least as long as those before it
 abbrev pub AtLeast : ℤ → List Row → Type 0
-AtLeast s [] = Unit {0}
-AtLeast s (r ∷ rows) = (s ≤ℤ N (r .vector)) × AtLeast s rows
+AtLeast s = Every (λ r. s ≤ℤ N (r .vector))
 
 abbrev pub Sorted : List Row → Type 0
 Sorted [] = Unit {0}

@@ -1,4 +1,6 @@
 -- Theorems about the greedy reduction: its moves, its fuel, its tables, and the part of demand 3 about reductions and nearest vectors.
 pub mod Moves
+pub mod Every
 pub mod Lengths
 pub mod Fuel
+pub mod Tables
