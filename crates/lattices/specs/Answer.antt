@@ -22,9 +22,13 @@ table (suc h) w [] = padded w [] ∷ table h w []
 table (suc h) w (r ∷ rows) = padded w r ∷ table h w rows
 
 -- row i of V: what each vector of the reduced list counts in input i
-abbrev pub rowsOfV : ℕ → List Row → List (List ℤ)
-rowsOfV zero rows = []
-rowsOfV (suc i) rows = rowsOfV i rows ++ (map (λ r. nth (r .v) i) rows ∷ [])
+abbrev pub rowOfV : List Row → ℕ → List ℤ
+rowOfV rows i = map (λ r. nth (r .v) i) rows
+
+-- n rows of V from row i on
+abbrev pub rowsOfV : List Row → ℕ → ℕ → List (List ℤ)
+rowsOfV rows i zero = []
+rowsOfV rows i (suc n) = rowOfV rows i ∷ rowsOfV rows (suc i) n
 
 -- the answer of Reduction
 pub record Reduction : Type 0 where
@@ -53,7 +57,7 @@ reductionGiven c = record {
   place = 0;
   basis = table mostVectors mostCoordinates (vectors (c .rows));
   u = table mostVectors mostVectors (map (λ r. r .u) (c .rows));
-  v = table mostVectors mostVectors (rowsOfV (length (c .rows)) (c .rows));
+  v = table mostVectors mostVectors (rowsOfV (c .rows) 0 (length (c .rows)));
   squares = padded mostVectors (map (λ r. N (r .vector)) (c .rows));
   passes = c .passes;
 }

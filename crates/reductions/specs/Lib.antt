@@ -4,3 +4,4 @@ pub mod Every
 pub mod Lengths
 pub mod Fuel
 pub mod Tables
+pub mod Start
