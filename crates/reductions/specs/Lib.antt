@@ -5,3 +5,4 @@ pub mod Lengths
 pub mod Fuel
 pub mod Tables
 pub mod Start
+pub mod Exactness
