@@ -1,0 +1,124 @@
+-- The linear maps on forms: the exterior product with a vector, the contraction by a vector, the inner product with a form.
+-- Every law is an equation of integers at one index, by induction on the index; one statement serves sums, multiples and congruence.
+use mathlib.Core.Path.{_≡_, refl, sym, ap, ap₂, _∙_}
+use mathlib.Core.Bool.{Bool, true, false}
+use mathlib.Core.List.{List, [], _∷_}
+use Prim.Native.Nat.{ℕ, zero, suc}
+use lib.IntN.{ℤ, pos, negsuc, negℤ, _+ℤ_, _-ℤ_, _*ℤ_, *ℤ-comm, zero-*ℤ, *ℤ-zero}
+use lib.ListN.{length}
+use Rattle.integers.specs.Identity.{by-ring, reads}
+use Rattle.lattices.specs.Vector.{Vec, _⊕_, _⊙_}
+use Rattle.lattices.specs.Volume.{Index, Form, head, rest, wedge, inner}
+
+-- the half of a form whose choices begin with b
+abbrev pub half : Bool → Form → Form
+half b ω s = ω (b ∷ s)
+
+-- contraction: the adjoint of the exterior product, by expansion at the first coordinate
+abbrev pub contract : Vec → Form → Form
+contract a ω [] = pos 0
+contract a ω (false ∷ s) = contract (rest a) (half false ω) s +ℤ head a *ℤ ω (true ∷ s)
+contract a ω (true ∷ s) = negℤ (contract (rest a) (half true ω) s)
+
+-- inner product of the first m coordinates: the one that forms over m coordinates see
+abbrev pub dotOn : ℕ → Vec → Vec → ℤ
+dotOn zero u v = pos 0
+dotOn (suc m) u v = head u *ℤ head v +ℤ dotOn m (rest u) (rest v)
+
+-- h is the combination j·f + k·g
+abbrev pub Lin : ℤ → Form → ℤ → Form → Form → Type 0
+Lin j f k g h = (s : Index) → h s ≡ j *ℤ f s +ℤ k *ℤ g s
+
+-- ---- linear in the form
+
+pub wedge-lin : (a : Vec) (j : ℤ) (f : Form) (k : ℤ) (g h : Form) → Lin j f k g h → Lin j (wedge a f) k (wedge a g) (wedge a h)
+wedge-lin a j f k g h p [] = by-ring (j ∷ k ∷ []) (search reads) (search reads) tt
+wedge-lin a j f k g h p (false ∷ s) = wedge-lin (rest a) j (half false f) k (half false g) (half false h) (λ t. p (false ∷ t)) s
+wedge-lin a j f k g h p (true ∷ s) =
+    ap₂ (λ x y. head a *ℤ x -ℤ y) (p (false ∷ s)) (wedge-lin (rest a) j (half true f) k (half true g) (half true h) (λ t. p (true ∷ t)) s)
+    ∙ regroup (head a) (f (false ∷ s)) (g (false ∷ s)) (wedge (rest a) (half true f) s) (wedge (rest a) (half true g) s)
+  where
+    regroup : (c x y u v : ℤ) → c *ℤ (j *ℤ x +ℤ k *ℤ y) -ℤ (j *ℤ u +ℤ k *ℤ v) ≡ j *ℤ (c *ℤ x -ℤ u) +ℤ k *ℤ (c *ℤ y -ℤ v)
+    regroup c x y u v = by-ring (j ∷ k ∷ c ∷ x ∷ y ∷ u ∷ v ∷ []) (search reads depth 20) (search reads depth 20) tt
+
+pub contract-lin : (a : Vec) (j : ℤ) (f : Form) (k : ℤ) (g h : Form) → Lin j f k g h → Lin j (contract a f) k (contract a g) (contract a h)
+contract-lin a j f k g h p [] = by-ring (j ∷ k ∷ []) (search reads) (search reads) tt
+contract-lin a j f k g h p (false ∷ s) =
+    ap₂ (λ x y. x +ℤ head a *ℤ y) (contract-lin (rest a) j (half false f) k (half false g) (half false h) (λ t. p (false ∷ t)) s) (p (true ∷ s))
+    ∙ regroup (head a) (f (true ∷ s)) (g (true ∷ s)) (contract (rest a) (half false f) s) (contract (rest a) (half false g) s)
+  where
+    regroup : (c x y u v : ℤ) → (j *ℤ u +ℤ k *ℤ v) +ℤ c *ℤ (j *ℤ x +ℤ k *ℤ y) ≡ j *ℤ (u +ℤ c *ℤ x) +ℤ k *ℤ (v +ℤ c *ℤ y)
+    regroup c x y u v = by-ring (j ∷ k ∷ c ∷ x ∷ y ∷ u ∷ v ∷ []) (search reads depth 20) (search reads depth 20) tt
+contract-lin a j f k g h p (true ∷ s) =
+    ap negℤ (contract-lin (rest a) j (half true f) k (half true g) (half true h) (λ t. p (true ∷ t)) s)
+    ∙ regroup (contract (rest a) (half true f) s) (contract (rest a) (half true g) s)
+  where
+    regroup : (u v : ℤ) → negℤ (j *ℤ u +ℤ k *ℤ v) ≡ j *ℤ negℤ u +ℤ k *ℤ negℤ v
+    regroup u v = by-ring (j ∷ k ∷ u ∷ v ∷ []) (search reads depth 20) (search reads depth 20) tt
+
+-- the inner product over m coordinates asks only for the indices of length m
+pub inner-lin : (m : ℕ) (e : Form) (j : ℤ) (f : Form) (k : ℤ) (g h : Form) → ((s : Index) → length s ≡ m → h s ≡ j *ℤ f s +ℤ k *ℤ g s) → inner m e h ≡ j *ℤ inner m e f +ℤ k *ℤ inner m e g
+inner-lin zero e j f k g h p = ap (λ x. e [] *ℤ x) (p [] refl) ∙ regroup (e []) (f []) (g [])
+  where
+    regroup : (c x y : ℤ) → c *ℤ (j *ℤ x +ℤ k *ℤ y) ≡ j *ℤ (c *ℤ x) +ℤ k *ℤ (c *ℤ y)
+    regroup c x y = by-ring (j ∷ k ∷ c ∷ x ∷ y ∷ []) (search reads depth 20) (search reads depth 20) tt
+inner-lin (suc m) e j f k g h p =
+    ap₂ _+ℤ_ (inner-lin m (half false e) j (half false f) k (half false g) (half false h) (λ s q. p (false ∷ s) (ap suc q)))
+    (inner-lin m (half true e) j (half true f) k (half true g) (half true h) (λ s q. p (true ∷ s) (ap suc q)))
+    ∙ regroup (inner m (half false e) (half false f)) (inner m (half false e) (half false g)) (inner m (half true e) (half true f)) (inner m (half true e) (half true g))
+  where
+    regroup : (u v x y : ℤ) → (j *ℤ u +ℤ k *ℤ v) +ℤ (j *ℤ x +ℤ k *ℤ y) ≡ j *ℤ (u +ℤ x) +ℤ k *ℤ (v +ℤ y)
+    regroup u v x y = by-ring (j ∷ k ∷ u ∷ v ∷ x ∷ y ∷ []) (search reads depth 20) (search reads depth 20) tt
+
+pub inner-comm : (m : ℕ) (f g : Form) → inner m f g ≡ inner m g f
+inner-comm zero f g = *ℤ-comm (f []) (g [])
+inner-comm (suc m) f g = ap₂ _+ℤ_ (inner-comm m (half false f) (half false g)) (inner-comm m (half true f) (half true g))
+
+-- ---- linear in the vector: one more term of a combination
+
+⊕-nil : (u : Vec) → u ⊕ [] ≡ u
+unfolding _⊕_
+⊕-nil [] = refl
+⊕-nil (x ∷ u) = refl
+
+head-step : (k : ℤ) (b v : Vec) → head (k ⊙ b ⊕ v) ≡ k *ℤ head b +ℤ head v
+unfolding _⊕_ _⊙_
+head-step k [] v = by-ring (k ∷ head v ∷ []) (search reads) (search reads) tt
+head-step k (x ∷ b) [] = by-ring (k ∷ x ∷ []) (search reads) (search reads) tt
+head-step k (x ∷ b) (y ∷ v) = refl
+
+rest-step : (k : ℤ) (b v : Vec) → rest (k ⊙ b ⊕ v) ≡ k ⊙ rest b ⊕ rest v
+unfolding _⊕_ _⊙_
+rest-step k [] v = refl
+rest-step k (x ∷ b) [] = sym (⊕-nil (k ⊙ b))
+rest-step k (x ∷ b) (y ∷ v) = refl
+
+pub wedge-step : (k : ℤ) (b v : Vec) (ω : Form) → Lin k (wedge b ω) (pos 1) (wedge v ω) (wedge (k ⊙ b ⊕ v) ω)
+wedge-step k b v ω [] = by-ring (k ∷ []) (search reads) (search reads) tt
+wedge-step k b v ω (false ∷ s) = ap (λ u. wedge u (half false ω) s) (rest-step k b v) ∙ wedge-step k (rest b) (rest v) (half false ω) s
+wedge-step k b v ω (true ∷ s) =
+    ap₂ (λ x u. x *ℤ ω (false ∷ s) -ℤ wedge u (half true ω) s) (head-step k b v) (rest-step k b v)
+    ∙ ap (λ z. (k *ℤ head b +ℤ head v) *ℤ ω (false ∷ s) -ℤ z) (wedge-step k (rest b) (rest v) (half true ω) s)
+    ∙ regroup (head b) (head v) (ω (false ∷ s)) (wedge (rest b) (half true ω) s) (wedge (rest v) (half true ω) s)
+  where
+    regroup : (x y c u v : ℤ) → (k *ℤ x +ℤ y) *ℤ c -ℤ (k *ℤ u +ℤ pos 1 *ℤ v) ≡ k *ℤ (x *ℤ c -ℤ u) +ℤ pos 1 *ℤ (y *ℤ c -ℤ v)
+    regroup x y c u v = by-ring (k ∷ x ∷ y ∷ c ∷ u ∷ v ∷ []) (search reads depth 20) (search reads depth 20) tt
+
+pub wedge-nil : (ω : Form) (s : Index) → wedge [] ω s ≡ pos 0
+wedge-nil ω [] = refl
+wedge-nil ω (false ∷ s) = wedge-nil (half false ω) s
+wedge-nil ω (true ∷ s) = ap₂ _-ℤ_ (zero-*ℤ (ω (false ∷ s))) (wedge-nil (half true ω) s)
+
+pub dotOn-step : (m : ℕ) (w : Vec) (k : ℤ) (b v : Vec) → dotOn m w (k ⊙ b ⊕ v) ≡ k *ℤ dotOn m w b +ℤ dotOn m w v
+dotOn-step zero w k b v = by-ring (k ∷ []) (search reads) (search reads) tt
+dotOn-step (suc m) w k b v =
+    ap₂ (λ x u. head w *ℤ x +ℤ dotOn m (rest w) u) (head-step k b v) (rest-step k b v)
+    ∙ ap (λ z. head w *ℤ (k *ℤ head b +ℤ head v) +ℤ z) (dotOn-step m (rest w) k (rest b) (rest v))
+    ∙ regroup (head w) (head b) (head v) (dotOn m (rest w) (rest b)) (dotOn m (rest w) (rest v))
+  where
+    regroup : (c x y u v : ℤ) → c *ℤ (k *ℤ x +ℤ y) +ℤ (k *ℤ u +ℤ v) ≡ k *ℤ (c *ℤ x +ℤ u) +ℤ (c *ℤ y +ℤ v)
+    regroup c x y u v = by-ring (k ∷ c ∷ x ∷ y ∷ u ∷ v ∷ []) (search reads depth 20) (search reads depth 20) tt
+
+pub dotOn-nil : (m : ℕ) (w : Vec) → dotOn m w [] ≡ pos 0
+dotOn-nil zero w = refl
+dotOn-nil (suc m) w = ap₂ _+ℤ_ (*ℤ-zero (head w)) (dotOn-nil m (rest w))
