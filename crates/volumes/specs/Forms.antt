@@ -25,54 +25,71 @@ abbrev pub dotOn : ℕ → Vec → Vec → ℤ
 dotOn zero u v = pos 0
 dotOn (suc m) u v = head u *ℤ head v +ℤ dotOn m (rest u) (rest v)
 
--- h is the combination j·f + k·g
-abbrev pub Lin : ℤ → Form → ℤ → Form → Form → Type 0
-Lin j f k g h = (s : Index) → h s ≡ j *ℤ f s +ℤ k *ℤ g s
+-- h is the combination j·f + k·g. A record, so that the forms are inferred
+pub record Lin (j : ℤ) (f : Form) (k : ℤ) (g h : Form) : Type 0 where
+  pub lin : (s : Index) → h s ≡ j *ℤ f s +ℤ k *ℤ g s
+
+lin-half : (b : Bool) {j k : ℤ} {f g h : Form} → Lin j f k g h → Lin j (half b f) k (half b g) (half b h)
+lin-half b p = record { lin = λ s. p .lin (b ∷ s) }
 
 -- ---- linear in the form
 
-pub wedge-lin : (a : Vec) (j : ℤ) (f : Form) (k : ℤ) (g h : Form) → Lin j f k g h → Lin j (wedge a f) k (wedge a g) (wedge a h)
-wedge-lin a j f k g h p [] = by-ring (j ∷ k ∷ []) (search reads) (search reads) tt
-wedge-lin a j f k g h p (false ∷ s) = wedge-lin (rest a) j (half false f) k (half false g) (half false h) (λ t. p (false ∷ t)) s
-wedge-lin a j f k g h p (true ∷ s) =
-    ap₂ (λ x y. head a *ℤ x -ℤ y) (p (false ∷ s)) (wedge-lin (rest a) j (half true f) k (half true g) (half true h) (λ t. p (true ∷ t)) s)
+wedge-lin′ : (a : Vec) {j k : ℤ} {f g h : Form} → Lin j f k g h → (s : Index) → wedge a h s ≡ j *ℤ wedge a f s +ℤ k *ℤ wedge a g s
+wedge-lin′ a {j} {k} p [] = by-ring (j ∷ k ∷ []) (search reads) (search reads) tt
+wedge-lin′ a p (false ∷ s) = wedge-lin′ (rest a) (lin-half false p) s
+wedge-lin′ a {j} {k} {f} {g} p (true ∷ s) =
+    ap₂ (λ x y. head a *ℤ x -ℤ y) (p .lin (false ∷ s)) (wedge-lin′ (rest a) (lin-half true p) s)
     ∙ regroup (head a) (f (false ∷ s)) (g (false ∷ s)) (wedge (rest a) (half true f) s) (wedge (rest a) (half true g) s)
   where
     regroup : (c x y u v : ℤ) → c *ℤ (j *ℤ x +ℤ k *ℤ y) -ℤ (j *ℤ u +ℤ k *ℤ v) ≡ j *ℤ (c *ℤ x -ℤ u) +ℤ k *ℤ (c *ℤ y -ℤ v)
     regroup c x y u v = by-ring (j ∷ k ∷ c ∷ x ∷ y ∷ u ∷ v ∷ []) (search reads depth 20) (search reads depth 20) tt
 
-pub contract-lin : (a : Vec) (j : ℤ) (f : Form) (k : ℤ) (g h : Form) → Lin j f k g h → Lin j (contract a f) k (contract a g) (contract a h)
-contract-lin a j f k g h p [] = by-ring (j ∷ k ∷ []) (search reads) (search reads) tt
-contract-lin a j f k g h p (false ∷ s) =
-    ap₂ (λ x y. x +ℤ head a *ℤ y) (contract-lin (rest a) j (half false f) k (half false g) (half false h) (λ t. p (false ∷ t)) s) (p (true ∷ s))
+pub wedge-lin : (a : Vec) {j k : ℤ} {f g h : Form} → Lin j f k g h → Lin j (wedge a f) k (wedge a g) (wedge a h)
+wedge-lin a p = record { lin = wedge-lin′ a p }
+
+contract-lin′ : (a : Vec) {j k : ℤ} {f g h : Form} → Lin j f k g h → (s : Index) → contract a h s ≡ j *ℤ contract a f s +ℤ k *ℤ contract a g s
+contract-lin′ a {j} {k} p [] = by-ring (j ∷ k ∷ []) (search reads) (search reads) tt
+contract-lin′ a {j} {k} {f} {g} p (false ∷ s) =
+    ap₂ (λ x y. x +ℤ head a *ℤ y) (contract-lin′ (rest a) (lin-half false p) s) (p .lin (true ∷ s))
     ∙ regroup (head a) (f (true ∷ s)) (g (true ∷ s)) (contract (rest a) (half false f) s) (contract (rest a) (half false g) s)
   where
     regroup : (c x y u v : ℤ) → (j *ℤ u +ℤ k *ℤ v) +ℤ c *ℤ (j *ℤ x +ℤ k *ℤ y) ≡ j *ℤ (u +ℤ c *ℤ x) +ℤ k *ℤ (v +ℤ c *ℤ y)
     regroup c x y u v = by-ring (j ∷ k ∷ c ∷ x ∷ y ∷ u ∷ v ∷ []) (search reads depth 20) (search reads depth 20) tt
-contract-lin a j f k g h p (true ∷ s) =
-    ap negℤ (contract-lin (rest a) j (half true f) k (half true g) (half true h) (λ t. p (true ∷ t)) s)
-    ∙ regroup (contract (rest a) (half true f) s) (contract (rest a) (half true g) s)
+contract-lin′ a {j} {k} {f} {g} p (true ∷ s) =
+    ap negℤ (contract-lin′ (rest a) (lin-half true p) s) ∙ regroup (contract (rest a) (half true f) s) (contract (rest a) (half true g) s)
   where
     regroup : (u v : ℤ) → negℤ (j *ℤ u +ℤ k *ℤ v) ≡ j *ℤ negℤ u +ℤ k *ℤ negℤ v
     regroup u v = by-ring (j ∷ k ∷ u ∷ v ∷ []) (search reads depth 20) (search reads depth 20) tt
 
--- the inner product over m coordinates asks only for the indices of length m
-pub inner-lin : (m : ℕ) (e : Form) (j : ℤ) (f : Form) (k : ℤ) (g h : Form) → ((s : Index) → length s ≡ m → h s ≡ j *ℤ f s +ℤ k *ℤ g s) → inner m e h ≡ j *ℤ inner m e f +ℤ k *ℤ inner m e g
-inner-lin zero e j f k g h p = ap (λ x. e [] *ℤ x) (p [] refl) ∙ regroup (e []) (f []) (g [])
+pub contract-lin : (a : Vec) {j k : ℤ} {f g h : Form} → Lin j f k g h → Lin j (contract a f) k (contract a g) (contract a h)
+contract-lin a p = record { lin = contract-lin′ a p }
+
+pub inner-lin : (m : ℕ) (e : Form) {j k : ℤ} {f g h : Form} → Lin j f k g h → inner m e h ≡ j *ℤ inner m e f +ℤ k *ℤ inner m e g
+inner-lin zero e {j} {k} {f} {g} p = ap (λ x. e [] *ℤ x) (p .lin []) ∙ regroup (e []) (f []) (g [])
   where
     regroup : (c x y : ℤ) → c *ℤ (j *ℤ x +ℤ k *ℤ y) ≡ j *ℤ (c *ℤ x) +ℤ k *ℤ (c *ℤ y)
     regroup c x y = by-ring (j ∷ k ∷ c ∷ x ∷ y ∷ []) (search reads depth 20) (search reads depth 20) tt
-inner-lin (suc m) e j f k g h p =
-    ap₂ _+ℤ_ (inner-lin m (half false e) j (half false f) k (half false g) (half false h) (λ s q. p (false ∷ s) (ap suc q)))
-    (inner-lin m (half true e) j (half true f) k (half true g) (half true h) (λ s q. p (true ∷ s) (ap suc q)))
+inner-lin (suc m) e {j} {k} {f} {g} p =
+    ap₂ _+ℤ_ (inner-lin m (half false e) (lin-half false p)) (inner-lin m (half true e) (lin-half true p))
     ∙ regroup (inner m (half false e) (half false f)) (inner m (half false e) (half false g)) (inner m (half true e) (half true f)) (inner m (half true e) (half true g))
   where
     regroup : (u v x y : ℤ) → (j *ℤ u +ℤ k *ℤ v) +ℤ (j *ℤ x +ℤ k *ℤ y) ≡ j *ℤ (u +ℤ x) +ℤ k *ℤ (v +ℤ y)
     regroup u v x y = by-ring (j ∷ k ∷ u ∷ v ∷ x ∷ y ∷ []) (search reads depth 20) (search reads depth 20) tt
 
+-- over m coordinates only the indices of length m count
+pub inner-on : (m : ℕ) (f g h : Form) → ((s : Index) → length s ≡ m → g s ≡ h s) → inner m f g ≡ inner m f h
+inner-on zero f g h p = ap (λ x. f [] *ℤ x) (p [] refl)
+inner-on (suc m) f g h p =
+    ap₂ _+ℤ_ (inner-on m (half false f) (half false g) (half false h) (λ s q. p (false ∷ s) (ap suc q)))
+    (inner-on m (half true f) (half true g) (half true h) (λ s q. p (true ∷ s) (ap suc q)))
+
 pub inner-comm : (m : ℕ) (f g : Form) → inner m f g ≡ inner m g f
 inner-comm zero f g = *ℤ-comm (f []) (g [])
 inner-comm (suc m) f g = ap₂ _+ℤ_ (inner-comm m (half false f) (half false g)) (inner-comm m (half true f) (half true g))
+
+pub inner-linˡ : (m : ℕ) (e : Form) {j k : ℤ} {f g h : Form} → Lin j f k g h → inner m h e ≡ j *ℤ inner m f e +ℤ k *ℤ inner m g e
+inner-linˡ m e {j} {k} {f} {g} {h} p =
+    inner-comm m h e ∙ inner-lin m e p ∙ ap₂ (λ x y. j *ℤ x +ℤ k *ℤ y) (inner-comm m e f) (inner-comm m e g)
 
 -- ---- linear in the vector: one more term of a combination
 
@@ -93,16 +110,19 @@ rest-step k [] v = refl
 rest-step k (x ∷ b) [] = sym (⊕-nil (k ⊙ b))
 rest-step k (x ∷ b) (y ∷ v) = refl
 
-pub wedge-step : (k : ℤ) (b v : Vec) (ω : Form) → Lin k (wedge b ω) (pos 1) (wedge v ω) (wedge (k ⊙ b ⊕ v) ω)
-wedge-step k b v ω [] = by-ring (k ∷ []) (search reads) (search reads) tt
-wedge-step k b v ω (false ∷ s) = ap (λ u. wedge u (half false ω) s) (rest-step k b v) ∙ wedge-step k (rest b) (rest v) (half false ω) s
-wedge-step k b v ω (true ∷ s) =
+wedge-step′ : (k : ℤ) (b v : Vec) (ω : Form) (s : Index) → wedge (k ⊙ b ⊕ v) ω s ≡ k *ℤ wedge b ω s +ℤ pos 1 *ℤ wedge v ω s
+wedge-step′ k b v ω [] = by-ring (k ∷ []) (search reads) (search reads) tt
+wedge-step′ k b v ω (false ∷ s) = ap (λ u. wedge u (half false ω) s) (rest-step k b v) ∙ wedge-step′ k (rest b) (rest v) (half false ω) s
+wedge-step′ k b v ω (true ∷ s) =
     ap₂ (λ x u. x *ℤ ω (false ∷ s) -ℤ wedge u (half true ω) s) (head-step k b v) (rest-step k b v)
-    ∙ ap (λ z. (k *ℤ head b +ℤ head v) *ℤ ω (false ∷ s) -ℤ z) (wedge-step k (rest b) (rest v) (half true ω) s)
+    ∙ ap (λ z. (k *ℤ head b +ℤ head v) *ℤ ω (false ∷ s) -ℤ z) (wedge-step′ k (rest b) (rest v) (half true ω) s)
     ∙ regroup (head b) (head v) (ω (false ∷ s)) (wedge (rest b) (half true ω) s) (wedge (rest v) (half true ω) s)
   where
     regroup : (x y c u v : ℤ) → (k *ℤ x +ℤ y) *ℤ c -ℤ (k *ℤ u +ℤ pos 1 *ℤ v) ≡ k *ℤ (x *ℤ c -ℤ u) +ℤ pos 1 *ℤ (y *ℤ c -ℤ v)
     regroup x y c u v = by-ring (k ∷ x ∷ y ∷ c ∷ u ∷ v ∷ []) (search reads depth 20) (search reads depth 20) tt
+
+pub wedge-step : (k : ℤ) (b v : Vec) (ω : Form) → Lin k (wedge b ω) (pos 1) (wedge v ω) (wedge (k ⊙ b ⊕ v) ω)
+wedge-step k b v ω = record { lin = wedge-step′ k b v ω }
 
 pub wedge-nil : (ω : Form) (s : Index) → wedge [] ω s ≡ pos 0
 wedge-nil ω [] = refl
