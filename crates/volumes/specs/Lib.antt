@@ -1,3 +1,4 @@
 -- Exterior algebra by halves: volume, Hadamard's inequality, Cramer's rule, the test for dependence, sizes of coefficients.
 pub mod Forms
 pub mod Exterior
+pub mod Hadamard
