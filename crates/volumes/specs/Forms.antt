@@ -91,6 +91,30 @@ pub inner-linˡ : (m : ℕ) (e : Form) {j k : ℤ} {f g h : Form} → Lin j f k 
 inner-linˡ m e {j} {k} {f} {g} {h} p =
     inner-comm m h e ∙ inner-lin m e p ∙ ap₂ (λ x y. j *ℤ x +ℤ k *ℤ y) (inner-comm m e f) (inner-comm m e g)
 
+-- ---- forms that are multiples of another
+
+-- g is k·f
+pub record Multiple (k : ℤ) (f g : Form) : Type 0 where
+  pub multiple : (s : Index) → g s ≡ k *ℤ f s
+
+lin-of-multiple : {k : ℤ} {f g : Form} → Multiple k f g → Lin k f (pos 0) f g
+lin-of-multiple {k} {f} p =
+    record { lin = λ s. p .multiple s ∙ by-ring (k ∷ f s ∷ []) (search reads depth 20) (search reads depth 20) tt }
+
+pub wedge-multiple : (a : Vec) {k : ℤ} {f g : Form} → Multiple k f g → Multiple k (wedge a f) (wedge a g)
+wedge-multiple a {k} {f} p =
+    record { multiple = λ s. wedge-lin a (lin-of-multiple p) .lin s ∙ by-ring (k ∷ wedge a f s ∷ []) (search reads depth 20) (search reads depth 20) tt }
+
+pub inner-multiple : (m : ℕ) {k : ℤ} {f g : Form} → Multiple k f g → inner m g g ≡ k *ℤ k *ℤ inner m f f
+inner-multiple m {k} {f} {g} p =
+    inner-lin m g (lin-of-multiple p) ∙ ap (λ z. k *ℤ z +ℤ pos 0 *ℤ z) (inner-linˡ m f (lin-of-multiple p)) ∙ regroup (inner m f f)
+  where
+    regroup : (x : ℤ) → k *ℤ (k *ℤ x +ℤ pos 0 *ℤ x) +ℤ pos 0 *ℤ (k *ℤ x +ℤ pos 0 *ℤ x) ≡ k *ℤ k *ℤ x
+    regroup x = by-ring (k ∷ x ∷ []) (search reads depth 20) (search reads depth 20) tt
+
+pub wedge-zero : (a : Vec) (ω : Form) → ((s : Index) → ω s ≡ pos 0) → (s : Index) → wedge a ω s ≡ pos 0
+wedge-zero a ω p s = wedge-multiple a {k = pos 0} {f = ω} (record { multiple = λ t. p t ∙ sym (zero-*ℤ (ω t)) }) .multiple s ∙ zero-*ℤ (wedge a ω s)
+
 -- ---- linear in the vector: one more term of a combination
 
 ⊕-nil : (u : Vec) → u ⊕ [] ≡ u

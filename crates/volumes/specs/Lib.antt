@@ -2,3 +2,4 @@
 pub mod Forms
 pub mod Exterior
 pub mod Hadamard
+pub mod Cramer
