@@ -45,6 +45,9 @@ adjoint (suc m) a ω η =
     regroup : (c x y z w : ℤ) → x +ℤ (c *ℤ y +ℤ negsuc 0 *ℤ z) ≡ (pos 1 *ℤ x +ℤ c *ℤ y) +ℤ (negsuc 0 *ℤ z +ℤ pos 0 *ℤ w)
     regroup c x y z w = by-ring (c ∷ x ∷ y ∷ z ∷ w ∷ []) (search reads depth 20) (search reads depth 20) tt
 
+pub adjointʳ : (m : ℕ) (a : Vec) (χ ω : Form) → inner m χ (wedge a ω) ≡ inner m (contract a χ) ω
+adjointʳ m a χ ω = inner-comm m χ (wedge a ω) ∙ adjoint m a ω χ ∙ inner-comm m ω (contract a χ)
+
 -- ---- Clifford's relation
 
 collect : (x y c : ℤ) → y *ℤ c +ℤ x *ℤ c ≡ (x +ℤ y) *ℤ c
@@ -101,7 +104,7 @@ clifford-inner m a b χ ω =
 
 pub pythagoras : (m : ℕ) (a : Vec) (ω : Form) → inner m (wedge a ω) (wedge a ω) +ℤ inner m (contract a ω) (contract a ω) ≡ dotOn m a a *ℤ inner m ω ω
 pythagoras m a ω =
-    ap₂ _+ℤ_ (adjoint m a ω (wedge a ω)) (sym (adjoint m a (contract a ω) ω) ∙ inner-comm m (wedge a (contract a ω)) ω) ∙ clifford-inner m a a ω ω
+    ap₂ _+ℤ_ (adjoint m a ω (wedge a ω)) (sym (adjointʳ m a ω (contract a ω))) ∙ clifford-inner m a a ω ω
 
 -- ---- the bound
 

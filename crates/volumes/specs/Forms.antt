@@ -83,6 +83,11 @@ inner-on (suc m) f g h p =
     ap₂ _+ℤ_ (inner-on m (half false f) (half false g) (half false h) (λ s q. p (false ∷ s) (ap suc q)))
     (inner-on m (half true f) (half true g) (half true h) (λ s q. p (true ∷ s) (ap suc q)))
 
+pub inner-zero : (m : ℕ) (f g : Form) → ((s : Index) → length s ≡ m → g s ≡ pos 0) → inner m f g ≡ pos 0
+inner-zero zero f g p = ap (λ x. f [] *ℤ x) (p [] refl) ∙ *ℤ-zero (f [])
+inner-zero (suc m) f g p =
+    ap₂ _+ℤ_ (inner-zero m (half false f) (half false g) (λ s q. p (false ∷ s) (ap suc q))) (inner-zero m (half true f) (half true g) (λ s q. p (true ∷ s) (ap suc q)))
+
 pub inner-comm : (m : ℕ) (f g : Form) → inner m f g ≡ inner m g f
 inner-comm zero f g = *ℤ-comm (f []) (g [])
 inner-comm (suc m) f g = ap₂ _+ℤ_ (inner-comm m (half false f) (half false g)) (inner-comm m (half true f) (half true g))

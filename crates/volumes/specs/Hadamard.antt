@@ -13,7 +13,7 @@ use Rattle.integers.specs.Certificate.{NN, _⊞_, _⊠_, nn-sq, le, by-nn}
 use Rattle.lattices.specs.Vector.{Vec, N, dot}
 use Rattle.lattices.specs.VectorLaws.{N-nonneg}
 use Rattle.lattices.specs.Volume.{Index, Form, head, rest, unit, wedge, volume, inner, squaredVolume}
-use Rattle.volumes.specs.Forms.{half}
+use Rattle.volumes.specs.Forms.{half, inner-zero}
 use Rattle.volumes.specs.Exterior.{inner-nonneg, wedge-bound}
 
 -- the product of the squared lengths
@@ -25,13 +25,9 @@ pub product-nonneg : (bs : List Vec) → NN (product bs)
 product-nonneg [] = pos-nonneg 1
 product-nonneg (b ∷ bs) = N-nonneg b ⊠ product-nonneg bs
 
-inner-zero : (m : ℕ) → inner m (λ s. pos 0) (λ s. pos 0) ≡ pos 0
-inner-zero zero = refl
-inner-zero (suc m) = ap₂ _+ℤ_ (inner-zero m) (inner-zero m)
-
-inner-unit : (m : ℕ) → inner m unit unit ≡ pos 1
+pub inner-unit : (m : ℕ) → inner m unit unit ≡ pos 1
 inner-unit zero = refl
-inner-unit (suc m) = ap₂ _+ℤ_ (inner-unit m) (inner-zero m)
+inner-unit (suc m) = ap₂ _+ℤ_ (inner-unit m) (inner-zero m (half true unit) (half true unit) (λ s e. refl))
 
 pub hadamard : (m : ℕ) (bs : List Vec) → squaredVolume m bs ≤ℤ product bs
 unfolding squaredVolume

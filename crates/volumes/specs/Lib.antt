@@ -3,3 +3,5 @@ pub mod Forms
 pub mod Exterior
 pub mod Hadamard
 pub mod Cramer
+pub mod Dependence
+pub mod Sizes
