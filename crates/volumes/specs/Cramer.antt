@@ -1,18 +1,17 @@
 -- Cramer's rule without a sign: the combination of a list, put in the place of its vector j, multiplies the volume by coefficient j.
 -- Hence the size of each coefficient of a combination of an independent list, and that steps and exchanges keep the squared volume.
-use mathlib.Core.Path.{_≡_, refl, sym, ap, ap₂, _∙_, subst}
-use mathlib.Core.Bool.{Bool, true, false}
-use mathlib.Core.List.{List, [], _∷_, _++_}
+use mathlib.Core.Path.{_≡_, refl, sym, ap, ap₂, _∙_}
+use mathlib.Core.List.{List, [], _∷_}
 use Prim.Native.Nat.{ℕ, zero, suc, _<_}
 use native.Mathlib.Nat.{le-of-suc-le-suc, not-suc-le-zero}
-use lib.IntN.{ℤ, pos, negsuc, negℤ, _+ℤ_, _*ℤ_, *ℤ-zero, zero-*ℤ}
+use lib.IntN.{ℤ, pos, negsuc, negℤ, _+ℤ_, _*ℤ_, zero-*ℤ}
 use lib.ListN.{length, set}
 use lib.Signed.{_≤ℤ_, _<ℤ_}
 use Rattle.integers.specs.Identity.{by-ring, reads}
 use Rattle.integers.specs.Certificate.{_⊞_, _⊠_, nn-sq, le, lt, eq, by-nn}
 use Rattle.integers.specs.Ring.{pos-one-*ℤ, negsuc-zero-*ℤ, *ℤ-assoc}
-use Rattle.lattices.specs.Vector.{Vec, N, nth, comb, _⊕_, _⊙_}
-use Rattle.lattices.specs.Volume.{Index, Form, wedge, volume, inner, squaredVolume}
+use Rattle.lattices.specs.Vector.{Vec, nth, comb, _⊕_, _⊙_}
+use Rattle.lattices.specs.Volume.{Index, Form, wedge, volume, squaredVolume}
 use Rattle.volumes.specs.Forms.{Lin, wedge-lin, wedge-step, wedge-nil, wedge-zero, Multiple, wedge-multiple, inner-multiple}
 use Rattle.volumes.specs.Exterior.{anti, square}
 use Rattle.volumes.specs.Hadamard.{product, hadamard}

@@ -2,15 +2,15 @@
 -- dependent. The coefficients of a dependent list are computed, by contraction of its volume.
 use mathlib.Core.Path.{_≡_, refl, sym, ap, ap₂, _∙_, subst}
 use mathlib.Core.Logic.{_≢_, _↔_, _⊎_, inl, inr}
-use mathlib.Core.Bool.{Bool, true, false}
+use mathlib.Core.Bool.{true, false}
 use mathlib.Core.List.{List, [], _∷_}
 use Prim.Native.Nat.{ℕ, zero, suc, _≤_, _<_, zero-le, suc-le-suc}
 use native.Mathlib.Decide.{decLt}
 use native.Mathlib.Nat.{le-of-suc-le-suc, not-suc-le-zero}
 use native.Mathlib.Omega.{arith}
-use lib.IntN.{ℤ, pos, negsuc, negℤ, _+ℤ_, _-ℤ_, _*ℤ_, *ℤ-zero, zero-*ℤ, +ℤ-idl}
+use lib.IntN.{ℤ, pos, negsuc, negℤ, _+ℤ_, _-ℤ_, _*ℤ_, *ℤ-zero, zero-*ℤ}
 use lib.ListN.{length, getD, List·getD-eq-default}
-use lib.Signed.{leZ, _≤ℤ_, _<ℤ_, ≤ℤ-refl, clashℤ}
+use lib.Signed.{leZ, _≤ℤ_, _<ℤ_, clashℤ}
 use Rattle.integers.specs.Identity.{by-ring, by-eq, reads}
 use Rattle.integers.specs.Order.{≤ℤ-trans, ≤ℤ-of-≡, ≤ℤ-antisymm, ≤ℤ-or-<ℤ, zero-or-not, square-pos, leZ-true, leZ-false, ≤ℤ-leZ, <ℤ-leZ, square-nonneg}
 use Rattle.integers.specs.Certificate.{NN, by-nn}
@@ -19,7 +19,7 @@ use Rattle.lattices.specs.VectorLaws.{N-nonneg}
 use Rattle.lattices.specs.Volume.{Index, Form, head, rest, unit, wedge, volume, inner, squaredVolume, isDependent}
 use Rattle.volumes.specs.Forms.{half, contract, dotOn, dotOn-step, dotOn-nil, Lin, contract-lin, inner-linˡ, inner-zero}
 use Rattle.volumes.specs.Exterior.{adjoint, adjointʳ, clifford-inner, inner-nonneg}
-use Rattle.volumes.specs.Hadamard.{inner-unit, entry, product, product-nonneg}
+use Rattle.volumes.specs.Hadamard.{inner-unit, entry, product}
 use Rattle.volumes.specs.Cramer.{put, sizes}
 
 -- every vector has at most m coordinates (the one beyond the end is [])
@@ -105,20 +105,22 @@ relation m (b ∷ bs) e = pick (zero-or-not (squaredVolume m bs)) (relation m bs
   where
     longer : Relation m bs → Relation m (b ∷ bs)
     longer r =
-        record
-          { coefficients = pos 0 ∷ r .coefficients
-          ; count = ap suc (r .count)
-          ; nonzero = λ z. r .nonzero (λ i. z (suc i))
-          ; orthogonal = λ w. dotOn-step m w (pos 0) b (comb (r .coefficients) bs) ∙ ap₂ _+ℤ_ (zero-*ℤ (dotOn m w b)) (r .orthogonal w) }
+        record {
+          coefficients = pos 0 ∷ r .coefficients;
+          count = ap suc (r .count);
+          nonzero = λ z. r .nonzero (λ i. z (suc i));
+          orthogonal = λ w. dotOn-step m w (pos 0) b (comb (r .coefficients) bs) ∙ ap₂ _+ℤ_ (zero-*ℤ (dotOn m w b)) (r .orthogonal w);
+        }
 
     pick : (squaredVolume m bs ≡ pos 0) ⊎ (squaredVolume m bs ≢ pos 0) → (squaredVolume m bs ≡ pos 0 → Relation m bs) → Relation m (b ∷ bs)
     pick (inl z) r = longer (r z)
     pick (inr f) r =
-        record
-          { coefficients = coefficients-of m (volume bs) (b ∷ bs)
-          ; count = count-of m (volume bs) (b ∷ bs)
-          ; nonzero = λ z. f (z zero)
-          ; orthogonal = λ w. sym (expand m (volume bs) w (b ∷ bs)) ∙ sym (adjoint m w (volume bs) (volume (b ∷ bs))) ∙ inner-definite m (wedge w (volume bs)) (volume (b ∷ bs)) e }
+        record {
+          coefficients = coefficients-of m (volume bs) (b ∷ bs);
+          count = count-of m (volume bs) (b ∷ bs);
+          nonzero = λ z. f (z zero);
+          orthogonal = λ w. sym (expand m (volume bs) w (b ∷ bs)) ∙ sym (adjoint m w (volume bs) (volume (b ∷ bs))) ∙ inner-definite m (wedge w (volume bs)) (volume (b ∷ bs)) e;
+        }
 
 -- ---- vectors of at most m coordinates are seen whole
 
@@ -154,11 +156,12 @@ dependent-of-zero m bs h e = seen (relation m bs e)
     seen : Relation m bs → Dependent bs
     seen r =
         let v = comb (r .coefficients) bs in
-        record
-          { coefficients = r .coefficients
-          ; count = r .count
-          ; nonzero = r .nonzero
-          ; vanishes = definite v (sym (dotOn-whole m v (fit-comb m (r .coefficients) bs h)) ∙ r .orthogonal v) }
+        record {
+          coefficients = r .coefficients;
+          count = r .count;
+          nonzero = r .nonzero;
+          vanishes = definite v (sym (dotOn-whole m v (fit-comb m (r .coefficients) bs h)) ∙ r .orthogonal v);
+        }
 
 -- ---- a positive volume allows no other coefficients than zeros
 

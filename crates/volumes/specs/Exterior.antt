@@ -1,14 +1,14 @@
 -- The laws of the exterior product: the contraction is its adjoint, both together are a multiplication by the inner product
 -- (Clifford's relation), and two exterior products change sign when exchanged. Hence |a ∧ ω| ≤ |a|·|ω|.
-use mathlib.Core.Path.{_≡_, refl, sym, ap, ap₂, _∙_, subst}
-use mathlib.Core.Bool.{Bool, true, false}
-use mathlib.Core.List.{List, [], _∷_}
+use mathlib.Core.Path.{_≡_, refl, sym, ap, ap₂, _∙_}
+use mathlib.Core.Bool.{true, false}
+use mathlib.Core.List.{[], _∷_}
 use Prim.Native.Nat.{ℕ, zero, suc}
 use lib.IntN.{ℤ, pos, negsuc, negℤ, _+ℤ_, _-ℤ_, _*ℤ_, pos-ne-negsuc}
 use lib.ListN.{length}
 use lib.Signed.{_≤ℤ_, ≤ℤ-refl}
 use Rattle.integers.specs.Identity.{by-ring, reads}
-use Rattle.integers.specs.Order.{≤ℤ-trans, +ℤ-mono, +ℤ-mono-r}
+use Rattle.integers.specs.Order.{+ℤ-mono-r}
 use Rattle.integers.specs.Certificate.{NN, _⊞_, _⊠_, nn-sq, le, eq, by-nn}
 use Rattle.lattices.specs.Vector.{Vec, N, dot}
 use Rattle.lattices.specs.VectorLaws.{N-nonneg}

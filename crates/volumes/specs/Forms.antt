@@ -2,9 +2,9 @@
 -- Every law is an equation of integers at one index, by induction on the index; one statement serves sums, multiples and congruence.
 use mathlib.Core.Path.{_≡_, refl, sym, ap, ap₂, _∙_}
 use mathlib.Core.Bool.{Bool, true, false}
-use mathlib.Core.List.{List, [], _∷_}
+use mathlib.Core.List.{[], _∷_}
 use Prim.Native.Nat.{ℕ, zero, suc}
-use lib.IntN.{ℤ, pos, negsuc, negℤ, _+ℤ_, _-ℤ_, _*ℤ_, *ℤ-comm, zero-*ℤ, *ℤ-zero}
+use lib.IntN.{ℤ, pos, negℤ, _+ℤ_, _-ℤ_, _*ℤ_, *ℤ-comm, zero-*ℤ, *ℤ-zero}
 use lib.ListN.{length}
 use Rattle.integers.specs.Identity.{by-ring, reads}
 use Rattle.lattices.specs.Vector.{Vec, _⊕_, _⊙_}

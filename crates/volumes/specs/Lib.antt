@@ -5,3 +5,4 @@ pub mod Hadamard
 pub mod Cramer
 pub mod Dependence
 pub mod Sizes
+pub mod Examples
