@@ -9,10 +9,10 @@ use lib.ListN.{length, set}
 use lib.Signed.{_≤ℤ_, _<ℤ_}
 use Rattle.integers.specs.Identity.{by-ring, reads}
 use Rattle.integers.specs.Certificate.{_⊞_, _⊠_, nn-sq, le, lt, eq, by-nn}
-use Rattle.integers.specs.Ring.{pos-one-*ℤ, negsuc-zero-*ℤ, *ℤ-assoc}
+use Rattle.integers.specs.Ring.{pos-one-*ℤ, negsuc-zero-*ℤ}
 use Rattle.lattices.specs.Vector.{Vec, nth, comb, _⊕_, _⊙_}
 use Rattle.lattices.specs.Volume.{Index, Form, wedge, volume, squaredVolume}
-use Rattle.volumes.specs.Forms.{Lin, wedge-lin, wedge-step, wedge-nil, wedge-zero, Multiple, wedge-multiple, inner-multiple}
+use Rattle.volumes.specs.Forms.{Lin, wedge-lin, wedge-step, wedge-nil, wedge-zero, Multiple, multiple-of, multiple-multiple, wedge-multiple, inner-multiple}
 use Rattle.volumes.specs.Exterior.{anti, square}
 use Rattle.volumes.specs.Hadamard.{product, hadamard}
 
@@ -22,17 +22,21 @@ put j v bs = set bs j v
 
 -- ---- Cramer's rule
 
-put-step : (j : ℕ) (k : ℤ) (b v : Vec) (bs : List Vec) → j < length bs → Lin k (volume (put j b bs)) (pos 1) (volume (put j v bs)) (volume (put j (k ⊙ b ⊕ v) bs))
+put-step : (j : ℕ) (k : ℤ) (b v : Vec) (bs : List Vec) → j < length bs
+    → Lin k (volume (put j b bs)) (pos 1) (volume (put j v bs)) (volume (put j (k ⊙ b ⊕ v) bs))
 put-step j k b v [] h = absurd (not-suc-le-zero h)
 put-step zero k b v (c ∷ bs) h = wedge-step k b v (volume bs)
 put-step (suc j) k b v (c ∷ bs) h = wedge-lin c (put-step j k b v bs (le-of-suc-le-suc h))
+
+-- a product that is zero stays zero with another vector between
+past : (a b : Vec) (ω : Form) → ((t : Index) → wedge a ω t ≡ pos 0) → (s : Index) → wedge a (wedge b ω) s ≡ pos 0
+past a b ω p s = anti a b ω s ∙ ap negℤ (wedge-zero b (wedge a ω) p s)
 
 -- a vector twice
 twice : (j : ℕ) (b : Vec) (bs : List Vec) → j < length bs → (s : Index) → wedge b (volume (put j b bs)) s ≡ pos 0
 twice j b [] h s = absurd (not-suc-le-zero h)
 twice zero b (c ∷ bs) h s = square b (volume bs) s
-twice (suc j) b (c ∷ bs) h s =
-    anti b c (volume (put j b bs)) s ∙ ap negℤ (wedge-zero c (wedge b (volume (put j b bs))) (twice j b bs (le-of-suc-le-suc h)) s)
+twice (suc j) b (c ∷ bs) h s = past b c (volume (put j b bs)) (twice j b bs (le-of-suc-le-suc h)) s
 
 -- a combination beside its list
 beside : (x : List ℤ) (bs : List Vec) (s : Index) → wedge (comb x bs) (volume bs) s ≡ pos 0
@@ -41,8 +45,8 @@ beside [] bs s = wedge-nil (volume bs) s
 beside (x ∷ xs) [] s = wedge-nil (volume []) s
 beside (x ∷ xs) (b ∷ bs) s =
     wedge-step x b (comb xs bs) (wedge b (volume bs)) .lin s
-    ∙ ap₂ (λ y z. x *ℤ y +ℤ pos 1 *ℤ z) (square b (volume bs) s) (anti (comb xs bs) b (volume bs) s ∙ ap negℤ (wedge-zero b (wedge (comb xs bs) (volume bs)) (beside xs bs) s))
-    ∙ by-ring (x ∷ []) (search reads depth 20) (search reads depth 20) tt
+    ∙ ap₂ (λ y z. x *ℤ y +ℤ pos 1 *ℤ z) (square b (volume bs) s) (past (comb xs bs) b (volume bs) (beside xs bs) s)
+    ∙ by-ring (x ∷ []) (search reads) (search reads) tt
 
 pub cramer : (j : ℕ) (x : List ℤ) (bs : List Vec) → j < length bs → (s : Index) → volume (put j (comb x bs) bs) s ≡ nth x j *ℤ volume bs s
 unfolding comb
@@ -52,16 +56,18 @@ cramer zero (x ∷ xs) (b ∷ bs) h s =
     wedge-step x b (comb xs bs) (volume bs) .lin s
     ∙ ap (λ z. x *ℤ wedge b (volume bs) s +ℤ pos 1 *ℤ z) (beside xs bs s)
     ∙ by-ring (x ∷ wedge b (volume bs) s ∷ []) (search reads depth 20) (search reads depth 20) tt
-cramer (suc j) [] (b ∷ bs) h s =
-    wedge-multiple b {k = pos 0} {f = volume bs} (record { multiple = cramer j [] bs (le-of-suc-le-suc h) }) .multiple s
-cramer (suc j) (x ∷ xs) (b ∷ bs) h s =
-    wedge-lin b (put-step j x b (comb xs bs) bs (le-of-suc-le-suc h)) .lin s
-    ∙ ap₂ (λ y z. x *ℤ y +ℤ pos 1 *ℤ z) (twice j b bs (le-of-suc-le-suc h) s) (wedge-multiple b {k = nth xs j} {f = volume bs} (record { multiple = cramer j xs bs (le-of-suc-le-suc h) }) .multiple s)
-    ∙ by-ring (x ∷ nth xs j ∷ wedge b (volume bs) s ∷ []) (search reads depth 20) (search reads depth 20) tt
+cramer (suc j) [] (b ∷ bs) h s = wedge-multiple b (multiple-of (pos 0) (volume bs) (cramer j [] bs (le-of-suc-le-suc h))) .multiple s
+cramer (suc j) (x ∷ xs) (b ∷ bs) h s = before (multiple-of (nth xs j) (volume bs) (cramer j xs bs (le-of-suc-le-suc h)))
+  where
+    before : Multiple (nth xs j) (volume bs) (volume (put j (comb xs bs) bs)) → wedge b (volume (put j (x ⊙ b ⊕ comb xs bs) bs)) s ≡ nth xs j *ℤ wedge b (volume bs) s
+    before p =
+        wedge-lin b (put-step j x b (comb xs bs) bs (le-of-suc-le-suc h)) .lin s
+        ∙ ap₂ (λ y z. x *ℤ y +ℤ pos 1 *ℤ z) (twice j b bs (le-of-suc-le-suc h) s) (wedge-multiple b p .multiple s)
+        ∙ by-ring (x ∷ nth xs j ∷ wedge b (volume bs) s ∷ []) (search reads depth 20) (search reads depth 20) tt
 
 pub cramer-sq : (m j : ℕ) (x : List ℤ) (bs : List Vec) → j < length bs → squaredVolume m (put j (comb x bs) bs) ≡ nth x j *ℤ nth x j *ℤ squaredVolume m bs
 unfolding squaredVolume
-cramer-sq m j x bs h = inner-multiple m {k = nth x j} {f = volume bs} (record { multiple = cramer j x bs h })
+cramer-sq m j x bs h = inner-multiple m (multiple-of (nth x j) (volume bs) (cramer j x bs h))
 
 -- the size of a coefficient
 pub sizes : (m j : ℕ) (x : List ℤ) (bs : List Vec) → j < length bs → pos 0 <ℤ squaredVolume m bs → (nth x j *ℤ nth x j) ≤ℤ product (put j (comb x bs) bs)
@@ -74,7 +80,7 @@ sizes m j x bs h p =
 
 pub step-keeps : (m j : ℕ) (x : List ℤ) (bs : List Vec) → j < length bs → nth x j ≡ pos 1 → squaredVolume m (put j (comb x bs) bs) ≡ squaredVolume m bs
 step-keeps m j x bs h e =
-    cramer-sq m j x bs h ∙ ap (λ c. c *ℤ c *ℤ squaredVolume m bs) e ∙ by-ring (squaredVolume m bs ∷ []) (search reads depth 20) (search reads depth 20) tt
+    cramer-sq m j x bs h ∙ ap (λ c. c *ℤ c *ℤ squaredVolume m bs) e ∙ pos-one-*ℤ (squaredVolume m bs)
 
 -- one list is a rearrangement of the other
 pub data Perm : List Vec → List Vec → Type 0 where
@@ -95,7 +101,10 @@ perm-signed (skip b p) =
     let q = perm-signed p in
     record { sign = q .sign; signed = q .signed; by-sign = wedge-multiple b (q .by-sign) }
 perm-signed (swap b c bs) =
-    record { sign = negsuc 0; signed = refl; by-sign = record { multiple = λ s. anti b c (volume bs) s ∙ sym (negsuc-zero-*ℤ (wedge c (wedge b (volume bs)) s)) } }
+    record { sign = negsuc 0; signed = refl; by-sign = opposite }
+  where
+    opposite : Multiple (negsuc 0) (wedge c (wedge b (volume bs))) (wedge b (wedge c (volume bs)))
+    opposite = record { multiple = λ s. anti b c (volume bs) s ∙ sym (negsuc-zero-*ℤ (wedge c (wedge b (volume bs)) s)) }
 perm-signed (then {ds} {bs} {cs} p q) = join (perm-signed p) (perm-signed q)
   where
     join : Signed (volume bs) (volume ds) → Signed (volume cs) (volume bs) → Signed (volume cs) (volume ds)
@@ -103,7 +112,7 @@ perm-signed (then {ds} {bs} {cs} p q) = join (perm-signed p) (perm-signed q)
         record {
           sign = u .sign *ℤ v .sign;
           signed = regroup (u .sign) (v .sign) ∙ ap₂ _*ℤ_ (u .signed) (v .signed);
-          by-sign = record { multiple = λ s. u .by-sign .multiple s ∙ ap (λ z. u .sign *ℤ z) (v .by-sign .multiple s) ∙ sym (*ℤ-assoc (u .sign) (v .sign) (volume cs s)) };
+          by-sign = multiple-multiple (u .by-sign) (v .by-sign);
         }
       where
         regroup : (x y : ℤ) → x *ℤ y *ℤ (x *ℤ y) ≡ x *ℤ x *ℤ (y *ℤ y)

@@ -12,14 +12,14 @@ use lib.IntN.{ℤ, pos, negsuc, negℤ, _+ℤ_, _-ℤ_, _*ℤ_, *ℤ-zero, zero-
 use lib.ListN.{length, getD, List·getD-eq-default}
 use lib.Signed.{leZ, _≤ℤ_, _<ℤ_, clashℤ}
 use Rattle.integers.specs.Identity.{by-ring, by-eq, reads}
-use Rattle.integers.specs.Order.{≤ℤ-trans, ≤ℤ-of-≡, ≤ℤ-antisymm, ≤ℤ-or-<ℤ, zero-or-not, square-pos, leZ-true, leZ-false, ≤ℤ-leZ, <ℤ-leZ, square-nonneg}
-use Rattle.integers.specs.Certificate.{NN, by-nn}
+use Rattle.integers.specs.Order.{≤ℤ-trans, ≤ℤ-of-≡, ≤ℤ-antisymm, ≤ℤ-or-<ℤ, zero-or-not, square-pos, leZ-true, leZ-false, ≤ℤ-leZ, <ℤ-leZ}
+use Rattle.integers.specs.Certificate.{NN}
 use Rattle.lattices.specs.Vector.{Vec, N, nth, dot, comb, _⊕_, _⊙_, Zero, Dependent, Independent}
 use Rattle.lattices.specs.VectorLaws.{N-nonneg}
 use Rattle.lattices.specs.Volume.{Index, Form, head, rest, unit, wedge, volume, inner, squaredVolume, isDependent}
 use Rattle.volumes.specs.Forms.{half, contract, dotOn, dotOn-step, dotOn-nil, Lin, contract-lin, inner-linˡ, inner-zero}
 use Rattle.volumes.specs.Exterior.{adjoint, adjointʳ, clifford-inner, inner-nonneg}
-use Rattle.volumes.specs.Hadamard.{inner-unit, entry, product}
+use Rattle.volumes.specs.Hadamard.{inner-unit, entry, head-≤, rest-≤, product}
 use Rattle.volumes.specs.Cramer.{put, sizes}
 
 -- every vector has at most m coordinates (the one beyond the end is [])
@@ -40,11 +40,9 @@ zero-of-square x h = pick (zero-or-not x)
     pick (inr f) = clashℤ (square-pos f) h
 
 pub definite : (u : Vec) → N u ≡ pos 0 → Zero u
-unfolding dot
 definite [] e i = refl
-definite (x ∷ u) e zero = zero-of-square x (≤ℤ-trans (by-nn (x ∷ N u ∷ []) (N-nonneg u) (search reads depth 20) (search reads depth 20) tt) (≤ℤ-of-≡ e))
-definite (x ∷ u) e (suc i) =
-    definite u (≤ℤ-antisymm (≤ℤ-trans (by-nn (x ∷ N u ∷ []) (square-nonneg x) (search reads depth 20) (search reads depth 20) tt) (≤ℤ-of-≡ e)) (N-nonneg u)) i
+definite (x ∷ u) e zero = zero-of-square x (≤ℤ-trans (head-≤ (x ∷ u)) (≤ℤ-of-≡ e))
+definite (x ∷ u) e (suc i) = definite u (≤ℤ-antisymm (≤ℤ-trans (rest-≤ (x ∷ u)) (≤ℤ-of-≡ e)) (N-nonneg u)) i
 
 pub N-zero : (u : Vec) → Zero u → N u ≡ pos 0
 unfolding dot
@@ -77,19 +75,33 @@ contract-unit a [] = refl
 contract-unit a (false ∷ s) = ap₂ _+ℤ_ (contract-unit (rest a) s) (*ℤ-zero (head a))
 contract-unit a (true ∷ s) = ap negℤ (contract-zero (rest a) (half true unit) (λ t. refl) s)
 
+-- Clifford's relation with the second term moved to the other side
+peel : (m : ℕ) (χ : Form) (w b : Vec) (ω : Form)
+    → inner m χ (contract w (wedge b ω)) ≡ inner m χ ω *ℤ dotOn m w b +ℤ inner m (λ s. negℤ (contract b χ s)) (contract w ω)
+peel m χ w b ω =
+    by-eq (inner m χ (contract w (wedge b ω)) ∷ y ∷ c ∷ d ∷ []) (pos 1) (clifford-inner m w b χ ω) (search reads depth 20) (search reads depth 20) tt
+    ∙ ap (λ z. c *ℤ d +ℤ (negsuc 0 *ℤ z +ℤ pos 0 *ℤ z)) (adjointʳ m b χ (contract w ω))
+    ∙ ap (λ z. c *ℤ d +ℤ z) (sym (inner-linˡ m (contract w ω) opposite))
+  where
+    y : ℤ
+    y = inner m χ (wedge b (contract w ω))
+
+    c : ℤ
+    c = inner m χ ω
+
+    d : ℤ
+    d = dotOn m w b
+
+    opposite : Lin (negsuc 0) (contract b χ) (pos 0) (contract b χ) (λ s. negℤ (contract b χ s))
+    opposite = record { lin = λ s. by-ring (contract b χ s ∷ []) (search reads) (search reads) tt }
+
 expand : (m : ℕ) (χ : Form) (w : Vec) (bs : List Vec) → inner m χ (contract w (volume bs)) ≡ dotOn m w (comb (coefficients-of m χ bs) bs)
 unfolding coefficients-of comb
 expand m χ w [] = inner-zero m χ (contract w unit) (λ s e. contract-unit w s) ∙ sym (dotOn-nil m w)
 expand m χ w (b ∷ bs) =
-    cut (inner m χ (contract w (wedge b (volume bs)))) (inner m χ (volume bs)) (dotOn m w b) (inner m (contract b χ) (contract w (volume bs))) (ap (λ y. inner m χ (contract w (wedge b (volume bs))) +ℤ y) (sym (adjointʳ m b χ (contract w (volume bs)))) ∙ clifford-inner m w b χ (volume bs))
-    ∙ ap (λ z. inner m χ (volume bs) *ℤ dotOn m w b +ℤ z) (sym (inner-linˡ m (contract w (volume bs)) opposite) ∙ expand m (λ s. negℤ (contract b χ s)) w bs)
+    peel m χ w b (volume bs)
+    ∙ ap (λ z. inner m χ (volume bs) *ℤ dotOn m w b +ℤ z) (expand m (λ s. negℤ (contract b χ s)) w bs)
     ∙ sym (dotOn-step m w (inner m χ (volume bs)) b (comb (coefficients-of m (λ s. negℤ (contract b χ s)) bs) bs))
-  where
-    opposite : Lin (negsuc 0) (contract b χ) (pos 0) (contract b χ) (λ s. negℤ (contract b χ s))
-    opposite = record { lin = λ s. by-ring (contract b χ s ∷ []) (search reads depth 20) (search reads depth 20) tt }
-
-    cut : (x c d z : ℤ) → x +ℤ z ≡ d *ℤ c → x ≡ c *ℤ d +ℤ (negsuc 0 *ℤ z +ℤ pos 0 *ℤ z)
-    cut x c d z e = by-eq (x ∷ c ∷ d ∷ z ∷ []) (pos 1) e (search reads depth 20) (search reads depth 20) tt
 
 -- coefficients whose combination is orthogonal to every vector over m coordinates
 record Relation (m : ℕ) (bs : List Vec) : Type 0 where
@@ -103,6 +115,12 @@ unfolding squaredVolume comb coefficients-of
 relation m [] e = absurd (≤ℤ-of-≡ (sym (inner-unit m) ∙ e) .le)
 relation m (b ∷ bs) e = pick (zero-or-not (squaredVolume m bs)) (relation m bs)
   where
+    beyond : (w : Vec) → dotOn m w (comb (coefficients-of m (volume bs) (b ∷ bs)) (b ∷ bs)) ≡ pos 0
+    beyond w =
+        sym (expand m (volume bs) w (b ∷ bs))
+        ∙ sym (adjoint m w (volume bs) (volume (b ∷ bs)))
+        ∙ inner-definite m (wedge w (volume bs)) (volume (b ∷ bs)) e
+
     longer : Relation m bs → Relation m (b ∷ bs)
     longer r =
         record {
@@ -119,7 +137,7 @@ relation m (b ∷ bs) e = pick (zero-or-not (squaredVolume m bs)) (relation m bs
           coefficients = coefficients-of m (volume bs) (b ∷ bs);
           count = count-of m (volume bs) (b ∷ bs);
           nonzero = λ z. f (z zero);
-          orthogonal = λ w. sym (expand m (volume bs) w (b ∷ bs)) ∙ sym (adjoint m w (volume bs) (volume (b ∷ bs))) ∙ inner-definite m (wedge w (volume bs)) (volume (b ∷ bs)) e;
+          orthogonal = beyond;
         }
 
 -- ---- vectors of at most m coordinates are seen whole
@@ -185,7 +203,8 @@ independent-of-positive m bs p d = d .nonzero (λ j. pick j (decLt j (length bs)
 
 pub dependent-exactly : (m : ℕ) (bs : List Vec) → Fit m bs → (isDependent m bs ≡ true) ↔ Dependent bs
 unfolding isDependent
-dependent-exactly m bs h = (λ e. dependent-of-zero m bs h (≤ℤ-antisymm (leZ-true e) (squaredVolume-nonneg m bs)), λ d. pick d (≤ℤ-or-<ℤ (squaredVolume m bs) (pos 0)))
+dependent-exactly m bs h =
+    (λ e. dependent-of-zero m bs h (≤ℤ-antisymm (leZ-true e) (squaredVolume-nonneg m bs)), λ d. pick d (≤ℤ-or-<ℤ (squaredVolume m bs) (pos 0)))
   where
     pick : Dependent bs → (squaredVolume m bs ≤ℤ pos 0) ⊎ (pos 0 <ℤ squaredVolume m bs) → leZ (squaredVolume m bs) (pos 0) ≡ true
     pick d (inl l) = ≤ℤ-leZ l
@@ -193,7 +212,8 @@ dependent-exactly m bs h = (λ e. dependent-of-zero m bs h (≤ℤ-antisymm (leZ
 
 pub independent-exactly : (m : ℕ) (bs : List Vec) → Fit m bs → (isDependent m bs ≡ false) ↔ Independent bs
 unfolding isDependent
-independent-exactly m bs h = (λ e. independent-of-positive m bs (leZ-false e), λ f. pick f (≤ℤ-or-<ℤ (squaredVolume m bs) (pos 0)))
+independent-exactly m bs h =
+    (λ e. independent-of-positive m bs (leZ-false e), λ f. pick f (≤ℤ-or-<ℤ (squaredVolume m bs) (pos 0)))
   where
     pick : Independent bs → (squaredVolume m bs ≤ℤ pos 0) ⊎ (pos 0 <ℤ squaredVolume m bs) → leZ (squaredVolume m bs) (pos 0) ≡ false
     pick f (inl l) = absurd (f (dependent-of-zero m bs h (≤ℤ-antisymm l (squaredVolume-nonneg m bs))))
@@ -218,8 +238,9 @@ wedge-few k a ω p [] h = refl
 wedge-few k a ω p (false ∷ s) h = wedge-few k (rest a) (half false ω) (λ t. p (false ∷ t)) s h
 wedge-few zero a ω p (true ∷ s) h = absurd (not-suc-le-zero (le-of-suc-le-suc h))
 wedge-few (suc k) a ω p (true ∷ s) h =
-    ap₂ (λ x y. head a *ℤ x -ℤ y) (p (false ∷ s) (le-of-suc-le-suc h)) (wedge-few k (rest a) (half true ω) (λ t l. p (true ∷ t) (suc-le-suc l)) s (le-of-suc-le-suc h))
-    ∙ by-ring (head a ∷ []) (search reads depth 20) (search reads depth 20) tt
+    ap (λ x. head a *ℤ x -ℤ wedge (rest a) (half true ω) s) (p (false ∷ s) (le-of-suc-le-suc h))
+    ∙ ap (λ y. head a *ℤ pos 0 -ℤ y) (wedge-few k (rest a) (half true ω) (λ t l. p (true ∷ t) (suc-le-suc l)) s (le-of-suc-le-suc h))
+    ∙ by-ring (head a ∷ []) (search reads) (search reads) tt
 
 volume-few : (bs : List Vec) (s : Index) → marks s < length bs → volume bs s ≡ pos 0
 volume-few [] s h = absurd (not-suc-le-zero h)

@@ -81,5 +81,6 @@ unfolding dot comb _⊕_ _⊙_ four four-coefficients squaredVolume
 four-coefficient = coefficient-≤ 1 4 0 four-coefficients four (omega arith) four-short (ltZ-yes tt) (omega arith) (leZ-yes tt)
 
 -- the same theorem at r = 2, for a vector that is nearest to one of N = 400000000
-nearest-coefficient : (m j : ℕ) (x : List ℤ) (bs : List Vec) → length bs ≤ 4 → Short (pos 400000000) bs → pos 0 <ℤ squaredVolume m bs → j < length bs → N (comb x bs) ≤ℤ pos 1600000000 → natAbs (nth x j) ≤ 320000000000000000
+nearest-coefficient : (m j : ℕ) (x : List ℤ) (bs : List Vec) → length bs ≤ 4 → Short (pos 400000000) bs → pos 0 <ℤ squaredVolume m bs
+    → j < length bs → N (comb x bs) ≤ℤ pos 1600000000 → natAbs (nth x j) ≤ 320000000000000000
 nearest-coefficient = coefficient-≤ 2

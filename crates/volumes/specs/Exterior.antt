@@ -18,10 +18,12 @@ use Rattle.volumes.specs.Forms.{half, contract, dotOn, Lin, wedge-lin, c
 -- ---- the halves of a product and of a contraction, as combinations
 
 wedge-true : (a : Vec) (ω : Form) → Lin (head a) (half false ω) (negsuc 0) (wedge (rest a) (half true ω)) (half true (wedge a ω))
-wedge-true a ω = record { lin = λ s. by-ring (head a ∷ ω (false ∷ s) ∷ wedge (rest a) (half true ω) s ∷ []) (search reads depth 20) (search reads depth 20) tt }
+wedge-true a ω =
+    record { lin = λ s. by-ring (head a ∷ ω (false ∷ s) ∷ wedge (rest a) (half true ω) s ∷ []) (search reads) (search reads) tt }
 
 contract-false : (a : Vec) (ω : Form) → Lin (pos 1) (contract (rest a) (half false ω)) (head a) (half true ω) (half false (contract a ω))
-contract-false a ω = record { lin = λ s. by-ring (contract (rest a) (half false ω) s ∷ head a ∷ ω (true ∷ s) ∷ []) (search reads depth 20) (search reads depth 20) tt }
+contract-false a ω =
+    record { lin = λ s. by-ring (contract (rest a) (half false ω) s ∷ head a ∷ ω (true ∷ s) ∷ []) (search reads) (search reads) tt }
 
 contract-true : (a : Vec) (ω : Form) → Lin (negsuc 0) (contract (rest a) (half true ω)) (pos 0) ω (half true (contract a ω))
 contract-true a ω = record { lin = λ s. by-ring (contract (rest a) (half true ω) s ∷ ω s ∷ []) (search reads depth 20) (search reads depth 20) tt }
@@ -70,8 +72,10 @@ clifford a b ω (false ∷ s) =
     regroup : (a b c u v w : ℤ) → (u +ℤ a *ℤ (b *ℤ c -ℤ v)) +ℤ (pos 1 *ℤ w +ℤ a *ℤ v) ≡ (u +ℤ w) +ℤ a *ℤ b *ℤ c
     regroup a b c u v w = by-ring (a ∷ b ∷ c ∷ u ∷ v ∷ w ∷ []) (search reads depth 20) (search reads depth 20) tt
 clifford a b ω (true ∷ s) =
-    ap₂ (λ y z. negℤ y +ℤ (head b *ℤ (v +ℤ head a *ℤ ω (true ∷ s)) -ℤ z)) (contract-lin (rest a) (wedge-true b ω) .lin s) (wedge-lin (rest b) (contract-true a ω) .lin s)
-    ∙ regroup (head a) (head b) (ω (true ∷ s)) (contract (rest a) (wedge (rest b) (half true ω)) s) v (wedge (rest b) (contract (rest a) (half true ω)) s) (wedge (rest b) ω s)
+    ap₂ (λ y z. negℤ y +ℤ (head b *ℤ (v +ℤ head a *ℤ ω (true ∷ s)) -ℤ z))
+    (contract-lin (rest a) (wedge-true b ω) .lin s) (wedge-lin (rest b) (contract-true a ω) .lin s)
+    ∙ regroup (head a) (head b) (ω (true ∷ s)) (contract (rest a) (wedge (rest b) (half true ω)) s) v
+    (wedge (rest b) (contract (rest a) (half true ω)) s) (wedge (rest b) ω s)
     ∙ ap (λ z. z +ℤ head a *ℤ head b *ℤ ω (true ∷ s)) (clifford (rest a) (rest b) (half true ω) s)
     ∙ collect (head a *ℤ head b) (dotOn (length s) (rest a) (rest b)) (ω (true ∷ s))
   where
@@ -86,7 +90,8 @@ pub clifford-inner : (m : ℕ) (a b : Vec) (χ ω : Form) → inner m χ (contra
 clifford-inner m a b χ ω =
     by-ring (x ∷ y ∷ []) (search reads depth 20) (search reads depth 20) tt
     ∙ sym (inner-lin m χ sum)
-    ∙ inner-on m χ (λ s. contract a (wedge b ω) s +ℤ wedge b (contract a ω) s) (λ s. dotOn m a b *ℤ ω s) (λ s e. clifford a b ω s ∙ ap (λ n. dotOn n a b *ℤ ω s) e)
+    ∙ inner-on m χ (λ s. contract a (wedge b ω) s +ℤ wedge b (contract a ω) s) (λ s. dotOn m a b *ℤ ω s)
+    (λ s e. clifford a b ω s ∙ ap (λ n. dotOn n a b *ℤ ω s) e)
     ∙ inner-lin m χ multiple
     ∙ by-ring (dotOn m a b ∷ inner m χ ω ∷ []) (search reads depth 20) (search reads depth 20) tt
   where
@@ -134,7 +139,8 @@ pub anti : (a b : Vec) (ω : Form) (s : Index) → wedge a (wedge b ω) s ≡ ne
 anti a b ω [] = refl
 anti a b ω (false ∷ s) = anti (rest a) (rest b) (half false ω) s
 anti a b ω (true ∷ s) =
-    ap (λ z. head a *ℤ x -ℤ z) (wedge-lin (rest a) (wedge-true b ω) .lin s ∙ ap (λ z. head b *ℤ y +ℤ negsuc 0 *ℤ z) (anti (rest a) (rest b) (half true ω) s))
+    ap (λ z. head a *ℤ x -ℤ z) (wedge-lin (rest a) (wedge-true b ω) .lin s)
+    ∙ ap (λ z. head a *ℤ x -ℤ (head b *ℤ y +ℤ negsuc 0 *ℤ z)) (anti (rest a) (rest b) (half true ω) s)
     ∙ regroup (head a) (head b) x y (wedge (rest b) (wedge (rest a) (half true ω)) s)
     ∙ ap (λ z. negℤ (head b *ℤ y -ℤ z)) (sym (wedge-lin (rest b) (wedge-true a ω) .lin s))
   where

@@ -7,6 +7,7 @@ use Prim.Native.Nat.{ℕ, zero, suc}
 use lib.IntN.{ℤ, pos, negℤ, _+ℤ_, _-ℤ_, _*ℤ_, *ℤ-comm, zero-*ℤ, *ℤ-zero}
 use lib.ListN.{length}
 use Rattle.integers.specs.Identity.{by-ring, reads}
+use Rattle.integers.specs.Ring.{*ℤ-assoc}
 use Rattle.lattices.specs.Vector.{Vec, _⊕_, _⊙_}
 use Rattle.lattices.specs.Volume.{Index, Form, head, rest, wedge, inner}
 
@@ -71,7 +72,8 @@ inner-lin zero e {j} {k} {f} {g} p = ap (λ x. e [] *ℤ x) (p .lin []) ∙ regr
     regroup c x y = by-ring (j ∷ k ∷ c ∷ x ∷ y ∷ []) (search reads depth 20) (search reads depth 20) tt
 inner-lin (suc m) e {j} {k} {f} {g} p =
     ap₂ _+ℤ_ (inner-lin m (half false e) (lin-half false p)) (inner-lin m (half true e) (lin-half true p))
-    ∙ regroup (inner m (half false e) (half false f)) (inner m (half false e) (half false g)) (inner m (half true e) (half true f)) (inner m (half true e) (half true g))
+    ∙ regroup (inner m (half false e) (half false f)) (inner m (half false e) (half false g))
+    (inner m (half true e) (half true f)) (inner m (half true e) (half true g))
   where
     regroup : (u v x y : ℤ) → (j *ℤ u +ℤ k *ℤ v) +ℤ (j *ℤ x +ℤ k *ℤ y) ≡ j *ℤ (u +ℤ x) +ℤ k *ℤ (v +ℤ y)
     regroup u v x y = by-ring (j ∷ k ∷ u ∷ v ∷ x ∷ y ∷ []) (search reads depth 20) (search reads depth 20) tt
@@ -86,7 +88,8 @@ inner-on (suc m) f g h p =
 pub inner-zero : (m : ℕ) (f g : Form) → ((s : Index) → length s ≡ m → g s ≡ pos 0) → inner m f g ≡ pos 0
 inner-zero zero f g p = ap (λ x. f [] *ℤ x) (p [] refl) ∙ *ℤ-zero (f [])
 inner-zero (suc m) f g p =
-    ap₂ _+ℤ_ (inner-zero m (half false f) (half false g) (λ s q. p (false ∷ s) (ap suc q))) (inner-zero m (half true f) (half true g) (λ s q. p (true ∷ s) (ap suc q)))
+    ap₂ _+ℤ_ (inner-zero m (half false f) (half false g) (λ s q. p (false ∷ s) (ap suc q)))
+    (inner-zero m (half true f) (half true g) (λ s q. p (true ∷ s) (ap suc q)))
 
 pub inner-comm : (m : ℕ) (f g : Form) → inner m f g ≡ inner m g f
 inner-comm zero f g = *ℤ-comm (f []) (g [])
@@ -102,13 +105,19 @@ inner-linˡ m e {j} {k} {f} {g} {h} p =
 pub record Multiple (k : ℤ) (f g : Form) : Type 0 where
   pub multiple : (s : Index) → g s ≡ k *ℤ f s
 
+pub multiple-of : (k : ℤ) (f : Form) {g : Form} → ((s : Index) → g s ≡ k *ℤ f s) → Multiple k f g
+multiple-of k f p = record { multiple = p }
+
+pub multiple-multiple : {j k : ℤ} {f g h : Form} → Multiple j g h → Multiple k f g → Multiple (j *ℤ k) f h
+multiple-multiple {j} {k} {f} p q = record { multiple = λ s. p .multiple s ∙ ap (λ z. j *ℤ z) (q .multiple s) ∙ sym (*ℤ-assoc j k (f s)) }
+
 lin-of-multiple : {k : ℤ} {f g : Form} → Multiple k f g → Lin k f (pos 0) f g
 lin-of-multiple {k} {f} p =
     record { lin = λ s. p .multiple s ∙ by-ring (k ∷ f s ∷ []) (search reads depth 20) (search reads depth 20) tt }
 
 pub wedge-multiple : (a : Vec) {k : ℤ} {f g : Form} → Multiple k f g → Multiple k (wedge a f) (wedge a g)
 wedge-multiple a {k} {f} p =
-    record { multiple = λ s. wedge-lin a (lin-of-multiple p) .lin s ∙ by-ring (k ∷ wedge a f s ∷ []) (search reads depth 20) (search reads depth 20) tt }
+    record { multiple = λ s. wedge-lin a (lin-of-multiple p) .lin s ∙ by-ring (k ∷ wedge a f s ∷ []) (search reads) (search reads) tt }
 
 pub inner-multiple : (m : ℕ) {k : ℤ} {f g : Form} → Multiple k f g → inner m g g ≡ k *ℤ k *ℤ inner m f f
 inner-multiple m {k} {f} {g} p =
@@ -118,7 +127,7 @@ inner-multiple m {k} {f} {g} p =
     regroup x = by-ring (k ∷ x ∷ []) (search reads depth 20) (search reads depth 20) tt
 
 pub wedge-zero : (a : Vec) (ω : Form) → ((s : Index) → ω s ≡ pos 0) → (s : Index) → wedge a ω s ≡ pos 0
-wedge-zero a ω p s = wedge-multiple a {k = pos 0} {f = ω} (record { multiple = λ t. p t ∙ sym (zero-*ℤ (ω t)) }) .multiple s ∙ zero-*ℤ (wedge a ω s)
+wedge-zero a ω p s = wedge-multiple a (multiple-of (pos 0) ω (λ t. p t ∙ sym (zero-*ℤ (ω t)))) .multiple s ∙ zero-*ℤ (wedge a ω s)
 
 -- ---- linear in the vector: one more term of a combination
 

@@ -36,11 +36,15 @@ hadamard m (b ∷ bs) = ≤ℤ-trans (wedge-bound m b (volume bs)) (*ℤ-mono (N
 
 -- ---- one entry
 
+≤ℤ-add-r : {x y : ℤ} → NN y → x ≤ℤ (x +ℤ y)
+≤ℤ-add-r {x} {y} h = by-nn (x ∷ y ∷ []) h (search reads) (search reads) tt
+
+≤ℤ-add-l : {x y : ℤ} → NN y → x ≤ℤ (y +ℤ x)
+≤ℤ-add-l {x} {y} h = by-nn (x ∷ y ∷ []) h (search reads) (search reads) tt
+
 half-≤ : (c : Bool) (m : ℕ) (f : Form) → inner m (half c f) (half c f) ≤ℤ inner (suc m) f f
-half-≤ false m f =
-    by-nn (inner m (half false f) (half false f) ∷ inner m (half true f) (half true f) ∷ []) (inner-nonneg m (half true f)) (search reads depth 20) (search reads depth 20) tt
-half-≤ true m f =
-    by-nn (inner m (half false f) (half false f) ∷ inner m (half true f) (half true f) ∷ []) (inner-nonneg m (half false f)) (search reads depth 20) (search reads depth 20) tt
+half-≤ false m f = ≤ℤ-add-r (inner-nonneg m (half true f))
+half-≤ true m f = ≤ℤ-add-l (inner-nonneg m (half false f))
 
 pub entry : (f : Form) (s : Index) → (f s *ℤ f s) ≤ℤ inner (length s) f f
 entry f [] = ≤ℤ-refl (f [] *ℤ f [])
@@ -55,15 +59,15 @@ minor bs s = ≤ℤ-trans (entry (volume bs) s) (hadamard (length s) bs)
 pub wedge-entry : (a : Vec) (ω : Form) (s : Index) → (wedge a ω s *ℤ wedge a ω s) ≤ℤ (N a *ℤ inner (length s) ω ω)
 wedge-entry a ω s = ≤ℤ-trans (entry (wedge a ω) s) (wedge-bound (length s) a ω)
 
-rest-≤ : (a : Vec) → N (rest a) ≤ℤ N a
+pub rest-≤ : (a : Vec) → N (rest a) ≤ℤ N a
 unfolding dot
 rest-≤ [] = ≤ℤ-refl (pos 0)
-rest-≤ (x ∷ a) = by-nn (x ∷ N a ∷ []) (nn-sq x) (search reads depth 20) (search reads depth 20) tt
+rest-≤ (x ∷ a) = ≤ℤ-add-l (nn-sq x)
 
-head-≤ : (a : Vec) → (head a *ℤ head a) ≤ℤ N a
+pub head-≤ : (a : Vec) → (head a *ℤ head a) ≤ℤ N a
 unfolding dot
 head-≤ [] = ≤ℤ-refl (pos 0)
-head-≤ (x ∷ a) = by-nn (x ∷ N a ∷ []) (N-nonneg a) (search reads depth 20) (search reads depth 20) tt
+head-≤ (x ∷ a) = ≤ℤ-add-r (N-nonneg a)
 
 pub *ℤ-mono-both : {a b c d : ℤ} → NN a → NN d → a ≤ℤ b → c ≤ℤ d → (a *ℤ c) ≤ℤ (b *ℤ d)
 *ℤ-mono-both {a} {b} {c} {d} p q h k = by-nn (a ∷ b ∷ c ∷ d ∷ []) (le h ⊠ q ⊞ p ⊠ le k) (search reads depth 20) (search reads depth 20) tt
@@ -78,7 +82,9 @@ partial a ω s = ≤ℤ-trans (wedge-entry (rest a) (half true ω) s) (descend t
 
 -- the product that it is subtracted from
 pub term : (a : Vec) (ω : Form) (s : Index) → ((head a *ℤ ω (false ∷ s)) *ℤ (head a *ℤ ω (false ∷ s))) ≤ℤ (N a *ℤ inner (suc (length s)) ω ω)
-term a ω s = subst (λ z. z ≤ℤ (N a *ℤ inner (suc (length s)) ω ω)) (regroup (head a) (ω (false ∷ s))) (*ℤ-mono-both (nn-sq (head a)) (inner-nonneg (suc (length s)) ω) (head-≤ a) (entry ω (false ∷ s)))
+term a ω s =
+    subst (λ z. z ≤ℤ (N a *ℤ inner (suc (length s)) ω ω)) (regroup (head a) (ω (false ∷ s)))
+    (*ℤ-mono-both (nn-sq (head a)) (inner-nonneg (suc (length s)) ω) (head-≤ a) (entry ω (false ∷ s)))
   where
     regroup : (x y : ℤ) → x *ℤ x *ℤ (y *ℤ y) ≡ x *ℤ y *ℤ (x *ℤ y)
     regroup x y = by-ring (x ∷ y ∷ []) (search reads depth 20) (search reads depth 20) tt

@@ -1,5 +1,5 @@
 -- The sizes in numbers: a combination, of squared length at most r²·400,000,000, of at most four independent vectors of squared
--- length at most 400,000,000 has coefficients of at most r·20,000⁴. For a nearest vector r = 2, by `near-≤`.
+-- length at most 400,000,000 has coefficients of at most r·20,000⁴. For a nearest vector r = 2, by `near-le`.
 use mathlib.Core.Path.{_≡_, subst}
 use mathlib.Core.List.{List, [], _∷_}
 use Prim.Native.Nat.{ℕ, zero, suc, _*_, _≤_, _<_}
@@ -42,7 +42,8 @@ module _ (M : ℤ) (one : pos 1 ≤ℤ M) where
   product-≤ (suc n) (b ∷ bs) l h =
       *ℤ-mono-both (N-nonneg b) (power-nonneg n) (h zero) (product-≤ n bs (le-of-suc-le-suc l) (λ i. h (suc i)))
 
-  pub product-put-≤ : (n j : ℕ) (f : ℤ) (v : Vec) (bs : List Vec) → length bs ≤ n → j < length bs → Short M bs → N v ≤ℤ (f *ℤ M) → product (put j v bs) ≤ℤ (f *ℤ power M n)
+  pub product-put-≤ : (n j : ℕ) (f : ℤ) (v : Vec) (bs : List Vec) → length bs ≤ n → j < length bs → Short M bs → N v ≤ℤ (f *ℤ M)
+      → product (put j v bs) ≤ℤ (f *ℤ power M n)
   product-put-≤ n j f v [] l k h b = absurd (not-suc-le-zero k)
   product-put-≤ zero j f v (c ∷ bs) l k h b = absurd (not-suc-le-zero l)
   product-put-≤ (suc n) zero f v (c ∷ bs) l k h b =
@@ -58,7 +59,8 @@ module _ (M : ℤ) (one : pos 1 ≤ℤ M) where
 in-numbers : (z : ℤ) → z *ℤ z *ℤ power (pos 400000000) 4 ≡ z *ℤ pos 160000000000000000 *ℤ (z *ℤ pos 160000000000000000)
 in-numbers z = by-ring (z ∷ []) (search reads depth 20) (search reads depth 20) tt
 
-pub coefficient-≤ : (r m j : ℕ) (x : List ℤ) (bs : List Vec) → length bs ≤ 4 → Short (pos 400000000) bs → pos 0 <ℤ squaredVolume m bs → j < length bs → N (comb x bs) ≤ℤ pos (r * r * 400000000) → natAbs (nth x j) ≤ r * 160000000000000000
+pub coefficient-≤ : (r m j : ℕ) (x : List ℤ) (bs : List Vec) → length bs ≤ 4 → Short (pos 400000000) bs → pos 0 <ℤ squaredVolume m bs
+    → j < length bs → N (comb x bs) ≤ℤ pos (r * r * 400000000) → natAbs (nth x j) ≤ r * 160000000000000000
 coefficient-≤ r m j x bs l h p k b = root (nth x j) (pos (r * 160000000000000000)) squares
   where
     squares : (nth x j *ℤ nth x j) ≤ℤ (pos (r * 160000000000000000) *ℤ pos (r * 160000000000000000))
