@@ -6,14 +6,16 @@ use mathlib.Core.List.{[], _∷_}
 use Prim.Native.Nat.{ℕ, zero, suc}
 use lib.IntN.{ℤ, pos, negsuc, negℤ, _+ℤ_, _-ℤ_, _*ℤ_, pos-ne-negsuc}
 use lib.ListN.{length}
-use lib.Signed.{_≤ℤ_, ≤ℤ-refl}
+use lib.Signed.{_≤ℤ_}
 use Rattle.integers.specs.Identity.{by-ring, reads}
+use Rattle.integers.specs.Ring.{negsuc-zero-*ℤ}
 use Rattle.integers.specs.Order.{+ℤ-mono-r}
 use Rattle.integers.specs.Certificate.{NN, _⊞_, _⊠_, nn-sq, le, eq, by-nn}
 use Rattle.lattices.specs.Vector.{Vec, N, dot}
 use Rattle.lattices.specs.VectorLaws.{N-nonneg}
 use Rattle.lattices.specs.Volume.{Index, Form, head, rest, wedge, inner}
 use Rattle.volumes.specs.Forms.{half, contract, dotOn, Lin, wedge-lin, contract-lin, inner-lin, inner-linˡ, inner-on, inner-comm}
+use Rattle.volumes.specs.Forms.{Multiple, multiple-of, wedge-multiple, inner-scale}
 
 -- ---- the halves of a product and of a contraction, as combinations
 
@@ -25,8 +27,8 @@ contract-false : (a : Vec) (ω : Form) → Lin (pos 1) (contract (rest a) (half 
 contract-false a ω =
     record { lin = λ s. by-ring (contract (rest a) (half false ω) s ∷ head a ∷ ω (true ∷ s) ∷ []) (search reads) (search reads) tt }
 
-contract-true : (a : Vec) (ω : Form) → Lin (negsuc 0) (contract (rest a) (half true ω)) (pos 0) ω (half true (contract a ω))
-contract-true a ω = record { lin = λ s. by-ring (contract (rest a) (half true ω) s ∷ ω s ∷ []) (search reads depth 20) (search reads depth 20) tt }
+contract-true : (a : Vec) (ω : Form) → Multiple (negsuc 0) (contract (rest a) (half true ω)) (half true (contract a ω))
+contract-true a ω = record { multiple = λ s. sym (negsuc-zero-*ℤ (contract (rest a) (half true ω) s)) }
 
 -- ---- adjoint
 
@@ -35,8 +37,8 @@ adjoint zero a ω η = by-ring (η [] ∷ ω [] ∷ []) (search reads) (search r
 adjoint (suc m) a ω η =
     ap₂ _+ℤ_ (adjoint m (rest a) (half false ω) (half false η)) (inner-linˡ m (half true η) (wedge-true a ω))
     ∙ ap (λ z. x +ℤ (head a *ℤ y +ℤ negsuc 0 *ℤ z)) (adjoint m (rest a) (half true ω) (half true η))
-    ∙ regroup (head a) x y (inner m (half true ω) (contract (rest a) (half true η))) (inner m (half true ω) η)
-    ∙ sym (ap₂ _+ℤ_ (inner-lin m (half false ω) (contract-false a η)) (inner-lin m (half true ω) (contract-true a η)))
+    ∙ regroup (head a) x y (inner m (half true ω) (contract (rest a) (half true η)))
+    ∙ sym (ap₂ _+ℤ_ (inner-lin m (half false ω) (contract-false a η)) (inner-scale m (half true ω) (contract-true a η)))
   where
     x : ℤ
     x = inner m (half false ω) (contract (rest a) (half false η))
@@ -44,8 +46,8 @@ adjoint (suc m) a ω η =
     y : ℤ
     y = inner m (half false ω) (half true η)
 
-    regroup : (c x y z w : ℤ) → x +ℤ (c *ℤ y +ℤ negsuc 0 *ℤ z) ≡ (pos 1 *ℤ x +ℤ c *ℤ y) +ℤ (negsuc 0 *ℤ z +ℤ pos 0 *ℤ w)
-    regroup c x y z w = by-ring (c ∷ x ∷ y ∷ z ∷ w ∷ []) (search reads depth 20) (search reads depth 20) tt
+    regroup : (c x y z : ℤ) → x +ℤ (c *ℤ y +ℤ negsuc 0 *ℤ z) ≡ (pos 1 *ℤ x +ℤ c *ℤ y) +ℤ negsuc 0 *ℤ z
+    regroup c x y z = by-ring (c ∷ x ∷ y ∷ z ∷ []) (search reads depth 20) (search reads depth 20) tt
 
 pub adjointʳ : (m : ℕ) (a : Vec) (χ ω : Form) → inner m χ (wedge a ω) ≡ inner m (contract a χ) ω
 adjointʳ m a χ ω = inner-comm m χ (wedge a ω) ∙ adjoint m a ω χ ∙ inner-comm m ω (contract a χ)
@@ -72,28 +74,28 @@ clifford a b ω (false ∷ s) =
     regroup : (a b c u v w : ℤ) → (u +ℤ a *ℤ (b *ℤ c -ℤ v)) +ℤ (pos 1 *ℤ w +ℤ a *ℤ v) ≡ (u +ℤ w) +ℤ a *ℤ b *ℤ c
     regroup a b c u v w = by-ring (a ∷ b ∷ c ∷ u ∷ v ∷ w ∷ []) (search reads depth 20) (search reads depth 20) tt
 clifford a b ω (true ∷ s) =
-    ap₂ (λ y z. negℤ y +ℤ (head b *ℤ (v +ℤ head a *ℤ ω (true ∷ s)) -ℤ z))
-    (contract-lin (rest a) (wedge-true b ω) .lin s) (wedge-lin (rest b) (contract-true a ω) .lin s)
-    ∙ regroup (head a) (head b) (ω (true ∷ s)) (contract (rest a) (wedge (rest b) (half true ω)) s) v
-    (wedge (rest b) (contract (rest a) (half true ω)) s) (wedge (rest b) ω s)
+    ap (λ z. negℤ z +ℤ wedge b (contract a ω) (true ∷ s)) (contract-lin (rest a) (wedge-true b ω) .lin s)
+    ∙ ap (λ z. negℤ (head b *ℤ v +ℤ negsuc 0 *ℤ u) +ℤ (head b *ℤ (v +ℤ head a *ℤ ω (true ∷ s)) -ℤ z)) (wedge-multiple (rest b) (contract-true a ω) .multiple s)
+    ∙ regroup (head a) (head b) (ω (true ∷ s)) u v (wedge (rest b) (contract (rest a) (half true ω)) s)
     ∙ ap (λ z. z +ℤ head a *ℤ head b *ℤ ω (true ∷ s)) (clifford (rest a) (rest b) (half true ω) s)
     ∙ collect (head a *ℤ head b) (dotOn (length s) (rest a) (rest b)) (ω (true ∷ s))
   where
+    u : ℤ
+    u = contract (rest a) (wedge (rest b) (half true ω)) s
+
     v : ℤ
     v = contract (rest a) (half false ω) s
 
-    regroup : (a b c u v w o : ℤ) → negℤ (b *ℤ v +ℤ negsuc 0 *ℤ u) +ℤ (b *ℤ (v +ℤ a *ℤ c) -ℤ (negsuc 0 *ℤ w +ℤ pos 0 *ℤ o)) ≡ (u +ℤ w) +ℤ a *ℤ b *ℤ c
-    regroup a b c u v w o = by-ring (a ∷ b ∷ c ∷ u ∷ v ∷ w ∷ o ∷ []) (search reads depth 20) (search reads depth 20) tt
+    regroup : (a b c u v w : ℤ) → negℤ (b *ℤ v +ℤ negsuc 0 *ℤ u) +ℤ (b *ℤ (v +ℤ a *ℤ c) -ℤ negsuc 0 *ℤ w) ≡ (u +ℤ w) +ℤ a *ℤ b *ℤ c
+    regroup a b c u v w = by-ring (a ∷ b ∷ c ∷ u ∷ v ∷ w ∷ []) (search reads depth 20) (search reads depth 20) tt
 
 -- the same under the inner product with a form
 pub clifford-inner : (m : ℕ) (a b : Vec) (χ ω : Form) → inner m χ (contract a (wedge b ω)) +ℤ inner m χ (wedge b (contract a ω)) ≡ dotOn m a b *ℤ inner m χ ω
 clifford-inner m a b χ ω =
     by-ring (x ∷ y ∷ []) (search reads depth 20) (search reads depth 20) tt
     ∙ sym (inner-lin m χ sum)
-    ∙ inner-on m χ (λ s. contract a (wedge b ω) s +ℤ wedge b (contract a ω) s) (λ s. dotOn m a b *ℤ ω s)
-    (λ s e. clifford a b ω s ∙ ap (λ n. dotOn n a b *ℤ ω s) e)
-    ∙ inner-lin m χ multiple
-    ∙ by-ring (dotOn m a b ∷ inner m χ ω ∷ []) (search reads depth 20) (search reads depth 20) tt
+    ∙ inner-on m χ both (λ s. dotOn m a b *ℤ ω s) (λ s e. clifford a b ω s ∙ ap (λ n. dotOn n a b *ℤ ω s) e)
+    ∙ inner-scale m χ (multiple-of (dotOn m a b) ω (λ s. refl))
   where
     x : ℤ
     x = inner m χ (contract a (wedge b ω))
@@ -101,11 +103,11 @@ clifford-inner m a b χ ω =
     y : ℤ
     y = inner m χ (wedge b (contract a ω))
 
-    sum : Lin (pos 1) (contract a (wedge b ω)) (pos 1) (wedge b (contract a ω)) (λ s. contract a (wedge b ω) s +ℤ wedge b (contract a ω) s)
-    sum = record { lin = λ s. by-ring (contract a (wedge b ω) s ∷ wedge b (contract a ω) s ∷ []) (search reads depth 20) (search reads depth 20) tt }
+    both : Form
+    both s = contract a (wedge b ω) s +ℤ wedge b (contract a ω) s
 
-    multiple : Lin (dotOn m a b) ω (pos 0) ω (λ s. dotOn m a b *ℤ ω s)
-    multiple = record { lin = λ s. by-ring (dotOn m a b ∷ ω s ∷ []) (search reads depth 20) (search reads depth 20) tt }
+    sum : Lin (pos 1) (contract a (wedge b ω)) (pos 1) (wedge b (contract a ω)) both
+    sum = record { lin = λ s. by-ring (contract a (wedge b ω) s ∷ wedge b (contract a ω) s ∷ []) (search reads) (search reads) tt }
 
 pub pythagoras : (m : ℕ) (a : Vec) (ω : Form) → inner m (wedge a ω) (wedge a ω) +ℤ inner m (contract a ω) (contract a ω) ≡ dotOn m a a *ℤ inner m ω ω
 pythagoras m a ω =
@@ -116,10 +118,6 @@ pythagoras m a ω =
 pub inner-nonneg : (m : ℕ) (f : Form) → NN (inner m f f)
 inner-nonneg zero f = nn-sq (f [])
 inner-nonneg (suc m) f = inner-nonneg m (half false f) ⊞ inner-nonneg m (half true f)
-
-dotOn-nonneg : (m : ℕ) (a : Vec) → NN (dotOn m a a)
-dotOn-nonneg zero a = ≤ℤ-refl (pos 0)
-dotOn-nonneg (suc m) a = nn-sq (head a) ⊞ dotOn-nonneg m (rest a)
 
 pub dotOn-≤ : (m : ℕ) (a : Vec) → dotOn m a a ≤ℤ N a
 unfolding dot

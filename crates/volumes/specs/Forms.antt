@@ -72,9 +72,11 @@ inner-lin zero e {j} {k} {f} {g} p = ap (λ x. e [] *ℤ x) (p .lin []) ∙ regr
     regroup c x y = by-ring (j ∷ k ∷ c ∷ x ∷ y ∷ []) (search reads depth 20) (search reads depth 20) tt
 inner-lin (suc m) e {j} {k} {f} {g} p =
     ap₂ _+ℤ_ (inner-lin m (half false e) (lin-half false p)) (inner-lin m (half true e) (lin-half true p))
-    ∙ regroup (inner m (half false e) (half false f)) (inner m (half false e) (half false g))
-    (inner m (half true e) (half true f)) (inner m (half true e) (half true g))
+    ∙ regroup (i false f) (i false g) (i true f) (i true g)
   where
+    i : Bool → Form → ℤ
+    i b ω = inner m (half b e) (half b ω)
+
     regroup : (u v x y : ℤ) → (j *ℤ u +ℤ k *ℤ v) +ℤ (j *ℤ x +ℤ k *ℤ y) ≡ j *ℤ (u +ℤ x) +ℤ k *ℤ (v +ℤ y)
     regroup u v x y = by-ring (j ∷ k ∷ u ∷ v ∷ x ∷ y ∷ []) (search reads depth 20) (search reads depth 20) tt
 
@@ -82,14 +84,8 @@ inner-lin (suc m) e {j} {k} {f} {g} p =
 pub inner-on : (m : ℕ) (f g h : Form) → ((s : Index) → length s ≡ m → g s ≡ h s) → inner m f g ≡ inner m f h
 inner-on zero f g h p = ap (λ x. f [] *ℤ x) (p [] refl)
 inner-on (suc m) f g h p =
-    ap₂ _+ℤ_ (inner-on m (half false f) (half false g) (half false h) (λ s q. p (false ∷ s) (ap suc q)))
-    (inner-on m (half true f) (half true g) (half true h) (λ s q. p (true ∷ s) (ap suc q)))
-
-pub inner-zero : (m : ℕ) (f g : Form) → ((s : Index) → length s ≡ m → g s ≡ pos 0) → inner m f g ≡ pos 0
-inner-zero zero f g p = ap (λ x. f [] *ℤ x) (p [] refl) ∙ *ℤ-zero (f [])
-inner-zero (suc m) f g p =
-    ap₂ _+ℤ_ (inner-zero m (half false f) (half false g) (λ s q. p (false ∷ s) (ap suc q)))
-    (inner-zero m (half true f) (half true g) (λ s q. p (true ∷ s) (ap suc q)))
+    ap (λ z. z +ℤ inner m (half true f) (half true g)) (inner-on m (half false f) (half false g) (half false h) (λ s q. p (false ∷ s) (ap suc q)))
+    ∙ ap (λ z. inner m (half false f) (half false h) +ℤ z) (inner-on m (half true f) (half true g) (half true h) (λ s q. p (true ∷ s) (ap suc q)))
 
 pub inner-comm : (m : ℕ) (f g : Form) → inner m f g ≡ inner m g f
 inner-comm zero f g = *ℤ-comm (f []) (g [])
@@ -119,15 +115,21 @@ pub wedge-multiple : (a : Vec) {k : ℤ} {f g : Form} → Multiple k f g → Mul
 wedge-multiple a {k} {f} p =
     record { multiple = λ s. wedge-lin a (lin-of-multiple p) .lin s ∙ by-ring (k ∷ wedge a f s ∷ []) (search reads) (search reads) tt }
 
+pub inner-scale : (m : ℕ) (e : Form) {k : ℤ} {f g : Form} → Multiple k f g → inner m e g ≡ k *ℤ inner m e f
+inner-scale m e {k} {f} p = inner-lin m e (lin-of-multiple p) ∙ by-ring (k ∷ inner m e f ∷ []) (search reads) (search reads) tt
+
 pub inner-multiple : (m : ℕ) {k : ℤ} {f g : Form} → Multiple k f g → inner m g g ≡ k *ℤ k *ℤ inner m f f
 inner-multiple m {k} {f} {g} p =
-    inner-lin m g (lin-of-multiple p) ∙ ap (λ z. k *ℤ z +ℤ pos 0 *ℤ z) (inner-linˡ m f (lin-of-multiple p)) ∙ regroup (inner m f f)
-  where
-    regroup : (x : ℤ) → k *ℤ (k *ℤ x +ℤ pos 0 *ℤ x) +ℤ pos 0 *ℤ (k *ℤ x +ℤ pos 0 *ℤ x) ≡ k *ℤ k *ℤ x
-    regroup x = by-ring (k ∷ x ∷ []) (search reads depth 20) (search reads depth 20) tt
+    inner-scale m g p ∙ ap (λ z. k *ℤ z) (inner-comm m g f ∙ inner-scale m f p) ∙ sym (*ℤ-assoc k k (inner m f f))
 
 pub wedge-zero : (a : Vec) (ω : Form) → ((s : Index) → ω s ≡ pos 0) → (s : Index) → wedge a ω s ≡ pos 0
 wedge-zero a ω p s = wedge-multiple a (multiple-of (pos 0) ω (λ t. p t ∙ sym (zero-*ℤ (ω t)))) .multiple s ∙ zero-*ℤ (wedge a ω s)
+
+pub inner-zero : (m : ℕ) (f g : Form) → ((s : Index) → length s ≡ m → g s ≡ pos 0) → inner m f g ≡ pos 0
+inner-zero m f g p =
+    inner-on m f g (λ s. pos 0 *ℤ g s) (λ s e. p s e ∙ sym (zero-*ℤ (g s)))
+    ∙ inner-scale m f (multiple-of (pos 0) g (λ s. refl))
+    ∙ zero-*ℤ (inner m f g)
 
 -- ---- linear in the vector: one more term of a combination
 
