@@ -1,6 +1,6 @@
 -- A list is dependent exactly when its volume is zero, so `isDependent` decides `Dependent`; more vectors than coordinates are
 -- dependent. The coefficients of a dependent list are computed, by contraction of its volume.
-use mathlib.Core.Path.{_≡_, refl, sym, ap, ap₂, _∙_, subst}
+use mathlib.Core.Path.{_≡_, refl, sym, ap, ap₂, _∙_}
 use mathlib.Core.Logic.{_≢_, _↔_, _⊎_, inl, inr}
 use mathlib.Core.Bool.{true, false}
 use mathlib.Core.List.{List, [], _∷_}
@@ -14,7 +14,8 @@ use lib.Signed.{leZ, _≤ℤ_, _<ℤ_, clashℤ}
 use Rattle.integers.specs.Identity.{by-ring, by-eq, reads}
 use Rattle.integers.specs.Order.{≤ℤ-trans, ≤ℤ-of-≡, ≤ℤ-antisymm, ≤ℤ-or-<ℤ, zero-or-not, square-pos, leZ-true, leZ-false, ≤ℤ-leZ, <ℤ-leZ}
 use Rattle.integers.specs.Certificate.{NN}
-use Rattle.lattices.specs.Vector.{Vec, N, nth, dot, comb, _⊕_, _⊙_, Zero, Dependent, Independent}
+use Rattle.integers.specs.Lists.{length-⊕, length-⊙}
+use Rattle.lattices.specs.Vector.{Vec, N, nth, dot, comb, _⊙_, Zero, Dependent, Independent}
 use Rattle.lattices.specs.VectorLaws.{N-nonneg}
 use Rattle.lattices.specs.Volume.{Index, Form, head, rest, unit, wedge, volume, inner, squaredVolume, isDependent}
 use Rattle.volumes.specs.Forms.{half, contract, dotOn, dotOn-step, dotOn-nil, Lin, contract-lin, inner-linˡ, inner-zero}
@@ -142,24 +143,12 @@ relation m (b ∷ bs) e = pick (zero-or-not (squaredVolume m bs)) (relation m bs
 
 -- ---- vectors of at most m coordinates are seen whole
 
-length-⊕ : (m : ℕ) (u v : Vec) → length u ≤ m → length v ≤ m → length (u ⊕ v) ≤ m
-unfolding _⊕_
-length-⊕ m [] v h k = k
-length-⊕ m (x ∷ u) [] h k = h
-length-⊕ zero (x ∷ u) (y ∷ v) h k = absurd (not-suc-le-zero h)
-length-⊕ (suc m) (x ∷ u) (y ∷ v) h k = suc-le-suc (length-⊕ m u v (le-of-suc-le-suc h) (le-of-suc-le-suc k))
-
-length-⊙ : (k : ℤ) (u : Vec) → length (k ⊙ u) ≡ length u
-unfolding _⊙_
-length-⊙ k [] = refl
-length-⊙ k (x ∷ u) = ap suc (length-⊙ k u)
-
 pub fit-comb : (m : ℕ) (x : List ℤ) (bs : List Vec) → Fit m bs → length (comb x bs) ≤ m
 unfolding comb
 fit-comb m [] bs h = zero-le
 fit-comb m (x ∷ xs) [] h = zero-le
 fit-comb m (x ∷ xs) (b ∷ bs) h =
-    length-⊕ m (x ⊙ b) (comb xs bs) (subst (λ n. n ≤ m) (sym (length-⊙ x b)) (h zero)) (fit-comb m xs bs (λ i. h (suc i)))
+    omega (arith, length-⊕ (x ⊙ b) (comb xs bs), length-⊙ x b, h zero, fit-comb m xs bs (λ i. h (suc i)))
 
 dotOn-whole : (m : ℕ) (u : Vec) → length u ≤ m → dotOn m u u ≡ N u
 unfolding dot
