@@ -12,7 +12,8 @@ use Rattle.integers.specs.Certificate.{_⊞_, _⊠_, nn-sq, le, lt, eq, by-nn}
 use Rattle.integers.specs.Ring.{pos-one-*ℤ, negsuc-zero-*ℤ}
 use Rattle.lattices.specs.Vector.{Vec, nth, comb, _⊕_, _⊙_}
 use Rattle.lattices.specs.Volume.{Index, Form, wedge, volume, squaredVolume}
-use Rattle.volumes.specs.Forms.{Lin, wedge-lin, wedge-step, wedge-nil, wedge-zero, Multiple, multiple-of, multiple-multiple, wedge-multiple, inner-multiple}
+use Rattle.volumes.specs.Forms.{Lin, wedge-lin, wedge-step, wedge-nil, wedge-zero}
+use Rattle.volumes.specs.Forms.{Multiple, multiple-of, multiple-multiple, wedge-multiple, inner-multiple}
 use Rattle.volumes.specs.Exterior.{anti, square}
 use Rattle.volumes.specs.Hadamard.{product, hadamard}
 
@@ -59,7 +60,8 @@ cramer zero (x ∷ xs) (b ∷ bs) h s =
 cramer (suc j) [] (b ∷ bs) h s = wedge-multiple b (multiple-of (pos 0) (volume bs) (cramer j [] bs (le-of-suc-le-suc h))) .multiple s
 cramer (suc j) (x ∷ xs) (b ∷ bs) h s = before (multiple-of (nth xs j) (volume bs) (cramer j xs bs (le-of-suc-le-suc h)))
   where
-    before : Multiple (nth xs j) (volume bs) (volume (put j (comb xs bs) bs)) → wedge b (volume (put j (x ⊙ b ⊕ comb xs bs) bs)) s ≡ nth xs j *ℤ wedge b (volume bs) s
+    before : Multiple (nth xs j) (volume bs) (volume (put j (comb xs bs) bs))
+        → wedge b (volume (put j (x ⊙ b ⊕ comb xs bs) bs)) s ≡ nth xs j *ℤ wedge b (volume bs) s
     before p =
         wedge-lin b (put-step j x b (comb xs bs) bs (le-of-suc-le-suc h)) .lin s
         ∙ ap₂ (λ y z. x *ℤ y +ℤ pos 1 *ℤ z) (twice j b bs (le-of-suc-le-suc h) s) (wedge-multiple b p .multiple s)
