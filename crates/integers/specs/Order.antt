@@ -198,6 +198,13 @@ square-pos {x = pos zero} f = absurd (f refl)
 square-pos {x = pos (suc n)} f = ltZ-yes (square-suc n)
 square-pos {x = negsuc n} f = ltZ-yes (square-suc n)
 
+pub zero-of-square : (x : ℤ) → (x *ℤ x) ≤ℤ pos 0 → x ≡ pos 0
+zero-of-square x h = pick (zero-or-not x)
+  where
+    pick : (x ≡ pos 0) ⊎ (x ≢ pos 0) → x ≡ pos 0
+    pick (inl e) = e
+    pick (inr f) = clashℤ (square-pos f) h
+
 pub *ℤ-mono : {a b c : ℤ} → pos 0 ≤ℤ c → a ≤ℤ b → (c *ℤ a) ≤ℤ (c *ℤ b)
 *ℤ-mono {a} {b} {c} h k =
     let (n, e) = gap k in

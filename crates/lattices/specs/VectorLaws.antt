@@ -1,16 +1,15 @@
 -- Laws of the inner product and of combinations, for vectors of any length. Two vectors are compared by their inner products with
 -- every vector (`_≈_`): then sums need no word on lengths, and every vector equation is one of integers.
-use mathlib.Core.Path.{_≡_, refl, sym, ap, ap₂, _∙_, subst}
-use mathlib.Core.Logic.{⊎-elim}
+use mathlib.Core.Path.{_≡_, refl, sym, ap, ap₂, _∙_}
 use mathlib.Core.List.{List, [], _∷_, _++_, reverse, reverse-cons}
 use Prim.Native.Nat.{ℕ, zero, suc}
 use lib.IntN.{ℤ, pos, negsuc, _+ℤ_, _*ℤ_, zero-*ℤ, *ℤ-zero, *ℤ-comm, +ℤ-comm, +ℤ-idl, +ℤ-idr}
-use lib.Signed.{_≤ℤ_, _<ℤ_, ≤ℤ-refl, <ℤ-irrefl}
+use lib.Signed.{_≤ℤ_, ≤ℤ-refl}
 use native.Mathlib.Omega.{arith}
 use lib.ListN.{length, length-reverse}
 use Rattle.integers.specs.Ring.{*ℤ-pos-one}
 use Rattle.integers.specs.Identity.{by-ring, reads}
-use Rattle.integers.specs.Order.{≤ℤ-antisymm, ≤ℤ-of-≡, zero-or-not, square-pos}
+use Rattle.integers.specs.Order.{≤ℤ-antisymm, ≤ℤ-of-≡, zero-of-square}
 use Rattle.integers.specs.Certificate.{nn-sq, _⊞_, le, by-nn}
 use Rattle.integers.specs.Lists.{same}
 use Rattle.lattices.specs.Vector.{Vec, N, Zero, nth, dot, _⊕_, _⊙_, _⊖_, comb}
@@ -131,9 +130,6 @@ nth-≈ u v e = record { on = λ w. go u v e w }
 sum-zero : {a b : ℤ} → pos 0 ≤ℤ a → pos 0 ≤ℤ b → a +ℤ b ≡ pos 0 → a ≡ pos 0
 sum-zero {a} {b} h k e = ≤ℤ-antisymm (by-nn (a ∷ b ∷ []) (k ⊞ le (≤ℤ-of-≡ e)) (search reads) (search reads) tt) h
 
-square-zero : (x : ℤ) → x *ℤ x ≡ pos 0 → x ≡ pos 0
-square-zero x e = ⊎-elim (λ z. z) (λ f. absurd (<ℤ-irrefl (subst (λ y. pos 0 <ℤ y) e (square-pos f)))) (zero-or-not x)
-
 -- a vector is zero exactly when its squared length is, and then it is ≈ []
 pub Zero-≈ : (v : Vec) → Zero v → v ≈ []
 Zero-≈ v e = record { on = λ w. zero-dot v e w ∙ sym (nil-dot w) }
@@ -141,11 +137,14 @@ Zero-≈ v e = record { on = λ w. zero-dot v e w ∙ sym (nil-dot w) }
 pub ≈-Zero : {v : Vec} → v ≈ [] → Zero v
 ≈-Zero e i = ≈-nth e i
 
-pub N-Zero : (v : Vec) → N v ≡ pos 0 → Zero v
+pub N-zero : (v : Vec) → Zero v → N v ≡ pos 0
+N-zero v e = zero-dot v e v
+
+pub definite : (v : Vec) → N v ≡ pos 0 → Zero v
 unfolding dot
-N-Zero [] e i = refl
-N-Zero (x ∷ v) e zero = square-zero x (sum-zero (nn-sq x) (N-nonneg v) e)
-N-Zero (x ∷ v) e (suc i) = N-Zero v (sum-zero (N-nonneg v) (nn-sq x) (+ℤ-comm (N v) (x *ℤ x) ∙ e)) i
+definite [] e i = refl
+definite (x ∷ v) e zero = zero-of-square x (≤ℤ-of-≡ (sum-zero (nn-sq x) (N-nonneg v) e))
+definite (x ∷ v) e (suc i) = definite v (sum-zero (N-nonneg v) (nn-sq x) (+ℤ-comm (N v) (x *ℤ x) ∙ e)) i
 
 -- equal lists from ≈
 pub ≈-≡ : (u v : Vec) → length u ≡ length v → u ≈ v → u ≡ v

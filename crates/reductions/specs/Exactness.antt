@@ -23,7 +23,7 @@ comb-full m [] (b ∷ bs) h e s = absurd (omega arith)
 comb-full m (x ∷ xs) (b ∷ bs) h e s = omega (arith, length-⊕ (x ⊙ b) (comb xs bs), length-⊙ x b, h .0, comb-places m xs bs (h .1))
 
 u-exact : (m : ℕ) (bs : List Vec) → Coordinates m bs → 1 ≤ length bs → (rows : List Row) → Every (Sized m (length bs)) rows → Exact bs rows
-        → map (λ u. comb u bs) (map (λ r. r .u) rows) ≡ vectors rows
+    → map (λ u. comb u bs) (map (λ r. r .u) rows) ≡ vectors rows
 u-exact m bs h s [] z e = refl
 u-exact m bs h s (r ∷ rows) z e = ap₂ _∷_
     (≈-≡ (comb (r .u) bs) (r .vector) (comb-full m (r .u) bs h (z .0 .u) s ∙ sym (z .0 .vector)) (e .0)) (u-exact m bs h s rows (z .1) (e .1))
@@ -40,8 +40,8 @@ coordinates-at m (g ∷ gs) h (suc i) k = coordinates-at m gs (h .1) i (omega ar
 
 -- row by row, from row i on, the rows of V give the vectors gs
 v-exact : (m : ℕ) (f : Row → Vec) (gs : List Vec) → Coordinates m gs → (rows : List Row) → Coordinates m (map f rows) → 1 ≤ length rows
-        → ((i : ℕ) (w : Vec) → spread f i rows w ≡ dot (getD gs i []) w) → (i n : ℕ) → i + n ≡ length gs
-        → map (λ x. comb x (map f rows)) (rowsOfV rows i n) ≡ drop i gs
+    → ((i : ℕ) (w : Vec) → spread f i rows w ≡ dot (getD gs i []) w) → (i n : ℕ) → i + n ≡ length gs
+    → map (λ x. comb x (map f rows)) (rowsOfV rows i n) ≡ drop i gs
 v-exact m f gs h rows k s e i zero q = sym (drop-of-length-le gs {i = i} (omega arith))
 v-exact m f gs h rows k s e i (suc n) q =
     ap₂ _∷_ (≈-≡ (comb (rowOfV rows i) (map f rows)) (getD gs i []) places (record { on = λ w. comb-spread f i rows w ∙ e i w }))

@@ -11,6 +11,7 @@ use Rattle.integers.specs.Identity.{by-ring, reads}
 use Rattle.integers.specs.Certificate.{_⊞_, _⊠_, nn-sq, le, lt, eq, by-nn}
 use Rattle.integers.specs.Ring.{pos-one-*ℤ, negsuc-zero-*ℤ}
 use Rattle.lattices.specs.Vector.{Vec, nth, comb, _⊕_, _⊙_}
+use Rattle.lattices.specs.Permutation.{Perm, same, skip, swap, then}
 use Rattle.lattices.specs.Volume.{Index, Form, wedge, volume, squaredVolume}
 use Rattle.volumes.specs.Forms.{Lin, wedge-lin, wedge-step, wedge-nil, wedge-zero}
 use Rattle.volumes.specs.Forms.{Multiple, multiple-of, multiple-multiple, wedge-multiple, inner-multiple}
@@ -84,13 +85,6 @@ pub step-keeps : (m j : ℕ) (x : List ℤ) (bs : List Vec) → j < length bs �
 step-keeps m j x bs h e =
     cramer-sq m j x bs h ∙ ap (λ c. c *ℤ c *ℤ squaredVolume m bs) e ∙ pos-one-*ℤ (squaredVolume m bs)
 
--- one list is a rearrangement of the other
-pub data Perm : List Vec → List Vec → Type 0 where
-  same : (bs : List Vec) → Perm bs bs
-  skip : (b : Vec) {ds cs : List Vec} → Perm ds cs → Perm (b ∷ ds) (b ∷ cs)
-  swap : (b c : Vec) (bs : List Vec) → Perm (b ∷ c ∷ bs) (c ∷ b ∷ bs)
-  then : {ds bs cs : List Vec} → Perm ds bs → Perm bs cs → Perm ds cs
-
 -- the volume of a rearrangement: the same up to the sign
 record Signed (f g : Form) : Type 0 where
   sign : ℤ
@@ -107,7 +101,7 @@ perm-signed (swap b c bs) =
   where
     opposite : Multiple (negsuc 0) (wedge c (wedge b (volume bs))) (wedge b (wedge c (volume bs)))
     opposite = record { multiple = λ s. anti b c (volume bs) s ∙ sym (negsuc-zero-*ℤ (wedge c (wedge b (volume bs)) s)) }
-perm-signed (then {ds} {bs} {cs} p q) = join (perm-signed p) (perm-signed q)
+perm-signed (then {k = ds} {l = bs} {m = cs} p q) = join (perm-signed p) (perm-signed q)
   where
     join : Signed (volume bs) (volume ds) → Signed (volume cs) (volume bs) → Signed (volume cs) (volume ds)
     join u v =

@@ -12,11 +12,11 @@ use lib.IntN.{ℤ, pos, negsuc, negℤ, _+ℤ_, _-ℤ_, _*ℤ_, *ℤ-zero, zero-
 use lib.ListN.{length, getD, List·getD-eq-default}
 use lib.Signed.{leZ, _≤ℤ_, _<ℤ_, clashℤ}
 use Rattle.integers.specs.Identity.{by-ring, by-eq, reads}
-use Rattle.integers.specs.Order.{≤ℤ-trans, ≤ℤ-of-≡, ≤ℤ-antisymm, ≤ℤ-or-<ℤ, zero-or-not, square-pos, leZ-true, leZ-false, ≤ℤ-leZ, <ℤ-leZ}
+use Rattle.integers.specs.Order.{≤ℤ-trans, ≤ℤ-of-≡, ≤ℤ-antisymm, ≤ℤ-or-<ℤ, zero-or-not, zero-of-square, leZ-true, leZ-false, ≤ℤ-leZ, <ℤ-leZ}
 use Rattle.integers.specs.Certificate.{NN}
 use Rattle.integers.specs.Lists.{length-⊕, length-⊙}
 use Rattle.lattices.specs.Vector.{Vec, N, nth, dot, comb, _⊙_, Zero, Dependent, Independent}
-use Rattle.lattices.specs.VectorLaws.{N-nonneg}
+use Rattle.lattices.specs.VectorLaws.{definite, N-zero}
 use Rattle.lattices.specs.Volume.{Index, Form, head, rest, unit, wedge, volume, inner, squaredVolume, isDependent}
 use Rattle.volumes.specs.Forms.{half, contract, dotOn, dotOn-step, dotOn-nil, Lin, contract-lin, inner-linˡ, inner-zero}
 use Rattle.volumes.specs.Exterior.{adjoint, adjointʳ, clifford-inner, inner-nonneg}
@@ -32,23 +32,6 @@ unfolding squaredVolume
 squaredVolume-nonneg m bs = inner-nonneg m (volume bs)
 
 -- ---- what has square zero is zero
-
-pub zero-of-square : (x : ℤ) → (x *ℤ x) ≤ℤ pos 0 → x ≡ pos 0
-zero-of-square x h = pick (zero-or-not x)
-  where
-    pick : (x ≡ pos 0) ⊎ (x ≢ pos 0) → x ≡ pos 0
-    pick (inl e) = e
-    pick (inr f) = clashℤ (square-pos f) h
-
-pub definite : (u : Vec) → N u ≡ pos 0 → Zero u
-definite [] e i = refl
-definite (x ∷ u) e zero = zero-of-square x (≤ℤ-trans (head-≤ (x ∷ u)) (≤ℤ-of-≡ e))
-definite (x ∷ u) e (suc i) = definite u (≤ℤ-antisymm (≤ℤ-trans (rest-≤ (x ∷ u)) (≤ℤ-of-≡ e)) (N-nonneg u)) i
-
-pub N-zero : (u : Vec) → Zero u → N u ≡ pos 0
-unfolding dot
-N-zero [] z = refl
-N-zero (x ∷ u) z = ap₂ (λ a b. a *ℤ a +ℤ b) (z zero) (N-zero u (λ i. z (suc i)))
 
 inner-definite : (m : ℕ) (η ω : Form) → inner m ω ω ≡ pos 0 → inner m η ω ≡ pos 0
 inner-definite m η ω e = inner-zero m η ω (λ s l. zero-of-square (ω s) (≤ℤ-trans (entry ω s) (≤ℤ-of-≡ (ap (λ n. inner n ω ω) l ∙ e))))
