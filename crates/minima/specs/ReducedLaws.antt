@@ -1,20 +1,22 @@
 -- Reduced lists of at most four vectors: how short a combination can be, and that they are independent.
 use mathlib.Core.Path.{_≡_, refl, sym, ap, _∙_, subst}
 use mathlib.Core.Logic.{_≢_, ⊎-elim}
-use mathlib.Core.List.{List, [], _∷_}
+use mathlib.Core.List.{List, [], _∷_, reverse}
 use Prim.Native.Nat.{ℕ, zero, suc, _≤_, _<_}
 use native.Mathlib.Omega.{arith}
+use lib.Dec.{le→leb}
 use lib.IntN.{ℤ, pos, negsuc, natAbs, _+ℤ_, _-ℤ_, _*ℤ_, zero-*ℤ}
-use lib.Signed.{_≤ℤ_, _<ℤ_}
-use lib.ListN.{length, getD}
-use Rattle.integers.specs.Ring.{pos-one-*ℤ, negsuc-zero-*ℤ}
+use lib.Signed.{_≤ℤ_, _<ℤ_, ≤ℤ-refl, <ℤ-irrefl, ltZ-yes, leZ-yes, <ℤ-≤ℤ-trans}
+use lib.ListN.{length, getD, length-reverse}
+use Rattle.integers.specs.Ring.{*ℤ-pos-one, pos-one-*ℤ, negsuc-zero-*ℤ}
 use Rattle.integers.specs.Identity.{by-ring, by-eq, reads}
-use Rattle.integers.specs.Order.{≤ℤ-trans, ≤ℤ-of-<ℤ}
+use Rattle.integers.specs.Order.{≤ℤ-trans, ≤ℤ-of-<ℤ, zero-or-not, *ℤ-cancel-≤}
 use Rattle.integers.specs.Certificate.{NN, _⊞_, _⊠_, nn-sq, nn-pos, le, lt, eq, by-nn}
 use Rattle.integers.specs.Division.{up}
-use Rattle.lattices.specs.Vector.{Vec, N, Zero, nth, dot, comb, _⊕_, _⊙_}
-use Rattle.lattices.specs.VectorLaws.{dot-comm, bilinear, N-nonneg, comb-⊙, comb-cons, _≈_, ≈-refl, ≈-sym, ≈-trans, ≈-⊕, ≈-N}
+use Rattle.lattices.specs.Vector.{Vec, N, Zero, Independent, nth, dot, comb, _⊕_, _⊙_}
+use Rattle.lattices.specs.VectorLaws.{dot-comm, nil-dot, bilinear, N-nonneg, comb-⊙, comb-cons, _≈_, ≈-refl, ≈-sym, ≈-trans, ≈-⊕, ≈-N, zero-dot, N-Zero, Zero-≈, ≈-Zero}
 use Rattle.minima.specs.Rounding.{loss, loss-bound, dent-fourth, round-N}
+use Rattle.minima.specs.Snoc.{N-reverse, comb-reverse}
 use Rattle.minima.specs.Reduced.{Under, Top, Descending, Reduced}
 
 -- ---- signs: s with s·s = 1
@@ -59,3 +61,62 @@ pub pinned : {b : Vec} {bs : List Vec} → Top b bs → length bs ≤ 3 → (x :
 pinned {b} {bs} t l x xs = by-sign (λ x. (x *ℤ x *ℤ N b) ≤ℤ (pos 4 *ℤ N (comb (x ∷ xs) (b ∷ bs))))
     (rw (zero-*ℤ (N b)) (nn-pos 4 ⊠ N-nonneg (comb (pos 0 ∷ xs) (b ∷ bs))))
     (λ k s x e f g. pinned-by t l k s e f xs) x
+
+-- ---- a combination is at least as long as every vector that it uses
+pub first : {b : Vec} {bs : List Vec} → Top b bs → length bs ≤ 3 → (x : ℤ) (xs : List ℤ) → x ≢ pos 0 → N b ≤ℤ N (comb (x ∷ xs) (b ∷ bs))
+unfolding up
+first {b} {bs} t l x xs = by-sign (λ x. x ≢ pos 0 → N b ≤ℤ N (comb (x ∷ xs) (b ∷ bs))) (λ h. absurd (h refl)) one-or-more x
+  where
+    from-two : (d n : ℤ) {x : ℤ} → pos 2 ≤ℤ n → (s : ℤ) → s *ℤ s ≡ pos 1 → x ≡ s *ℤ n → (x *ℤ x *ℤ N b) ≤ℤ (pos 4 *ℤ d) → (pos 4 *ℤ N b) ≤ℤ (pos 4 *ℤ d)
+    from-two d n {x} i s e f h = by-nn (n ∷ s ∷ x ∷ N b ∷ d ∷ [])
+        (le h ⊞ (le i ⊠ (le i ⊞ nn-pos 4)) ⊠ N-nonneg b ⊞ eq (n *ℤ n *ℤ N b) e ⊞ eq ((x +ℤ s *ℤ n) *ℤ N b) f) (search reads depth 20 fits 5000) (search reads depth 20 fits 5000) tt
+
+    one-or-more : (k : ℕ) (s x : ℤ) → s *ℤ s ≡ pos 1 → x ≡ s *ℤ up k → natAbs x ≡ suc k → x ≢ pos 0 → N b ≤ℤ N (comb (x ∷ xs) (b ∷ bs))
+    one-or-more zero s x e f g h =
+        subst (λ x. N b ≤ℤ N (comb (x ∷ xs) (b ∷ bs))) (sym (f ∙ *ℤ-pos-one s)) (subst (λ n. N b ≤ℤ n) (sym (≈-N (comb-cons s xs b bs))) (shortest-signed t s e xs))
+    one-or-more (suc k) s x e f g h = *ℤ-cancel-≤ {c = pos 4} (ltZ-yes tt) (from-two (N (comb (x ∷ xs) (b ∷ bs))) (up (suc k)) (leZ-yes (le→leb 2 (suc (suc k)) (omega arith))) s e f (pinned t l x xs))
+
+skip : {x : ℤ} (xs : List ℤ) (b : Vec) (bs : List Vec) → x ≡ pos 0 → comb (x ∷ xs) (b ∷ bs) ≈ comb xs bs
+skip {x} xs b bs e = ≈-trans (comb-cons x xs b bs)
+    (record { on = λ w. rw e (simp bilinear (by-ring (dot b w ∷ dot (comb xs bs) w ∷ []) (search reads) (search reads) tt)) })
+
+under : {s : ℤ} (bs : List Vec) → Under s bs → NN s → (j : ℕ) → N (getD bs j []) ≤ℤ s
+under [] u n j = rw (nil-dot []) n
+under (b ∷ bs) u n zero = u .0
+under (b ∷ bs) u n (suc j) = under bs (u .1) n j
+
+pub any : (bs : List Vec) → Descending bs → length bs ≤ 4 → (x : List ℤ) (j : ℕ) → nth x j ≢ pos 0 → N (getD bs j []) ≤ℤ N (comb x bs)
+any [] d l x j h = rw (nil-dot []) (N-nonneg (comb x []))
+any (b ∷ bs) d l [] j h = absurd (h refl)
+any (b ∷ bs) d l (x ∷ xs) zero h = first (d .0) (omega arith) x xs h
+any (b ∷ bs) d l (x ∷ xs) (suc j) h = ⊎-elim
+    (λ (e : x ≡ pos 0). rw (≈-N (skip xs b bs e)) (any bs (d .1) (omega arith) xs j h))
+    (λ (f : x ≢ pos 0). ≤ℤ-trans (under bs (d .0 .longest) (N-nonneg b) j) (first (d .0) (omega arith) x xs f))
+    (zero-or-not x)
+
+-- ---- reduced vectors are independent
+leading-zero : {b : Vec} {bs : List Vec} → Top b bs → length bs ≤ 3 → (x : ℤ) (xs : List ℤ) → N (comb (x ∷ xs) (b ∷ bs)) ≡ pos 0 → x ≡ pos 0
+leading-zero {b} t l x xs e = ⊎-elim (λ z. z)
+    (λ f. absurd (<ℤ-irrefl (<ℤ-≤ℤ-trans (t .positive) (subst (λ n. N b ≤ℤ n) e (first t l x xs f))))) (zero-or-not x)
+
+zeros : (bs : List Vec) → Descending bs → length bs ≤ 4 → (x : List ℤ) → length x ≡ length bs → N (comb x bs) ≡ pos 0 → Zero x
+zeros bs d l [] c e i = refl
+zeros [] d l (x ∷ xs) c e i = absurd (omega arith)
+zeros (b ∷ bs) d l (x ∷ xs) c e zero = leading-zero (d .0) (omega arith) x xs e
+zeros (b ∷ bs) d l (x ∷ xs) c e (suc i) =
+    zeros bs (d .1) (omega arith) xs (omega arith) (sym (≈-N (skip xs b bs (leading-zero (d .0) (omega arith) x xs e))) ∙ e) i
+
+pub descending-independent : (bs : List Vec) → Descending bs → length bs ≤ 4 → Independent bs
+descending-independent bs d l v =
+    v .nonzero (zeros bs d l (v .coefficients) (v .count) (zero-dot (comb (v .coefficients) bs) (v .vanishes) (comb (v .coefficients) bs)))
+
+pub independent-reverse : (bs : List Vec) → Independent (reverse bs) → Independent bs
+independent-reverse bs h v = h (record {
+  coefficients = reverse (v .coefficients);
+  count = length-reverse (v .coefficients) ∙ v .count ∙ sym (length-reverse bs);
+  nonzero = λ z. v .nonzero (N-Zero (v .coefficients) (sym (N-reverse (v .coefficients)) ∙ zero-dot (reverse (v .coefficients)) z (reverse (v .coefficients))));
+  vanishes = ≈-Zero (≈-trans (comb-reverse (v .coefficients) bs (v .count)) (Zero-≈ (v .vanishes)));
+})
+
+pub reduced-independent : (bs : List Vec) → Reduced bs → length bs ≤ 4 → Independent bs
+reduced-independent bs d l = independent-reverse bs (descending-independent (reverse bs) d (omega (arith, length-reverse bs)))
