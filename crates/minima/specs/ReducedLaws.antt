@@ -1,7 +1,7 @@
 -- Reduced lists of at most four vectors: how short a combination can be, and that they are independent.
 use mathlib.Core.Path.{_≡_, refl, sym, ap, _∙_, subst}
 use mathlib.Core.Logic.{_≢_, ⊎-elim}
-use mathlib.Core.List.{List, [], _∷_, reverse}
+use mathlib.Core.List.{List, [], _∷_, _++_, reverse, reverse-cons}
 use Prim.Native.Nat.{ℕ, zero, suc, _≤_, _<_}
 use native.Mathlib.Omega.{arith}
 use lib.Dec.{le→leb}
@@ -16,43 +16,45 @@ use Rattle.integers.specs.Division.{up}
 use Rattle.lattices.specs.Vector.{Vec, N, Zero, Independent, nth, dot, comb, _⊕_, _⊙_}
 use Rattle.lattices.specs.VectorLaws.{dot-comm, nil-dot, bilinear, N-nonneg, comb-⊙, comb-cons, _≈_, ≈-refl, ≈-sym, ≈-trans, ≈-⊕, ≈-N, zero-dot, N-Zero, Zero-≈, ≈-Zero}
 use Rattle.minima.specs.Rounding.{loss, loss-bound, dent-fourth, round-N}
-use Rattle.minima.specs.Snoc.{N-reverse, comb-reverse}
+use Rattle.minima.specs.Snoc.{N-reverse, comb-reverse, fit, length-fit, comb-fit}
 use Rattle.minima.specs.Reduced.{Under, Top, Descending, Reduced}
 
--- ---- signs: s with s·s = 1
--- an integer is 0, or it is s·n with n ≥ 1
-pub by-sign : (P : ℤ → Type 0) → P (pos 0) → ((k : ℕ) (s x : ℤ) → s *ℤ s ≡ pos 1 → x ≡ s *ℤ up k → natAbs x ≡ suc k → P x) → (x : ℤ) → P x
+-- ---- signs: 1 and −1
+pub record Sign (s : ℤ) : Type 0 where
+  pub square : s *ℤ s ≡ pos 1
+  pub size : natAbs s ≡ 1
+
+-- an integer is 0, or it is ±n with n ≥ 1
+pub by-sign : (P : ℤ → Type 0) → P (pos 0) → ((k : ℕ) (s x : ℤ) → Sign s → x ≡ s *ℤ up k → natAbs x ≡ suc k → P x) → (x : ℤ) → P x
 unfolding up
 by-sign P z f (pos zero) = z
-by-sign P z f (pos (suc k)) = f k (pos 1) (pos (suc k)) refl (sym (pos-one-*ℤ (pos (suc k)))) refl
-by-sign P z f (negsuc k) = f k (negsuc 0) (negsuc k) refl (sym (negsuc-zero-*ℤ (pos (suc k)))) refl
+by-sign P z f (pos (suc k)) = f k (pos 1) (pos (suc k)) (record { square = refl; size = refl }) (sym (pos-one-*ℤ (pos (suc k)))) refl
+by-sign P z f (negsuc k) = f k (negsuc 0) (negsuc k) (record { square = refl; size = refl }) (sym (negsuc-zero-*ℤ (pos (suc k)))) refl
 
-sign-N : (s : ℤ) (b v : Vec) → s *ℤ s ≡ pos 1 → N (b ⊕ s ⊙ v) ≡ N (s ⊙ b ⊕ v)
+pub sign-⊙ : (n s : ℤ) {x : ℤ} (b : Vec) → x ≡ s *ℤ n → n ⊙ (s ⊙ b) ≈ x ⊙ b
+sign-⊙ n s b e = record { on = λ w. rw e (simp bilinear (by-ring (n ∷ s ∷ dot b w ∷ []) (search reads) (search reads) tt)) }
+
+sign-N : (s : ℤ) (b v : Vec) → Sign s → N (b ⊕ s ⊙ v) ≡ N (s ⊙ b ⊕ v)
 sign-N s b v e = simp (bilinear, dot-comm v b)
-    (by-eq (s ∷ N b ∷ dot b v ∷ N v ∷ []) (N v -ℤ N b) e (search reads depth 20) (search reads depth 20) tt)
+    (by-eq (s ∷ N b ∷ dot b v ∷ N v ∷ []) (N v -ℤ N b) (e .square) (search reads depth 20) (search reads depth 20) tt)
 
 -- no combination shortens −b either
-pub shortest-signed : {b : Vec} {bs : List Vec} → Top b bs → (s : ℤ) → s *ℤ s ≡ pos 1 → (z : List ℤ) → N b ≤ℤ N (s ⊙ b ⊕ comb z bs)
+pub shortest-signed : {b : Vec} {bs : List Vec} → Top b bs → (s : ℤ) → Sign s → (z : List ℤ) → N b ≤ℤ N (s ⊙ b ⊕ comb z bs)
 shortest-signed {b} {bs} t s e z = subst (λ n. N b ≤ℤ n) (≈-N (≈-⊕ (≈-refl {u = b}) (comb-⊙ s z bs)) ∙ sign-N s b (comb z bs) e) (t .shortest (s ⊙ z))
 
 -- n²·N(b) ≤ N(±n·b + …) + loss
-pub rounded : {b : Vec} {bs : List Vec} → Top b bs → (k : ℕ) (s : ℤ) → s *ℤ s ≡ pos 1 → (xs : List ℤ) → (up k *ℤ up k *ℤ N b) ≤ℤ (N (up k ⊙ (s ⊙ b) ⊕ comb xs bs) +ℤ loss k xs bs)
+pub rounded : {b : Vec} {bs : List Vec} → Top b bs → (k : ℕ) (s : ℤ) → Sign s → (xs : List ℤ) → (up k *ℤ up k *ℤ N b) ≤ℤ (N (up k ⊙ (s ⊙ b) ⊕ comb xs bs) +ℤ loss k xs bs)
 rounded {b} {bs} t k s e xs = round-N k (N b) xs bs (s ⊙ b) (shortest-signed t s e)
-
-scaled : (k : ℕ) (s : ℤ) {x : ℤ} (b : Vec) → x ≡ s *ℤ up k → (xs : List ℤ) (bs : List Vec) → up k ⊙ (s ⊙ b) ⊕ comb xs bs ≈ comb (x ∷ xs) (b ∷ bs)
-scaled k s {x} b e xs bs = ≈-trans
-    (≈-⊕ (record { on = λ w. rw e (simp bilinear (by-ring (up k ∷ s ∷ dot b w ∷ []) (search reads) (search reads) tt)) }) ≈-refl)
-    (≈-sym (comb-cons x xs b bs))
 
 -- At most three vectors below b, so 4·loss ≤ 3·n²·N(b) and a quarter of n²·N(b) is left. With four below (five in all) the bound is
 -- 4·loss ≤ 4·n²·N(b), nothing is left, and the argument stops: this is why five vectors are not sold.
-pinned-by : {b : Vec} {bs : List Vec} {x : ℤ} → Top b bs → length bs ≤ 3 → (k : ℕ) (s : ℤ) → s *ℤ s ≡ pos 1 → x ≡ s *ℤ up k → (xs : List ℤ) → (x *ℤ x *ℤ N b) ≤ℤ (pos 4 *ℤ N (comb (x ∷ xs) (b ∷ bs)))
+pinned-by : {b : Vec} {bs : List Vec} {x : ℤ} → Top b bs → length bs ≤ 3 → (k : ℕ) (s : ℤ) → Sign s → x ≡ s *ℤ up k → (xs : List ℤ) → (x *ℤ x *ℤ N b) ≤ℤ (pos 4 *ℤ N (comb (x ∷ xs) (b ∷ bs)))
 pinned-by {b} {bs} {x} t l k s e f xs = subst (λ y. (y *ℤ y *ℤ N b) ≤ℤ (pos 4 *ℤ N (comb (x ∷ xs) (b ∷ bs)))) (sym f)
     (by-nn (up k ∷ s ∷ N b ∷ N (comb (x ∷ xs) (b ∷ bs)) ∷ loss k xs bs ∷ [])
-    (nn-pos 4 ⊠ le high ⊞ le low ⊞ eq (pos 0 -ℤ up k *ℤ up k *ℤ N b) e) (search reads depth 20 fits 5000) (search reads depth 20 fits 5000) tt)
+    (nn-pos 4 ⊠ le high ⊞ le low ⊞ eq (pos 0 -ℤ up k *ℤ up k *ℤ N b) (e .square)) (search reads depth 20 fits 5000) (search reads depth 20 fits 5000) tt)
   where
     high : (up k *ℤ up k *ℤ N b) ≤ℤ (N (comb (x ∷ xs) (b ∷ bs)) +ℤ loss k xs bs)
-    high = subst (λ y. (up k *ℤ up k *ℤ N b) ≤ℤ (y +ℤ loss k xs bs)) (≈-N (scaled k s b f xs bs)) (rounded t k s e xs)
+    high = subst (λ y. (up k *ℤ up k *ℤ N b) ≤ℤ (y +ℤ loss k xs bs)) (≈-N (≈-trans (≈-⊕ (sign-⊙ (up k) s b f) ≈-refl) (≈-sym (comb-cons x xs b bs)))) (rounded t k s e xs)
 
     low : (pos 4 *ℤ loss k xs bs) ≤ℤ (pos 3 *ℤ (up k *ℤ up k *ℤ N b))
     low = loss-bound (pos 4) k 3 (dent-fourth k) (nn-sq (up k)) (N-nonneg b) xs bs (t .longest) l
@@ -71,10 +73,10 @@ first {b} {bs} t l x xs = by-sign (λ x. x ≢ pos 0 → N b ≤ℤ N (comb (x �
     from-two d n {x} i s e f h = by-nn (n ∷ s ∷ x ∷ N b ∷ d ∷ [])
         (le h ⊞ (le i ⊠ (le i ⊞ nn-pos 4)) ⊠ N-nonneg b ⊞ eq (n *ℤ n *ℤ N b) e ⊞ eq ((x +ℤ s *ℤ n) *ℤ N b) f) (search reads depth 20 fits 5000) (search reads depth 20 fits 5000) tt
 
-    one-or-more : (k : ℕ) (s x : ℤ) → s *ℤ s ≡ pos 1 → x ≡ s *ℤ up k → natAbs x ≡ suc k → x ≢ pos 0 → N b ≤ℤ N (comb (x ∷ xs) (b ∷ bs))
+    one-or-more : (k : ℕ) (s x : ℤ) → Sign s → x ≡ s *ℤ up k → natAbs x ≡ suc k → x ≢ pos 0 → N b ≤ℤ N (comb (x ∷ xs) (b ∷ bs))
     one-or-more zero s x e f g h =
         subst (λ x. N b ≤ℤ N (comb (x ∷ xs) (b ∷ bs))) (sym (f ∙ *ℤ-pos-one s)) (subst (λ n. N b ≤ℤ n) (sym (≈-N (comb-cons s xs b bs))) (shortest-signed t s e xs))
-    one-or-more (suc k) s x e f g h = *ℤ-cancel-≤ {c = pos 4} (ltZ-yes tt) (from-two (N (comb (x ∷ xs) (b ∷ bs))) (up (suc k)) (leZ-yes (le→leb 2 (suc (suc k)) (omega arith))) s e f (pinned t l x xs))
+    one-or-more (suc k) s x e f g h = *ℤ-cancel-≤ {c = pos 4} (ltZ-yes tt) (from-two (N (comb (x ∷ xs) (b ∷ bs))) (up (suc k)) (leZ-yes (le→leb 2 (suc (suc k)) (omega arith))) s (e .square) f (pinned t l x xs))
 
 skip : {x : ℤ} (xs : List ℤ) (b : Vec) (bs : List Vec) → x ≡ pos 0 → comb (x ∷ xs) (b ∷ bs) ≈ comb xs bs
 skip {x} xs b bs e = ≈-trans (comb-cons x xs b bs)
@@ -120,3 +122,22 @@ independent-reverse bs h v = h (record {
 
 pub reduced-independent : (bs : List Vec) → Reduced bs → length bs ≤ 4 → Independent bs
 reduced-independent bs d l = independent-reverse bs (descending-independent (reverse bs) d (omega (arith, length-reverse bs)))
+
+-- ---- a vector above a list is above the reversed list: the order of the list below it does not count
+under-snoc : (s : ℤ) (b : Vec) (bs : List Vec) → Under s (bs ++ (b ∷ [])) → Under s (b ∷ bs)
+under-snoc s b [] u = u
+under-snoc s b (c ∷ bs) u = let v = under-snoc s b bs (u .1) in (v .0, (u .0, v .1))
+
+under-reverse : (s : ℤ) (bs : List Vec) → Under s (reverse bs) → Under s bs
+under-reverse s [] u = tt
+under-reverse s (b ∷ bs) u = let v = under-snoc s b (reverse bs) (subst (Under s) (reverse-cons b bs) u) in (v .0, under-reverse s bs (v .1))
+
+pub top-reverse : {b : Vec} (bs : List Vec) → Top b (reverse bs) → Top b bs
+top-reverse {b} bs t = record {
+  positive = t .positive;
+  longest = under-reverse (N b) bs (t .longest);
+  shortest = λ z. subst (λ n. N b ≤ℤ n) (≈-N (≈-⊕ ≈-refl (turned z))) (t .shortest (reverse (fit (length bs) z)));
+}
+  where
+    turned : (z : List ℤ) → comb (reverse (fit (length bs) z)) (reverse bs) ≈ comb z bs
+    turned z = ≈-trans (comb-reverse (fit (length bs) z) bs (length-fit (length bs) z)) (comb-fit (length bs) z bs refl)

@@ -5,6 +5,7 @@ use Prim.Native.Nat.{ℕ, zero, suc}
 use native.Mathlib.Omega.{arith}
 use lib.IntN.{ℤ, pos, _+ℤ_, _*ℤ_, zero-*ℤ, *ℤ-zero, +ℤ-comm, +ℤ-assoc}
 use lib.ListN.{length, drop, length-reverse}
+use Rattle.integers.specs.Ring.{+ℤ-left-comm}
 use Rattle.integers.specs.Identity.{by-ring, reads}
 use Rattle.lattices.specs.Vector.{Vec, N, nth, dot, comb, _⊕_, _⊙_}
 use Rattle.lattices.specs.VectorLaws.{dot-comm, dot-nil, nil-dot, bilinear, comb-dot, comb-cons, against, unit, nth-dot, _≈_, ≈-refl, ≈-sym, ≈-trans, ≈-of-≡, ≈-⊕}
@@ -18,21 +19,21 @@ dot-snoc (x ∷ xs) j [] = by-ring (j ∷ []) (search reads) (search reads) tt
 dot-snoc (x ∷ xs) j (y ∷ w) = ap (λ n. x *ℤ y +ℤ n) (dot-snoc xs j w) ∙ sym (+ℤ-assoc (x *ℤ y) (dot xs w) (j *ℤ nth w (length xs)))
 
 -- it is a multiple of a unit list
-pub snoc-≈ : (x : List ℤ) (j : ℤ) → x ++ (j ∷ []) ≈ x ⊕ j ⊙ unit (length x)
-snoc-≈ x j = record { on = λ w. dot-snoc x j w ∙ ap (λ n. dot x w +ℤ j *ℤ n) (nth-dot w (length x) ∙ dot-comm w (unit (length x))) ∙ sym (simp bilinear) }
+pub snoc-≈ : (x : List ℤ) (j : ℤ) {m : ℕ} → length x ≡ m → x ++ (j ∷ []) ≈ j ⊙ unit m ⊕ x
+snoc-≈ x j {m} e = record { on = λ w. dot-snoc x j w ∙ ap (λ n. dot x w +ℤ j *ℤ n) (ap (nth w) e ∙ nth-dot w m ∙ dot-comm w (unit m)) ∙ +ℤ-comm (dot x w) (j *ℤ dot (unit m) w) ∙ sym (simp bilinear) }
 
 N-snoc : (x : List ℤ) (j : ℤ) → N (x ++ (j ∷ [])) ≡ N x +ℤ j *ℤ j
 unfolding dot
 N-snoc [] j = +ℤ-comm (j *ℤ j) (pos 0)
 N-snoc (x ∷ xs) j = ap (λ n. x *ℤ x +ℤ n) (N-snoc xs j) ∙ sym (+ℤ-assoc (x *ℤ x) (N xs) (j *ℤ j))
 
-pub comb-snoc : (x : List ℤ) (bs : List Vec) (j : ℤ) (b : Vec) → length x ≡ length bs → comb (x ++ (j ∷ [])) (bs ++ (b ∷ [])) ≈ comb x bs ⊕ j ⊙ b
-comb-snoc [] [] j b e = ≈-trans (comb-cons j [] b []) (record { on = λ w. simp (bilinear, comb-dot, nil-dot) (+ℤ-comm (j *ℤ dot b w) (pos 0)) })
+pub comb-snoc : (x : List ℤ) (bs : List Vec) (j : ℤ) (b : Vec) → length x ≡ length bs → comb (x ++ (j ∷ [])) (bs ++ (b ∷ [])) ≈ j ⊙ b ⊕ comb x bs
+comb-snoc [] [] j b e = comb-cons j [] b []
 comb-snoc [] (c ∷ bs) j b e = absurd (omega arith)
 comb-snoc (x ∷ xs) [] j b e = absurd (omega arith)
 comb-snoc (x ∷ xs) (c ∷ bs) j b e = ≈-trans (comb-cons x (xs ++ (j ∷ [])) c (bs ++ (b ∷ [])))
     (≈-trans (≈-⊕ ≈-refl (comb-snoc xs bs j b (omega arith)))
-    (≈-trans (record { on = λ w. simp (bilinear, +ℤ-assoc) }) (≈-⊕ (≈-sym (comb-cons x xs c bs)) ≈-refl)))
+    (≈-trans (record { on = λ w. simp bilinear (+ℤ-left-comm (x *ℤ dot c w) (j *ℤ dot b w) (dot (comb xs bs) w)) }) (≈-⊕ ≈-refl (≈-sym (comb-cons x xs c bs)))))
 
 -- ---- reversed lists
 pub N-reverse : (x : List ℤ) → N (reverse x) ≡ N x
@@ -45,14 +46,18 @@ comb-reverse [] bs e = record { on = λ w. simp (comb-dot, nil-dot) }
 comb-reverse (x ∷ xs) [] e = absurd (omega arith)
 comb-reverse (x ∷ xs) (b ∷ bs) e = ≈-trans (≈-of-≡ (ap₂ comb (reverse-cons x xs) (reverse-cons b bs)))
     (≈-trans (comb-snoc (reverse xs) (reverse bs) x b (length-reverse xs ∙ omega arith ∙ sym (length-reverse bs)))
-    (≈-trans (≈-⊕ (comb-reverse xs bs (omega arith)) ≈-refl)
-    (≈-trans (record { on = λ w. simp bilinear (+ℤ-comm (dot (comb xs bs) w) (x *ℤ dot b w)) }) (≈-sym (comb-cons x xs b bs)))))
+    (≈-trans (≈-⊕ ≈-refl (comb-reverse xs bs (omega arith))) (≈-sym (comb-cons x xs b bs))))
 
 -- ---- a coefficient list as the combination of unit lists
 -- unit i, unit (i + 1), …
 unfoldable pub units : ℕ → ℕ → List Vec
 units i zero = []
 units i (suc m) = unit i ∷ units (suc i) m
+
+length-units : (i m : ℕ) → length (units i m) ≡ m
+unfolding units
+length-units i zero = refl
+length-units i (suc m) = ap suc (length-units (suc i) m)
 
 dot-drop : (x : ℤ) (z : List ℤ) (i : ℕ) (w : Vec) → x *ℤ nth w i +ℤ dot z (drop (suc i) w) ≡ dot (x ∷ z) (drop i w)
 unfolding dot
@@ -95,5 +100,9 @@ length-against [] w = refl
 length-against (b ∷ bs) w = ap suc (length-against bs w)
 
 -- it has the same combinations of m vectors
-pub comb-fit : (z : List ℤ) (bs : List Vec) → comb (fit (length bs) z) bs ≈ comb z bs
-comb-fit z bs = record { on = λ w. comb-dot (fit (length bs) z) bs w ∙ dot-fit (length bs) z (against bs w) (length-against bs w) ∙ sym (comb-dot z bs w) }
+pub comb-fit : (m : ℕ) (z : List ℤ) (bs : List Vec) → length bs ≡ m → comb (fit m z) bs ≈ comb z bs
+comb-fit m z bs e = record { on = λ w. comb-dot (fit m z) bs w ∙ dot-fit m z (against bs w) (length-against bs w ∙ e) ∙ sym (comb-dot z bs w) }
+
+-- so the unit lists give it back
+pub fit-units : (m : ℕ) (z : List ℤ) → fit m z ≈ comb z (units 0 m)
+fit-units m z = ≈-trans (≈-sym (comb-units (fit m z) m (length-fit m z))) (comb-fit m z (units 0 m) (length-units 0 m))
