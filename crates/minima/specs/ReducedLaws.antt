@@ -4,9 +4,8 @@ use mathlib.Core.Logic.{_≢_, ⊎-elim}
 use mathlib.Core.List.{List, [], _∷_, _++_, reverse, reverse-cons}
 use Prim.Native.Nat.{ℕ, zero, suc, _≤_, _<_}
 use native.Mathlib.Omega.{arith}
-use lib.Dec.{le→leb}
 use lib.IntN.{ℤ, pos, negsuc, natAbs, _+ℤ_, _-ℤ_, _*ℤ_, zero-*ℤ}
-use lib.Signed.{_≤ℤ_, _<ℤ_, ≤ℤ-refl, <ℤ-irrefl, ltZ-yes, leZ-yes, <ℤ-≤ℤ-trans}
+use lib.Signed.{_≤ℤ_, _<ℤ_, ≤ℤ-refl, <ℤ-irrefl, ltZ-yes, <ℤ-≤ℤ-trans}
 use lib.ListN.{length, getD, length-reverse}
 use Rattle.integers.specs.Ring.{*ℤ-pos-one, pos-one-*ℤ, negsuc-zero-*ℤ}
 use Rattle.integers.specs.Identity.{by-ring, by-eq, reads}
@@ -15,7 +14,7 @@ use Rattle.integers.specs.Certificate.{NN, _⊞_, _⊠_, nn-sq, nn-pos, le, lt,
 use Rattle.integers.specs.Division.{up}
 use Rattle.lattices.specs.Vector.{Vec, N, Zero, Independent, nth, dot, comb, _⊕_, _⊙_}
 use Rattle.lattices.specs.VectorLaws.{dot-comm, nil-dot, bilinear, N-nonneg, comb-⊙, comb-cons, _≈_, ≈-refl, ≈-sym, ≈-trans, ≈-⊕, ≈-N, zero-dot, N-Zero, Zero-≈, ≈-Zero}
-use Rattle.minima.specs.Rounding.{loss, loss-bound, dent-fourth, round-N}
+use Rattle.minima.specs.Rounding.{≤-up, loss, loss-bound, dent-fourth, round-N}
 use Rattle.minima.specs.Snoc.{N-reverse, comb-reverse, fit, length-fit, comb-fit}
 use Rattle.minima.specs.Reduced.{Under, Top, Descending, Reduced}
 
@@ -76,7 +75,7 @@ first {b} {bs} t l x xs = by-sign (λ x. x ≢ pos 0 → N b ≤ℤ N (comb (x �
     one-or-more : (k : ℕ) (s x : ℤ) → Sign s → x ≡ s *ℤ up k → natAbs x ≡ suc k → x ≢ pos 0 → N b ≤ℤ N (comb (x ∷ xs) (b ∷ bs))
     one-or-more zero s x e f g h =
         subst (λ x. N b ≤ℤ N (comb (x ∷ xs) (b ∷ bs))) (sym (f ∙ *ℤ-pos-one s)) (subst (λ n. N b ≤ℤ n) (sym (≈-N (comb-cons s xs b bs))) (shortest-signed t s e xs))
-    one-or-more (suc k) s x e f g h = *ℤ-cancel-≤ {c = pos 4} (ltZ-yes tt) (from-two (N (comb (x ∷ xs) (b ∷ bs))) (up (suc k)) (leZ-yes (le→leb 2 (suc (suc k)) (omega arith))) s (e .square) f (pinned t l x xs))
+    one-or-more (suc k) s x e f g h = *ℤ-cancel-≤ {c = pos 4} (ltZ-yes tt) (from-two (N (comb (x ∷ xs) (b ∷ bs))) (up (suc k)) (≤-up 2 (suc k) (omega arith)) s (e .square) f (pinned t l x xs))
 
 skip : {x : ℤ} (xs : List ℤ) (b : Vec) (bs : List Vec) → x ≡ pos 0 → comb (x ∷ xs) (b ∷ bs) ≈ comb xs bs
 skip {x} xs b bs e = ≈-trans (comb-cons x xs b bs)

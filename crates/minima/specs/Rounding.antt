@@ -5,8 +5,9 @@ use mathlib.Core.Logic.{⊎-elim, inr}
 use mathlib.Core.List.{List, [], _∷_, tail}
 use Prim.Native.Nat.{ℕ, zero, suc, _≤_}
 use native.Mathlib.Omega.{arith}
+use lib.Dec.{le→leb}
 use lib.IntN.{ℤ, pos, negℤ, _+ℤ_, _-ℤ_, _*ℤ_, zero-*ℤ, *ℤ-zero, +ℤ-one, +ℤ-idl, +ℤ-assoc}
-use lib.Signed.{_≤ℤ_, _<ℤ_, ltZ-yes}
+use lib.Signed.{_≤ℤ_, _<ℤ_, ltZ-yes, leZ-yes}
 use lib.ListN.{length, getD}
 use Rattle.integers.specs.Identity.{by-ring, by-eq, reads}
 use Rattle.integers.specs.Order.{≤ℤ-of-<ℤ, ≤ℤ-of-≡, ≤ℤ-antisymm, ≤ℤ-or-<ℤ, *ℤ-cancel-≤}
@@ -23,6 +24,11 @@ use Rattle.minima.specs.Reduced.{Under}
 pub interpolate : (n r : ℤ) (p b : Vec) → (n -ℤ r) *ℤ N p +ℤ r *ℤ N (p ⊕ n ⊙ b) ≡ n *ℤ N (p ⊕ r ⊙ b) +ℤ n *ℤ (r *ℤ (n -ℤ r) *ℤ N b)
 interpolate n r p b =
     simp (bilinear, dot-comm b p) (by-ring (n ∷ r ∷ N p ∷ dot p b ∷ N b ∷ []) (search reads depth 20 fits 5000) (search reads depth 20 fits 5000) tt)
+
+-- a lower bound of the divisor
+pub ≤-up : (m k : ℕ) → m ≤ suc k → pos m ≤ℤ up k
+unfolding up
+≤-up m k h = leZ-yes (le→leb m (suc k) h)
 
 -- ---- what is lost when a coefficient is rounded to multiples of n = up k
 -- of one coefficient: (w mod n)·(n − w mod n)
@@ -81,29 +87,31 @@ loss-bound a {e} {t} k (suc m) h p q (w ∷ ws) (b ∷ bs) u l =
 pub record Above (r : Vec) (m : ℤ) (y : Vec) (x : List ℤ) : Type 0 where
   pub nonneg : Nonneg ((gain r y +ℤ m) ∷ x)
 
-pub above-≈ : {r y y′ : Vec} {m : ℤ} {x x′ : List ℤ} → y ≈ y′ → x ≈ x′ → Above r m y x → Above r m y′ x′
-unfolding gain
-above-≈ {r} {y} {y′} {m} {x} {x′} e f p = record { nonneg = nonneg-ext ((gain r y +ℤ m) ∷ x) ((gain r y′ +ℤ m) ∷ x′) same (p .nonneg) }
-  where
-    same : (i : ℕ) → nth ((gain r y +ℤ m) ∷ x) i ≡ nth ((gain r y′ +ℤ m) ∷ x′) i
-    same zero = ap₂ (λ a b. a -ℤ pos 2 *ℤ b +ℤ m) (≈-N e) (e .on r)
-    same (suc i) = ≈-nth f i
-
 twice-⊙ : {n : ℤ} (a : ℤ) (x : List ℤ) → pos 0 <ℤ n → Nonneg (a ∷ x) → Nonneg ((n *ℤ (n *ℤ a)) ∷ (n ⊙ x))
 unfolding _⊙_
 twice-⊙ {n} a x h p = nonneg-scale (n *ℤ a) (n ⊙ x) h (nonneg-⊙ (a ∷ x) (≤ℤ-of-<ℤ h) p)
 
+pub nonneg-≈ : {a a′ : ℤ} (u u′ : List ℤ) → a ≡ a′ → u ≈ u′ → Nonneg (a ∷ u) → Nonneg (a′ ∷ u′)
+nonneg-≈ {a} {a′} u u′ e f p = nonneg-ext (a ∷ u) (a′ ∷ u′) entry p
+  where
+    entry : (i : ℕ) → nth (a ∷ u) i ≡ nth (a′ ∷ u′) i
+    entry zero = e
+    entry (suc i) = ≈-nth f i
+
+pub gain-≈ : (r : Vec) {y y′ : Vec} → y ≈ y′ → gain r y ≡ gain r y′
+unfolding gain
+gain-≈ r e = ap₂ (λ a b. a -ℤ pos 2 *ℤ b) (≈-N e) (e .on r)
+
+pub above-≈ : {r y y′ : Vec} {m : ℤ} {x x′ : List ℤ} → y ≈ y′ → x ≈ x′ → Above r m y x → Above r m y′ x′
+above-≈ {r} {m} {x} {x′} e f p = record { nonneg = nonneg-≈ x x′ (ap (λ a. a +ℤ m) (gain-≈ r e)) f (p .nonneg) }
+
 -- everything n times as large
 above-⊙ : {r c : Vec} {m : ℤ} {x : List ℤ} (n : ℤ) → pos 0 <ℤ n → Above r m c x → Above (n ⊙ r) (n *ℤ n *ℤ m) (n ⊙ c) (n ⊙ x)
 unfolding gain
-above-⊙ {r} {c} {m} {x} n h p = record {
-  nonneg = nonneg-ext ((n *ℤ (n *ℤ (gain r c +ℤ m))) ∷ (n ⊙ x)) ((gain (n ⊙ r) (n ⊙ c) +ℤ n *ℤ n *ℤ m) ∷ (n ⊙ x)) same
-      (twice-⊙ (gain r c +ℤ m) x h (p .nonneg));
-}
+above-⊙ {r} {c} {m} {x} n h p = record { nonneg = nonneg-≈ (n ⊙ x) (n ⊙ x) number ≈-refl (twice-⊙ (gain r c +ℤ m) x h (p .nonneg)) }
   where
-    same : (i : ℕ) → nth ((n *ℤ (n *ℤ (gain r c +ℤ m))) ∷ (n ⊙ x)) i ≡ nth ((gain (n ⊙ r) (n ⊙ c) +ℤ n *ℤ n *ℤ m) ∷ (n ⊙ x)) i
-    same zero = simp bilinear (by-ring (n ∷ N c ∷ dot c r ∷ m ∷ []) (search reads depth 20 fits 5000) (search reads depth 20 fits 5000) tt)
-    same (suc i) = refl
+    number : n *ℤ (n *ℤ (gain r c +ℤ m)) ≡ gain (n ⊙ r) (n ⊙ c) +ℤ n *ℤ n *ℤ m
+    number = simp bilinear (by-ring (n ∷ N c ∷ dot c r ∷ m ∷ []) (search reads depth 20 fits 5000) (search reads depth 20 fits 5000) tt)
 
 -- a mean of two lists, by entries
 mean : {n a : ℤ} (u v t : List ℤ) → pos 0 <ℤ n → NN a → a ≤ℤ n → ((i : ℕ) → (n -ℤ a) *ℤ nth u i +ℤ a *ℤ nth v i ≡ n *ℤ nth t i) → Nonneg u → Nonneg v → Nonneg t
