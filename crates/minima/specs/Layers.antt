@@ -1,25 +1,23 @@
 -- Nearest among four reduced vectors by layers of the last: if no list with a last coefficient from −2 to 2 lies below, none at all does.
 -- Coefficient lists stand shortest vector first, so a layer is x ++ (j ∷ []) with j fixed.
-use mathlib.Core.Path.{_≡_, refl, sym, ap, _∙_, subst}
-use mathlib.Core.Logic.{⊎-elim}
+use mathlib.Core.Path.{_≡_, refl, sym, _∙_, subst}
 use mathlib.Core.List.{List, [], _∷_, _++_}
-use Prim.Native.Nat.{ℕ, zero, suc, _≤_, _<_}
+use Prim.Native.Nat.{ℕ, zero, suc, _≤_}
 use native.Mathlib.Omega.{arith}
-use lib.Dec.{le→leb}
-use lib.IntN.{ℤ, pos, negsuc, natAbs, _+ℤ_, _-ℤ_, _*ℤ_, +ℤ-idr}
-use lib.Signed.{_≤ℤ_, _<ℤ_, leZ-yes, ltZ-yes}
+use lib.IntN.{ℤ, pos, natAbs, _+ℤ_, _-ℤ_, _*ℤ_, +ℤ-idr}
+use lib.Signed.{_≤ℤ_, ltZ-yes}
 use lib.ListN.{length}
-use Rattle.integers.specs.Identity.{by-ring, by-eq, reads}
+use Rattle.integers.specs.Identity.{by-ring, reads}
 use Rattle.integers.specs.Order.{*ℤ-cancel-≤}
-use Rattle.integers.specs.Certificate.{NN, _⊞_, _⊠_, nn-pos, le, lt, eq, nn-ring, by-nn}
+use Rattle.integers.specs.Certificate.{_⊞_, _⊠_, nn-pos, le, nn-ring, by-nn}
 use Rattle.integers.specs.Division.{up, up-pos}
 use Rattle.integers.specs.Lists.{length-⊖-same}
-use Rattle.integers.specs.Lex.{Nonneg, nonneg-⊕, nonneg-ext, nonneg-raise, nonneg-unscale}
-use Rattle.lattices.specs.Vector.{Vec, N, nth, dot, comb, _⊕_, _⊙_, _⊖_}
-use Rattle.lattices.specs.VectorLaws.{dot-comm, bilinear, N-nonneg, comb-dot, unit, _≈_, ≈-refl, ≈-sym, ≈-trans, ≈-⊕, ≈-⊙, ≈-N, ≈-nth}
+use Rattle.integers.specs.Lex.{Nonneg, nonneg-⊕, nonneg-raise, nonneg-unscale}
+use Rattle.lattices.specs.Vector.{Vec, N, dot, comb, _⊕_, _⊙_, _⊖_}
+use Rattle.lattices.specs.VectorLaws.{dot-comm, bilinear, N-nonneg, comb-dot, unit, _≈_, ≈-refl, ≈-sym, ≈-trans, ≈-⊕, ≈-N}
 use Rattle.minima.specs.Values.{gain, change}
 use Rattle.minima.specs.Rounding.{≤-up, loss, loss-bound, dent-third, Above, nonneg-≈, gain-≈, above-≈, round}
-use Rattle.minima.specs.Reduced.{Under, Top}
+use Rattle.minima.specs.Reduced.{Top}
 use Rattle.minima.specs.ReducedLaws.{Sign, by-sign, sign-⊙, rounded}
 use Rattle.minima.specs.Snoc.{snoc-≈, comb-snoc, units, comb-units, fit, length-fit, comb-fit, fit-units}
 

@@ -1,16 +1,16 @@
 -- Reduced lists of at most four vectors: how short a combination can be, and that they are independent.
-use mathlib.Core.Path.{_≡_, refl, sym, ap, _∙_, subst}
+use mathlib.Core.Path.{_≡_, refl, sym, _∙_, subst}
 use mathlib.Core.Logic.{_≢_, ⊎-elim}
 use mathlib.Core.List.{List, [], _∷_, _++_, reverse, reverse-cons}
-use Prim.Native.Nat.{ℕ, zero, suc, _≤_, _<_}
+use Prim.Native.Nat.{ℕ, zero, suc, _≤_}
 use native.Mathlib.Omega.{arith}
 use lib.IntN.{ℤ, pos, negsuc, natAbs, _+ℤ_, _-ℤ_, _*ℤ_, zero-*ℤ}
-use lib.Signed.{_≤ℤ_, _<ℤ_, ≤ℤ-refl, <ℤ-irrefl, ltZ-yes, <ℤ-≤ℤ-trans}
+use lib.Signed.{_≤ℤ_, <ℤ-irrefl, ltZ-yes, <ℤ-≤ℤ-trans}
 use lib.ListN.{length, getD, length-reverse}
 use Rattle.integers.specs.Ring.{*ℤ-pos-one, pos-one-*ℤ, negsuc-zero-*ℤ}
 use Rattle.integers.specs.Identity.{by-ring, by-eq, reads}
-use Rattle.integers.specs.Order.{≤ℤ-trans, ≤ℤ-of-<ℤ, zero-or-not, *ℤ-cancel-≤}
-use Rattle.integers.specs.Certificate.{NN, _⊞_, _⊠_, nn-sq, nn-pos, le, lt, eq, by-nn}
+use Rattle.integers.specs.Order.{≤ℤ-trans, zero-or-not, *ℤ-cancel-≤}
+use Rattle.integers.specs.Certificate.{NN, _⊞_, _⊠_, nn-sq, nn-pos, le, eq, by-nn}
 use Rattle.integers.specs.Division.{up}
 use Rattle.lattices.specs.Vector.{Vec, N, Zero, Independent, nth, dot, comb, _⊕_, _⊙_}
 use Rattle.lattices.specs.VectorLaws.{dot-comm, nil-dot, bilinear, N-nonneg, comb-⊙, comb-cons, _≈_, ≈-refl, ≈-sym, ≈-trans, ≈-⊕, ≈-N, zero-dot, N-Zero, Zero-≈, ≈-Zero}

@@ -6,7 +6,7 @@ use mathlib.Core.List.{List, [], _∷_, tail}
 use Prim.Native.Nat.{ℕ, zero, suc, _≤_}
 use native.Mathlib.Omega.{arith}
 use lib.Dec.{le→leb}
-use lib.IntN.{ℤ, pos, negℤ, _+ℤ_, _-ℤ_, _*ℤ_, zero-*ℤ, *ℤ-zero, +ℤ-one, +ℤ-idl, +ℤ-assoc}
+use lib.IntN.{ℤ, pos, negℤ, _+ℤ_, _-ℤ_, _*ℤ_, *ℤ-zero, +ℤ-one, +ℤ-idl, +ℤ-assoc}
 use lib.Signed.{_≤ℤ_, _<ℤ_, ltZ-yes, leZ-yes}
 use lib.ListN.{length, getD}
 use Rattle.integers.specs.Identity.{by-ring, by-eq, reads}
@@ -15,8 +15,8 @@ use Rattle.integers.specs.Certificate.{NN, _⊞_, _⊠_, nn-sq, nn-pos, nn-ring
 use Rattle.integers.specs.Division.{up, quot, rest, up-pos, quot-rest, rest-nonneg, rest-lt}
 use Rattle.integers.specs.Lists.{entries}
 use Rattle.integers.specs.Lex.{Nonneg, nonneg-⊕, nonneg-⊙, nonneg-cancel, nonneg-ext, nonneg-scale, nonneg-raise, nonneg-zeros}
-use Rattle.lattices.specs.Vector.{Vec, N, Zero, nth, dot, comb, _⊕_, _⊙_}
-use Rattle.lattices.specs.VectorLaws.{dot-comm, dot-nil, nil-dot, dot-⊕, dot-⊙, dot-⊙ʳ, bilinear, N-nonneg, comb-dot, _≈_, ≈-refl, ≈-sym, ≈-trans, ≈-⊕, ≈-⊙, ≈-N, ≈-nth, ≈-Zero}
+use Rattle.lattices.specs.Vector.{Vec, N, nth, dot, comb, _⊕_, _⊙_}
+use Rattle.lattices.specs.VectorLaws.{dot-comm, dot-nil, nil-dot, dot-⊕, dot-⊙, dot-⊙ʳ, bilinear, N-nonneg, comb-dot, _≈_, ≈-refl, ≈-sym, ≈-trans, ≈-⊕, ≈-N, ≈-nth, ≈-Zero}
 use Rattle.minima.specs.Values.{gain}
 use Rattle.minima.specs.Reduced.{Under}
 
