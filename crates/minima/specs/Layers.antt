@@ -31,7 +31,7 @@ loss-third : {b : Vec} {vs : List Vec} → Top b vs → length vs ≤ 3 → (k :
 loss-third {b} {vs} t l k h w = *ℤ-cancel-≤ {c = pos 3} (ltZ-yes tt)
     (loss-bound (pos 3) k 3 (λ w. dent-third k w h) (nn-ring (up k ∷ []) ((le h ⊞ nn-pos 3) ⊠ (le h ⊞ nn-pos 2)) (search reads depth 20) (search reads depth 20) tt) (N-nonneg b) w vs (t .longest) l)
 
--- so (n − 1)·N(y) covers what rounding lost
+-- so (n − 1)·N(y) covers what rounding lost, and the rounded value is at most n times the value
 covered : (r b : Vec) (k : ℕ) (y : Vec) (S : ℤ) → pos 3 ≤ℤ up k → (up k *ℤ up k *ℤ N b) ≤ℤ (N y +ℤ S) → S ≤ℤ (up k *ℤ (up k -ℤ pos 1) *ℤ N b) → (gain (up k ⊙ r) y +ℤ (S +ℤ up k *ℤ up k *ℤ pos 0)) ≤ℤ (up k *ℤ gain r y)
 unfolding gain
 covered r b k y S h p q = simp bilinear

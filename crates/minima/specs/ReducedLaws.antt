@@ -1,7 +1,7 @@
--- Reduced lists of at most four vectors: how short a combination can be, and that they are independent.
+-- Reduced lists of at most four vectors: a combination is no shorter than any vector that it uses (`any`), and they are independent.
 use mathlib.Core.Path.{_≡_, refl, sym, _∙_, subst}
 use mathlib.Core.Logic.{_≢_, ⊎-elim}
-use mathlib.Core.List.{List, [], _∷_, _++_, reverse, reverse-cons}
+use mathlib.Core.List.{List, [], _∷_, _++_, reverse, reverse-cons, reverse-append}
 use Prim.Native.Nat.{ℕ, zero, suc, _≤_}
 use native.Mathlib.Omega.{arith}
 use lib.IntN.{ℤ, pos, negsuc, natAbs, _+ℤ_, _-ℤ_, _*ℤ_, zero-*ℤ}
@@ -58,12 +58,14 @@ pinned-by {b} {bs} {x} t l k s e f xs = subst (λ y. (y *ℤ y *ℤ N b) ≤ℤ 
     low : (pos 4 *ℤ loss k xs bs) ≤ℤ (pos 3 *ℤ (up k *ℤ up k *ℤ N b))
     low = loss-bound (pos 4) k 3 (dent-fourth k) (nn-sq (up k)) (N-nonneg b) xs bs (t .longest) l
 
+-- half the length of the part along b: n²·N(b) ≤ 4·N(y)
 pub pinned : {b : Vec} {bs : List Vec} → Top b bs → length bs ≤ 3 → (x : ℤ) (xs : List ℤ) → (x *ℤ x *ℤ N b) ≤ℤ (pos 4 *ℤ N (comb (x ∷ xs) (b ∷ bs)))
 pinned {b} {bs} t l x xs = by-sign (λ x. (x *ℤ x *ℤ N b) ≤ℤ (pos 4 *ℤ N (comb (x ∷ xs) (b ∷ bs))))
     (rw (zero-*ℤ (N b)) (nn-pos 4 ⊠ N-nonneg (comb (pos 0 ∷ xs) (b ∷ bs))))
     (λ k s x e f g. pinned-by t l k s e f xs) x
 
 -- ---- a combination is at least as long as every vector that it uses
+-- the first: for x = ±1 nothing is lost, and from |x| = 2 on 4·N(b) ≤ x²·N(b)
 pub first : {b : Vec} {bs : List Vec} → Top b bs → length bs ≤ 3 → (x : ℤ) (xs : List ℤ) → x ≢ pos 0 → N b ≤ℤ N (comb (x ∷ xs) (b ∷ bs))
 unfolding up
 first {b} {bs} t l x xs = by-sign (λ x. x ≢ pos 0 → N b ≤ℤ N (comb (x ∷ xs) (b ∷ bs))) (λ h. absurd (h refl)) one-or-more x
@@ -77,6 +79,7 @@ first {b} {bs} t l x xs = by-sign (λ x. x ≢ pos 0 → N b ≤ℤ N (comb (x �
         subst (λ x. N b ≤ℤ N (comb (x ∷ xs) (b ∷ bs))) (sym (f ∙ *ℤ-pos-one s)) (subst (λ n. N b ≤ℤ n) (sym (≈-N (comb-cons s xs b bs))) (shortest-signed t s e xs))
     one-or-more (suc k) s x e f g h = *ℤ-cancel-≤ {c = pos 4} (ltZ-yes tt) (from-two (N (comb (x ∷ xs) (b ∷ bs))) (up (suc k)) (≤-up 2 (suc k) (omega arith)) s (e .square) f (pinned t l x xs))
 
+-- a first coefficient 0 may be left out
 skip : {x : ℤ} (xs : List ℤ) (b : Vec) (bs : List Vec) → x ≡ pos 0 → comb (x ∷ xs) (b ∷ bs) ≈ comb xs bs
 skip {x} xs b bs e = ≈-trans (comb-cons x xs b bs)
     (record { on = λ w. rw e (simp bilinear (by-ring (dot b w ∷ dot (comb xs bs) w ∷ []) (search reads) (search reads) tt)) })
@@ -140,3 +143,7 @@ top-reverse {b} bs t = record {
   where
     turned : (z : List ℤ) → comb (reverse (fit (length bs) z)) (reverse bs) ≈ comb z bs
     turned z = ≈-trans (comb-reverse (fit (length bs) z) bs (length-fit (length bs) z)) (comb-fit (length bs) z bs refl)
+
+-- the last vector of a reduced list is above the others, which are reduced
+pub reduced-last : (bs : List Vec) (b : Vec) → Reduced (bs ++ (b ∷ [])) → Top b bs × Reduced bs
+reduced-last bs b d = let e = subst Descending (reverse-append bs (b ∷ [])) d in (top-reverse bs (e .0), e .1)

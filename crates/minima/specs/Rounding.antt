@@ -39,14 +39,14 @@ pub dent-fourth : (k : ℕ) (w : ℤ) → (pos 4 *ℤ dent k w) ≤ℤ (up k *�
 unfolding dent
 dent-fourth k w = by-nn (up k ∷ rest k w ∷ []) (nn-sq (up k -ℤ pos 2 *ℤ rest k w)) (search reads depth 20) (search reads depth 20) tt
 
--- two neighbouring integers have the same sign
+-- the product of two neighbouring integers is not negative
 neighbours : (x : ℤ) → NN (x *ℤ (x -ℤ pos 1))
 neighbours x = ⊎-elim
     (λ (h : x ≤ℤ pos 0). nn-ring (x ∷ []) (le h ⊠ (le h ⊞ nn-pos 1)) (search reads depth 20) (search reads depth 20) tt)
     (λ (h : pos 0 <ℤ x). nn-ring (x ∷ []) (lt h ⊠ (lt h ⊞ nn-pos 1)) (search reads depth 20) (search reads depth 20) tt)
     (≤ℤ-or-<ℤ x (pos 0))
 
--- from n = 3 on; at n = 3 it is (r − 1)(r − 2) ≥ 0, from n = 4 on a sum of squares
+-- at n = 3 it is (r − 1)·(r − 2) ≥ 0; from n = 4 on four times the difference is 3·(n − 2r)² + n·(n − 4)
 third : (n r : ℤ) → pos 3 ≤ℤ n → (pos 3 *ℤ (r *ℤ (n -ℤ r))) ≤ℤ (n *ℤ (n -ℤ pos 1))
 third n r h = ⊎-elim three more (≤ℤ-or-<ℤ n (pos 3))
   where
@@ -62,7 +62,7 @@ pub dent-third : (k : ℕ) (w : ℤ) → pos 3 ≤ℤ up k → (pos 3 *ℤ dent 
 unfolding dent
 dent-third k w h = third (up k) (rest k w) h
 
--- of a list
+-- of a list: each coefficient's, times the squared length of its vector
 unfoldable pub loss : ℕ → List ℤ → List Vec → ℤ
 loss k [] bs = pos 0
 loss k (w ∷ ws) [] = pos 0
@@ -118,7 +118,7 @@ mean : {n a : ℤ} (u v t : List ℤ) → pos 0 <ℤ n → NN a → a ≤ℤ n �
 mean {n} {a} u v t h i j e p q = nonneg-cancel t h
     (nonneg-ext ((n -ℤ a) ⊙ u ⊕ a ⊙ v) (n ⊙ t) (λ i. simp entries (e i)) (nonneg-⊕ ((n -ℤ a) ⊙ u) (a ⊙ v) (nonneg-⊙ u (le j) p) (nonneg-⊙ v i q)))
 
--- between p and p + n·b
+-- a bound at p and at p + n·b gives one in between
 above-mean : {r p : Vec} {m : ℤ} {x : List ℤ} (n a : ℤ) (b : Vec) (u : List ℤ) → pos 0 <ℤ n → NN a → a ≤ℤ n → Above r m p x → Above r m (p ⊕ n ⊙ b) (x ⊕ n ⊙ u) → Above r (a *ℤ (n -ℤ a) *ℤ N b +ℤ m) (p ⊕ a ⊙ b) (x ⊕ a ⊙ u)
 unfolding gain
 above-mean {r} {p} {m} {x} n a b u h i j s t = record {
@@ -159,7 +159,7 @@ module _ (n q : ℤ) (c : Vec) where
       (record { on = λ v. rw e (simp bilinear (by-ring (n ∷ q ∷ a ∷ dot c v ∷ dot (getD bs 0 []) v ∷ dot (comb z (tail bs)) v ∷ []) (search reads depth 20) (search reads depth 20) tt)) })
       (≈-⊕ ≈-refl (≈-sym (open-comb w z bs)))
 
--- the first coefficient rounded down and up: its multiple of n lies between two neighbours
+-- the first coefficient lies between two neighbouring multiples of n, where the bound is known
 one-more-rounded : (k : ℕ) (r : Vec) (o w : ℤ) (ws : List ℤ) (bs us : List Vec) (c : Vec) (ξ : List ℤ) → ((q : ℤ) → Above (up k ⊙ r) (loss k ws (tail bs) +ℤ o) (up k ⊙ (c ⊕ q ⊙ getD bs 0 []) ⊕ comb ws (tail bs)) (up k ⊙ (ξ ⊕ q ⊙ getD us 0 []) ⊕ comb ws (tail us))) → Above (up k ⊙ r) (loss k (w ∷ ws) bs +ℤ o) (up k ⊙ c ⊕ comb (w ∷ ws) bs) (up k ⊙ ξ ⊕ comb (w ∷ ws) us)
 unfolding dent
 one-more-rounded k r o w ws bs us c ξ f =

@@ -1,4 +1,5 @@
--- Lists with a last entry, x ++ (j ∷ []), and reversed lists: their inner products and combinations, for pairs of lists of one length.
+-- Coefficient lists with a last entry, x ++ (j ∷ []), and reversed ones: their combinations, where vectors and coefficients are
+-- equally many. Then lists as combinations of unit lists, and lists cut or filled to a length.
 use mathlib.Core.Path.{_≡_, refl, sym, ap, ap₂, _∙_}
 use mathlib.Core.List.{List, [], _∷_, _++_, reverse, reverse-cons}
 use Prim.Native.Nat.{ℕ, zero, suc}
