@@ -7,7 +7,7 @@ use lib.IntN.{ℤ, pos, negsuc, _+ℤ_, _*ℤ_, zero-*ℤ, *ℤ-zero, *ℤ-comm,
 use lib.Signed.{_≤ℤ_, ≤ℤ-refl}
 use native.Mathlib.Omega.{arith}
 use lib.ListN.{length, length-reverse}
-use Rattle.integers.specs.Ring.{*ℤ-pos-one}
+use Rattle.integers.specs.Ring.{*ℤ-pos-one, +ℤ-left-comm}
 use Rattle.integers.specs.Identity.{by-ring, reads}
 use Rattle.integers.specs.Order.{≤ℤ-antisymm, ≤ℤ-of-≡, zero-of-square}
 use Rattle.integers.specs.Certificate.{nn-sq, _⊞_, le, by-nn}
@@ -85,11 +85,8 @@ pub ≈-⊕ : {u v x y : Vec} → u ≈ v → x ≈ y → (u ⊕ x) ≈ (v ⊕ y
 pub ≈-⊙ : (k : ℤ) {u v : Vec} → u ≈ v → (k ⊙ u) ≈ (k ⊙ v)
 ≈-⊙ k {u} {v} e = record { on = λ w. dot-⊙ k u w ∙ ap (λ s. k *ℤ s) (e .on w) ∙ sym (dot-⊙ k v w) }
 
-pub ⊕-comm : (u v : Vec) → u ⊕ v ≈ v ⊕ u
-⊕-comm u v = record { on = λ w. dot-⊕ u v w ∙ +ℤ-comm (dot u w) (dot v w) ∙ sym (dot-⊕ v u w) }
-
-pub ⊕-assoc : (u v x : Vec) → u ⊕ (v ⊕ x) ≈ u ⊕ v ⊕ x
-⊕-assoc u v x = record { on = λ w. simp dot-⊕ (by-ring (dot u w ∷ dot v w ∷ dot x w ∷ []) (search reads) (search reads) tt) }
+pub ⊕-left-comm : (u v x : Vec) → u ⊕ (v ⊕ x) ≈ v ⊕ (u ⊕ x)
+⊕-left-comm u v x = record { on = λ w. simp dot-⊕ (+ℤ-left-comm (dot u w) (dot v w) (dot x w)) }
 
 pub ≈-dot : {u v x y : Vec} → u ≈ v → x ≈ y → dot u x ≡ dot v y
 ≈-dot {u} {v} {x} {y} e f = e .on x ∙ dot-comm v x ∙ f .on v ∙ dot-comm y v
@@ -192,12 +189,12 @@ pub ⊖-zero : (t : Vec) {v : Vec} → v ≈ [] → t ⊖ v ≈ t
 ⊖-zero t {v} e = record { on = λ w. dot-⊕ t (negsuc 0 ⊙ v) w ∙ ap (λ s. dot t w +ℤ s) (dot-⊙ (negsuc 0) v w ∙ ap (λ s. negsuc 0 *ℤ s) (e .on w ∙ nil-dot w)) ∙ +ℤ-idr (dot t w) }
 
 -- ---- combinations from the last vector on, and in reverse
-pub comb-last : (x : List ℤ) (bs : List Vec) (j : ℤ) (b : Vec) → length x ≡ length bs → comb (x ++ (j ∷ [])) (bs ++ (b ∷ [])) ≈ comb x bs ⊕ j ⊙ b
+pub comb-snoc : (x : List ℤ) (bs : List Vec) (j : ℤ) (b : Vec) → length x ≡ length bs → comb (x ++ (j ∷ [])) (bs ++ (b ∷ [])) ≈ j ⊙ b ⊕ comb x bs
 unfolding comb
-comb-last [] [] j b e = ⊕-comm (j ⊙ b) []
-comb-last [] (c ∷ bs) j b e = absurd (omega arith)
-comb-last (x ∷ xs) [] j b e = absurd (omega arith)
-comb-last (x ∷ xs) (c ∷ bs) j b e = ≈-trans (≈-⊕ ≈-refl (comb-last xs bs j b (omega arith))) (⊕-assoc (x ⊙ c) (comb xs bs) (j ⊙ b))
+comb-snoc [] [] j b e = ≈-refl
+comb-snoc [] (c ∷ bs) j b e = absurd (omega arith)
+comb-snoc (x ∷ xs) [] j b e = absurd (omega arith)
+comb-snoc (x ∷ xs) (c ∷ bs) j b e = ≈-trans (≈-⊕ ≈-refl (comb-snoc xs bs j b (omega arith))) (⊕-left-comm (x ⊙ c) (j ⊙ b) (comb xs bs))
 
 pub comb-reverse : (x : List ℤ) (bs : List Vec) → length x ≡ length bs → comb (reverse x) (reverse bs) ≈ comb x bs
 comb-reverse [] [] e = ≈-refl
@@ -205,5 +202,5 @@ comb-reverse [] (c ∷ bs) e = absurd (omega arith)
 comb-reverse (x ∷ xs) [] e = absurd (omega arith)
 comb-reverse (x ∷ xs) (c ∷ bs) e =
     rw (reverse-cons x xs, reverse-cons c bs)
-    (≈-trans (comb-last (reverse xs) (reverse bs) x c (length-reverse xs ∙ omega arith ∙ sym (length-reverse bs)))
-    (≈-trans (≈-⊕ (comb-reverse xs bs (omega arith)) ≈-refl) (≈-trans (⊕-comm (comb xs bs) (x ⊙ c)) (≈-sym (comb-cons x xs c bs)))))
+    (≈-trans (comb-snoc (reverse xs) (reverse bs) x c (length-reverse xs ∙ omega arith ∙ sym (length-reverse bs)))
+    (≈-trans (≈-⊕ ≈-refl (comb-reverse xs bs (omega arith))) (≈-sym (comb-cons x xs c bs))))

@@ -16,7 +16,7 @@ use Rattle.integers.specs.Order.{≤ℤ-or-<ℤ, ≤ℤ-trans, ≤ℤ-leZ, leZ-
 use Rattle.integers.specs.Certificate.{NN, nn-pos, _⊞_, _⊠_, le, lt, by-nn, nn-false}
 use Rattle.integers.specs.Lex.{below-irrefl, below-asymm, below-negtrans, below-antisymm, below-last, below-<, below->, below-≡}
 use Rattle.lattices.specs.Vector.{Vec, N, nth, dot, _⊕_, _⊙_, _⊖_, comb}
-use Rattle.lattices.specs.VectorLaws.{_≈_, ≈-trans, ≈-N, nil-dot, dot-⊙, bilinear, dot-comm, N-nonneg, comb-cons, comb-none, comb-zero, ⊖-zero, comb-last, comb-reverse}
+use Rattle.lattices.specs.VectorLaws.{_≈_, ≈-trans, ≈-N, nil-dot, dot-⊙, bilinear, dot-comm, N-nonneg, comb-cons, comb-none, comb-zero, ⊖-zero, comb-snoc, comb-reverse}
 use Rattle.lattices.specs.Nearest.{value, below, lesser, outward, near, least, nearest}
 use Rattle.minima.specs.Values.{Least}
 use Rattle.minima.specs.ValueLaws.{least-only}
@@ -142,7 +142,7 @@ value-last bs b t x j e = ap (λ s. s ∷ (x ++ (j ∷ []))) (≈-N (record { on
   where
     same-dot : (w : Vec) → dot (t ⊖ comb (x ++ (j ∷ [])) (bs ++ (b ∷ []))) w ≡ dot (t ⊖ j ⊙ b ⊖ comb x bs) w
     same-dot w =
-        simp bilinear (ap (λ s. dot t w +ℤ negsuc 0 *ℤ s) (comb-last x bs j b e .on w)
+        simp bilinear (ap (λ s. dot t w +ℤ negsuc 0 *ℤ s) (comb-snoc x bs j b e .on w)
         ∙ simp bilinear (by-ring (dot t w ∷ dot (comb x bs) w ∷ dot b w ∷ j ∷ []) (search reads depth 20) (search reads depth 20) tt))
 
 -- every list that is not empty has a last entry

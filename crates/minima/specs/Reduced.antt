@@ -1,4 +1,4 @@
--- Reduced lists: what the greedy steps establish, and all that the theorems use. First the definitions.
+-- Reduced lists: what the greedy steps establish, and all that the theorems use. The theorems are in ReducedLaws.
 use mathlib.Core.List.{List, [], _∷_, reverse}
 use lib.IntN.{ℤ, pos}
 use lib.Signed.{_≤ℤ_, _<ℤ_}

@@ -5,8 +5,9 @@ use mathlib.Core.Logic.{⊎-elim, inr}
 use mathlib.Core.List.{List, [], _∷_, tail}
 use Prim.Native.Nat.{ℕ, zero, suc, _≤_}
 use native.Mathlib.Omega.{arith}
-use lib.IntN.{ℤ, pos, negℤ, _+ℤ_, _-ℤ_, _*ℤ_, zero-*ℤ, *ℤ-zero, +ℤ-one, +ℤ-idl, +ℤ-assoc}
-use lib.Signed.{_≤ℤ_, _<ℤ_, ltZ-yes}
+use lib.Dec.{le→leb}
+use lib.IntN.{ℤ, pos, negℤ, _+ℤ_, _-ℤ_, _*ℤ_, *ℤ-zero, +ℤ-one, +ℤ-idl, +ℤ-assoc}
+use lib.Signed.{_≤ℤ_, _<ℤ_, ltZ-yes, leZ-yes}
 use lib.ListN.{length, getD}
 use Rattle.integers.specs.Identity.{by-ring, by-eq, reads}
 use Rattle.integers.specs.Order.{≤ℤ-of-<ℤ, ≤ℤ-of-≡, ≤ℤ-antisymm, ≤ℤ-or-<ℤ, *ℤ-cancel-≤}
@@ -14,8 +15,8 @@ use Rattle.integers.specs.Certificate.{NN, _⊞_, _⊠_, nn-sq, nn-pos, nn-ring
 use Rattle.integers.specs.Division.{up, quot, rest, up-pos, quot-rest, rest-nonneg, rest-lt}
 use Rattle.integers.specs.Lists.{entries}
 use Rattle.integers.specs.Lex.{Nonneg, nonneg-⊕, nonneg-⊙, nonneg-cancel, nonneg-ext, nonneg-scale, nonneg-raise, nonneg-zeros}
-use Rattle.lattices.specs.Vector.{Vec, N, Zero, nth, dot, comb, _⊕_, _⊙_}
-use Rattle.lattices.specs.VectorLaws.{dot-comm, dot-nil, nil-dot, dot-⊕, dot-⊙, dot-⊙ʳ, bilinear, N-nonneg, comb-dot, _≈_, ≈-refl, ≈-sym, ≈-trans, ≈-⊕, ≈-⊙, ≈-N, ≈-nth, ≈-Zero}
+use Rattle.lattices.specs.Vector.{Vec, N, nth, dot, comb, _⊕_, _⊙_}
+use Rattle.lattices.specs.VectorLaws.{dot-comm, dot-nil, nil-dot, dot-⊕, dot-⊙, dot-⊙ʳ, bilinear, N-nonneg, comb-dot, _≈_, ≈-refl, ≈-sym, ≈-trans, ≈-⊕, ≈-N, ≈-nth, ≈-Zero}
 use Rattle.minima.specs.Values.{gain}
 use Rattle.minima.specs.Reduced.{Under}
 
@@ -23,6 +24,11 @@ use Rattle.minima.specs.Reduced.{Under}
 pub interpolate : (n r : ℤ) (p b : Vec) → (n -ℤ r) *ℤ N p +ℤ r *ℤ N (p ⊕ n ⊙ b) ≡ n *ℤ N (p ⊕ r ⊙ b) +ℤ n *ℤ (r *ℤ (n -ℤ r) *ℤ N b)
 interpolate n r p b =
     simp (bilinear, dot-comm b p) (by-ring (n ∷ r ∷ N p ∷ dot p b ∷ N b ∷ []) (search reads depth 20 fits 5000) (search reads depth 20 fits 5000) tt)
+
+-- a lower bound of the divisor
+pub ≤-up : (m k : ℕ) → m ≤ suc k → pos m ≤ℤ up k
+unfolding up
+≤-up m k h = leZ-yes (le→leb m (suc k) h)
 
 -- ---- what is lost when a coefficient is rounded to multiples of n = up k
 -- of one coefficient: (w mod n)·(n − w mod n)
@@ -33,14 +39,14 @@ pub dent-fourth : (k : ℕ) (w : ℤ) → (pos 4 *ℤ dent k w) ≤ℤ (up k *�
 unfolding dent
 dent-fourth k w = by-nn (up k ∷ rest k w ∷ []) (nn-sq (up k -ℤ pos 2 *ℤ rest k w)) (search reads depth 20) (search reads depth 20) tt
 
--- two neighbouring integers have the same sign
+-- the product of two neighbouring integers is not negative
 neighbours : (x : ℤ) → NN (x *ℤ (x -ℤ pos 1))
 neighbours x = ⊎-elim
     (λ (h : x ≤ℤ pos 0). nn-ring (x ∷ []) (le h ⊠ (le h ⊞ nn-pos 1)) (search reads depth 20) (search reads depth 20) tt)
     (λ (h : pos 0 <ℤ x). nn-ring (x ∷ []) (lt h ⊠ (lt h ⊞ nn-pos 1)) (search reads depth 20) (search reads depth 20) tt)
     (≤ℤ-or-<ℤ x (pos 0))
 
--- from n = 3 on; at n = 3 it is (r − 1)(r − 2) ≥ 0, from n = 4 on a sum of squares
+-- at n = 3 it is (r − 1)·(r − 2) ≥ 0; from n = 4 on four times the difference is 3·(n − 2r)² + n·(n − 4)
 third : (n r : ℤ) → pos 3 ≤ℤ n → (pos 3 *ℤ (r *ℤ (n -ℤ r))) ≤ℤ (n *ℤ (n -ℤ pos 1))
 third n r h = ⊎-elim three more (≤ℤ-or-<ℤ n (pos 3))
   where
@@ -56,7 +62,7 @@ pub dent-third : (k : ℕ) (w : ℤ) → pos 3 ≤ℤ up k → (pos 3 *ℤ dent 
 unfolding dent
 dent-third k w h = third (up k) (rest k w) h
 
--- of a list
+-- of a list: each coefficient's, times the squared length of its vector
 unfoldable pub loss : ℕ → List ℤ → List Vec → ℤ
 loss k [] bs = pos 0
 loss k (w ∷ ws) [] = pos 0
@@ -81,36 +87,38 @@ loss-bound a {e} {t} k (suc m) h p q (w ∷ ws) (b ∷ bs) u l =
 pub record Above (r : Vec) (m : ℤ) (y : Vec) (x : List ℤ) : Type 0 where
   pub nonneg : Nonneg ((gain r y +ℤ m) ∷ x)
 
-pub above-≈ : {r y y′ : Vec} {m : ℤ} {x x′ : List ℤ} → y ≈ y′ → x ≈ x′ → Above r m y x → Above r m y′ x′
-unfolding gain
-above-≈ {r} {y} {y′} {m} {x} {x′} e f p = record { nonneg = nonneg-ext ((gain r y +ℤ m) ∷ x) ((gain r y′ +ℤ m) ∷ x′) same (p .nonneg) }
-  where
-    same : (i : ℕ) → nth ((gain r y +ℤ m) ∷ x) i ≡ nth ((gain r y′ +ℤ m) ∷ x′) i
-    same zero = ap₂ (λ a b. a -ℤ pos 2 *ℤ b +ℤ m) (≈-N e) (e .on r)
-    same (suc i) = ≈-nth f i
-
 twice-⊙ : {n : ℤ} (a : ℤ) (x : List ℤ) → pos 0 <ℤ n → Nonneg (a ∷ x) → Nonneg ((n *ℤ (n *ℤ a)) ∷ (n ⊙ x))
 unfolding _⊙_
 twice-⊙ {n} a x h p = nonneg-scale (n *ℤ a) (n ⊙ x) h (nonneg-⊙ (a ∷ x) (≤ℤ-of-<ℤ h) p)
 
+pub nonneg-≈ : {a a′ : ℤ} (u u′ : List ℤ) → a ≡ a′ → u ≈ u′ → Nonneg (a ∷ u) → Nonneg (a′ ∷ u′)
+nonneg-≈ {a} {a′} u u′ e f p = nonneg-ext (a ∷ u) (a′ ∷ u′) entry p
+  where
+    entry : (i : ℕ) → nth (a ∷ u) i ≡ nth (a′ ∷ u′) i
+    entry zero = e
+    entry (suc i) = ≈-nth f i
+
+pub gain-≈ : (r : Vec) {y y′ : Vec} → y ≈ y′ → gain r y ≡ gain r y′
+unfolding gain
+gain-≈ r e = ap₂ (λ a b. a -ℤ pos 2 *ℤ b) (≈-N e) (e .on r)
+
+pub above-≈ : {r y y′ : Vec} {m : ℤ} {x x′ : List ℤ} → y ≈ y′ → x ≈ x′ → Above r m y x → Above r m y′ x′
+above-≈ {r} {m} {x} {x′} e f p = record { nonneg = nonneg-≈ x x′ (ap (λ a. a +ℤ m) (gain-≈ r e)) f (p .nonneg) }
+
 -- everything n times as large
 above-⊙ : {r c : Vec} {m : ℤ} {x : List ℤ} (n : ℤ) → pos 0 <ℤ n → Above r m c x → Above (n ⊙ r) (n *ℤ n *ℤ m) (n ⊙ c) (n ⊙ x)
 unfolding gain
-above-⊙ {r} {c} {m} {x} n h p = record {
-  nonneg = nonneg-ext ((n *ℤ (n *ℤ (gain r c +ℤ m))) ∷ (n ⊙ x)) ((gain (n ⊙ r) (n ⊙ c) +ℤ n *ℤ n *ℤ m) ∷ (n ⊙ x)) same
-      (twice-⊙ (gain r c +ℤ m) x h (p .nonneg));
-}
+above-⊙ {r} {c} {m} {x} n h p = record { nonneg = nonneg-≈ (n ⊙ x) (n ⊙ x) number ≈-refl (twice-⊙ (gain r c +ℤ m) x h (p .nonneg)) }
   where
-    same : (i : ℕ) → nth ((n *ℤ (n *ℤ (gain r c +ℤ m))) ∷ (n ⊙ x)) i ≡ nth ((gain (n ⊙ r) (n ⊙ c) +ℤ n *ℤ n *ℤ m) ∷ (n ⊙ x)) i
-    same zero = simp bilinear (by-ring (n ∷ N c ∷ dot c r ∷ m ∷ []) (search reads depth 20 fits 5000) (search reads depth 20 fits 5000) tt)
-    same (suc i) = refl
+    number : n *ℤ (n *ℤ (gain r c +ℤ m)) ≡ gain (n ⊙ r) (n ⊙ c) +ℤ n *ℤ n *ℤ m
+    number = simp bilinear (by-ring (n ∷ N c ∷ dot c r ∷ m ∷ []) (search reads depth 20 fits 5000) (search reads depth 20 fits 5000) tt)
 
 -- a mean of two lists, by entries
 mean : {n a : ℤ} (u v t : List ℤ) → pos 0 <ℤ n → NN a → a ≤ℤ n → ((i : ℕ) → (n -ℤ a) *ℤ nth u i +ℤ a *ℤ nth v i ≡ n *ℤ nth t i) → Nonneg u → Nonneg v → Nonneg t
 mean {n} {a} u v t h i j e p q = nonneg-cancel t h
     (nonneg-ext ((n -ℤ a) ⊙ u ⊕ a ⊙ v) (n ⊙ t) (λ i. simp entries (e i)) (nonneg-⊕ ((n -ℤ a) ⊙ u) (a ⊙ v) (nonneg-⊙ u (le j) p) (nonneg-⊙ v i q)))
 
--- between p and p + n·b
+-- a bound at p and at p + n·b gives one in between
 above-mean : {r p : Vec} {m : ℤ} {x : List ℤ} (n a : ℤ) (b : Vec) (u : List ℤ) → pos 0 <ℤ n → NN a → a ≤ℤ n → Above r m p x → Above r m (p ⊕ n ⊙ b) (x ⊕ n ⊙ u) → Above r (a *ℤ (n -ℤ a) *ℤ N b +ℤ m) (p ⊕ a ⊙ b) (x ⊕ a ⊙ u)
 unfolding gain
 above-mean {r} {p} {m} {x} n a b u h i j s t = record {
@@ -151,7 +159,7 @@ module _ (n q : ℤ) (c : Vec) where
       (record { on = λ v. rw e (simp bilinear (by-ring (n ∷ q ∷ a ∷ dot c v ∷ dot (getD bs 0 []) v ∷ dot (comb z (tail bs)) v ∷ []) (search reads depth 20) (search reads depth 20) tt)) })
       (≈-⊕ ≈-refl (≈-sym (open-comb w z bs)))
 
--- the first coefficient rounded down and up: its multiple of n lies between two neighbours
+-- the first coefficient lies between two neighbouring multiples of n, where the bound is known
 one-more-rounded : (k : ℕ) (r : Vec) (o w : ℤ) (ws : List ℤ) (bs us : List Vec) (c : Vec) (ξ : List ℤ) → ((q : ℤ) → Above (up k ⊙ r) (loss k ws (tail bs) +ℤ o) (up k ⊙ (c ⊕ q ⊙ getD bs 0 []) ⊕ comb ws (tail bs)) (up k ⊙ (ξ ⊕ q ⊙ getD us 0 []) ⊕ comb ws (tail us))) → Above (up k ⊙ r) (loss k (w ∷ ws) bs +ℤ o) (up k ⊙ c ⊕ comb (w ∷ ws) bs) (up k ⊙ ξ ⊕ comb (w ∷ ws) us)
 unfolding dent
 one-more-rounded k r o w ws bs us c ξ f =
