@@ -1,5 +1,6 @@
 -- Theorems about reduced lists: least values, interpolation and rounding, successive minima, the nearest vector.
 pub mod Values
+pub mod ValueLaws
 pub mod Rounding
 pub mod Reduced
 pub mod Table
