@@ -3,6 +3,7 @@ pub mod Values
 pub mod ValueLaws
 pub mod Rounding
 pub mod Reduced
+pub mod Descent
 pub mod Table
 pub mod Layers
 pub mod NearestLaws
