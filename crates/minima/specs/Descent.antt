@@ -116,13 +116,12 @@ largest {A} {B} {C} {p} {q} {r} s i j k h hj hk = pick (decLe (j + k + 2) (2 * i
     pick (no l) (no m) = turn (turn (three (turn-six (turn-six s)) k i j (omega arith) (omega arith) (omega arith)))
 
 split : {A B C p q r : ℤ} → Six A B C p q r → (i j k : ℕ) → 2 ≤ max i (max j k) → Split A B C p q r i j k
-split {A} {B} {C} {p} {q} {r} s i j k h = pick (decLe j i) (decLe k i) (decLe k j)
+split {A} {B} {C} {p} {q} {r} s i j k h = pick (decLe (max j k) i) (decLe (max i k) j)
   where
-    pick : Dec (j ≤ i) → Dec (k ≤ i) → Dec (k ≤ j) → Split A B C p q r i j k
-    pick (yes l) (yes m) d = largest s i j k (omega arith) l m
-    pick (yes l) (no m) d = turn (turn (largest (turn-six (turn-six s)) k i j (omega arith) (omega arith) (omega arith)))
-    pick (no l) d (yes m) = turn (largest (turn-six s) j k i (omega arith) (omega arith) (omega arith))
-    pick (no l) d (no m) = turn (turn (largest (turn-six (turn-six s)) k i j (omega arith) (omega arith) (omega arith)))
+    pick : Dec (max j k ≤ i) → Dec (max i k ≤ j) → Split A B C p q r i j k
+    pick (yes l) d = largest s i j k (omega arith) (omega arith) (omega arith)
+    pick (no l) (yes m) = turn (largest (turn-six s) j k i (omega arith) (omega arith) (omega arith))
+    pick (no l) (no m) = turn (turn (largest (turn-six (turn-six s)) k i j (omega arith) (omega arith) (omega arith)))
 
 -- what holds of the sizes 0 and 1, and of sums of lists that do not point apart, holds of all sizes
 pub descent : {A B C p q r : ℤ} → Six A B C p q r → (P : ℕ → ℕ → ℕ → Type 0)
