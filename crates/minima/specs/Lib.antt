@@ -3,6 +3,7 @@ pub mod Values
 pub mod ValueLaws
 pub mod Rounding
 pub mod Reduced
+pub mod Digits
 pub mod Descent
 pub mod Pairs
 pub mod Table
