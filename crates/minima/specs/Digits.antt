@@ -23,6 +23,10 @@ use Rattle.minima.specs.ValueLaws.{residual-change}
 abbrev pub Bounded : ℕ → List ℤ → Type 0
 Bounded B l = (i : ℕ) → Within B (nth l i)
 
+pub bounded-cons : {B : ℕ} {x : ℤ} (l : List ℤ) → Within B x → Bounded B l → Bounded B (x ∷ l)
+bounded-cons l h k zero = h
+bounded-cons l h k (suc i) = k i
+
 -- ---- below the list of zeros
 
 -- as many zeros as a list has entries
@@ -60,7 +64,7 @@ minus x = by-ring (x ∷ []) (search reads) (search reads) tt
 opposite-zero : (x : ℤ) → negsuc 0 *ℤ x ≡ pos 0 → x ≡ pos 0
 opposite-zero x e = by-eq (x ∷ []) (negsuc 0) e (search reads) (search reads) tt
 
-zero-cons : {x : ℤ} (l : List ℤ) → x ≡ pos 0 → Zero l → Zero (x ∷ l)
+pub zero-cons : {x : ℤ} (l : List ℤ) → x ≡ pos 0 → Zero l → Zero (x ∷ l)
 zero-cons l e z zero = e
 zero-cons l e z (suc i) = z i
 

@@ -4,6 +4,7 @@ pub mod ValueLaws
 pub mod Rounding
 pub mod Reduced
 pub mod Digits
+pub mod Grid
 pub mod Descent
 pub mod Pairs
 pub mod Table
