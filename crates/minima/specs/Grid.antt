@@ -3,7 +3,7 @@
 use mathlib.Core.Path.{_≡_, refl, ap}
 use mathlib.Core.Logic.{_⊎_, inl, inr, ⊎-map, _↔_}
 use mathlib.Core.List.{List, [], _∷_, _++_, map}
-use Prim.Native.Nat.{ℕ, zero, suc, _≤_, _<_}
+use Prim.Native.Nat.{ℕ, zero, suc, _<_}
 use native.Mathlib.Omega.{arith}
 use lib.IntN.{ℤ, pos, negsuc}
 use lib.ListN.{length, getD}
@@ -69,10 +69,11 @@ module _ (P : List ℤ → Type 0) (s t : List (List ℤ)) where
       record { none = all-map P (first (pos 0)) s .0 (p .0); plus = all-map P (first (pos 1)) t .0 (q .0); minus = all-map P (first (negsuc 0)) t .0 (q .1) }
 
   fan-all : Fan P s t → All P (fan s t)
-  fan-all f = all-++ P (map (first (pos 0)) s) (map (first (pos 1)) t ++ map (first (negsuc 0)) t) .1
-      (all-map P (first (pos 0)) s .1 (f .none),
-        all-++ P (map (first (pos 1)) t) (map (first (negsuc 0)) t) .1
-          (all-map P (first (pos 1)) t .1 (f .plus), all-map P (first (negsuc 0)) t .1 (f .minus)))
+  fan-all f = all-++ P (map (first (pos 0)) s) (map (first (pos 1)) t ++ map (first (negsuc 0)) t) .1 (
+    all-map P (first (pos 0)) s .1 (f .none),
+    all-++ P (map (first (pos 1)) t) (map (first (negsuc 0)) t) .1
+        (all-map P (first (pos 1)) t .1 (f .plus), all-map P (first (negsuc 0)) t .1 (f .minus)),
+  )
 
 -- ---- every list with entries 0, 1, −1 is in the table, unless it is the list of zeros
 
@@ -129,3 +130,6 @@ lists-steps (suc n) = fan-steps n (lists n) (grid n) (lists-steps n) (grid-steps
 
 pub lists-are : (n i : ℕ) → i < length (lists n) → Step n (getD (lists n) i [])
 lists-are n = all-at (Step n) (lists n) (lists-steps n)
+
+pub twenty-six : length (lists 3) ≡ 26
+twenty-six = refl

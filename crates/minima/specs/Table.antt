@@ -1,27 +1,30 @@
 -- The table of −1, 0, 1: for at most three vectors with the pairwise inequalities, a list that no list of such entries improves
 -- has the least value of all, ties included (`table-least`).
-use mathlib.Core.Path.{_≡_, refl, sym, ap, ap₂, _∙_, subst}
+use mathlib.Core.Path.{_≡_, refl, sym, ap, _∙_, subst}
+use mathlib.Core.Logic.{⊎-elim}
 use mathlib.Core.Bool.{Bool, true, false}
-use mathlib.Core.List.{List, [], _∷_, _++_, map, tail}
-use Prim.Native.Nat.{ℕ, zero, suc, _+_, _*_, _≤_, _<_}
+use mathlib.Core.List.{List, [], _∷_}
+use Prim.Native.Nat.{ℕ, zero, suc, _+_, _≤_, _<_}
 use native.Mathlib.Nat.{one-mul, le-refl}
 use native.Mathlib.Omega.{arith}
 use lib.IntN.{ℤ, pos, negsuc, negℤ, natAbs, _+ℤ_, _*ℤ_}
+use lib.Signed.{_<ℤ_}
 use lib.ListN.{length, getD, take, length-take}
 use Rattle.integers.specs.Ring.{*ℤ-+ℤ}
 use Rattle.integers.specs.Identity.{by-ring, reads}
 use Rattle.integers.specs.Order.{≤ℤ-of-≡}
 use Rattle.integers.specs.Certificate.{NN}
 use Rattle.integers.specs.Size.{Within, within-mul, root-within}
-use Rattle.integers.specs.Lists.{nth, same}
-use Rattle.integers.specs.Lex.{Nonneg, below, nonneg-ext}
+use Rattle.integers.specs.Lists.{nth}
+use Rattle.integers.specs.Lex.{Nonneg, below, nonneg-zeros}
 use Rattle.lattices.specs.Vector.{Vec, N, dot, _⊕_, _⊖_, _⊙_, comb}
-use Rattle.lattices.specs.VectorLaws.{_≈_, ≈-refl, ≈-trans, ≈-of-≡, ≈-dot, ≈-⊕, bilinear, dot-comm, nil-dot}
+use Rattle.lattices.specs.VectorLaws.{_≈_, ≈-refl, ≈-trans, ≈-of-≡, ≈-dot, bilinear, dot-comm, nil-dot}
 use Rattle.minima.specs.Values.{Least, change}
-use Rattle.minima.specs.ValueLaws.{change-⊕, least-of}
-use Rattle.minima.specs.Digits.{Bounded, zeros, not-below-nonneg}
+use Rattle.minima.specs.ValueLaws.{change-⊕, change-zero, least-of}
+use Rattle.minima.specs.Digits.{Bounded, bounded-cons, zeros, not-below-nonneg, number, falls}
+use Rattle.minima.specs.Grid.{lists, in-lists, lists-are}
 use Rattle.minima.specs.Descent.{Six, form, descent}
-use Rattle.minima.specs.Pairs.{Pair, Pairs, pair-sign, pairs-at, six}
+use Rattle.minima.specs.Pairs.{Pairs, pair-sign, pairs-at, six}
 
 -- ---- fewer than three vectors are three, the zero vector in the missing places, and lists cut to the number of vectors
 
@@ -65,10 +68,7 @@ take-whole (a ∷ b ∷ c ∷ []) h = refl
 take-whole (a ∷ b ∷ c ∷ d ∷ x) h = absurd (omega arith)
 
 bounded-three : {B : ℕ} {x y z : ℤ} → Within B x → Within B y → Within B z → Bounded B (x ∷ y ∷ z ∷ [])
-bounded-three h k l zero = h
-bounded-three h k l (suc zero) = k
-bounded-three h k l (suc (suc zero)) = l
-bounded-three h k l (suc (suc (suc i))) = record { within = omega arith }
+bounded-three {y} {z} h k l = bounded-cons (y ∷ z ∷ []) h (bounded-cons (z ∷ []) k (bounded-cons [] l (λ i. record { within = omega arith })))
 
 -- ---- sign and size of a coefficient
 
@@ -162,3 +162,27 @@ module _ (r : Vec) (bs : List Vec) (short : length bs ≤ 3) (ps : Pairs bs)
     where
       whole : shape (sign (nth x 0) *ℤ pos (natAbs (nth x 0))) (sign (nth x 1) *ℤ pos (natAbs (nth x 1))) (sign (nth x 2) *ℤ pos (natAbs (nth x 2))) ≡ x
       whole = rw (sign-size (nth x 0), sign-size (nth x 1), sign-size (nth x 2), ← l) (take-whole x (subst (λ n. n ≤ 3) (sym l) short))
+
+-- ---- the table
+
+-- does the step e lead from a list with residual r to one of smaller value?
+abbrev pub improves : Vec → List Vec → List ℤ → Bool
+improves r bs e = below (change r bs e) (zeros (change r bs e))
+
+-- no list of the table improves: the least value of all
+pub table-least : (bs : List Vec) (t : Vec) (y : List ℤ) → length bs ≤ 3 → Pairs bs → length y ≡ length bs
+    → ((i : ℕ) → i < length (lists (length bs)) → improves (t ⊖ comb y bs) bs (getD (lists (length bs)) i []) ≡ false) → Least bs t y
+table-least bs t y short ps l f = least-of bs t y l (table (t ⊖ comb y bs) bs short ps small)
+  where
+    small : (e : List ℤ) → length e ≡ length bs → Bounded 1 e → Nonneg (change (t ⊖ comb y bs) bs e)
+    small e k h = ⊎-elim (not-below-nonneg (change (t ⊖ comb y bs) bs e))
+        (λ z. nonneg-zeros (change (t ⊖ comb y bs) bs e) (change-zero (t ⊖ comb y bs) bs e z))
+        (in-lists (λ e. improves (t ⊖ comb y bs) bs e ≡ false) (length bs) f e k h)
+
+-- a list of the table that improves lowers the number: the measure of a loop that takes such steps
+pub table-falls : (r : Vec) (bs : List Vec) (y : List ℤ) (i : ℕ) → length y ≡ length bs → i < length (lists (length bs))
+    → improves r bs (getD (lists (length bs)) i []) ≡ true
+    → number (pos 2) (N (r ⊖ comb (getD (lists (length bs)) i []) bs) ∷ (y ⊕ getD (lists (length bs)) i [])) <ℤ number (pos 2) (N r ∷ y)
+table-falls r bs y i l h d =
+    let s = lists-are (length bs) i h in
+    falls 1 r bs y (getD (lists (length bs)) i []) (l ∙ sym (s .count)) (s .bounded) d

@@ -12,8 +12,8 @@ use Rattle.integers.specs.Identity.{by-ring, reads}
 use Rattle.integers.specs.Certificate.{NN, by-nn, nn-pos, _⊠_}
 use Rattle.integers.specs.Lists.{nth, entries, same, length-⊕, length-⊕-same, length-⊖-same}
 use Rattle.integers.specs.Lex.{Nonneg, below, nonneg-ext, nonneg-⊕, nonneg-raise, nonneg-below, below-false, below-antisymm}
-use Rattle.lattices.specs.Vector.{Vec, N, dot, _⊕_, _⊖_, _⊙_, comb}
-use Rattle.lattices.specs.VectorLaws.{_≈_, ≈-refl, ≈-trans, ≈-dot, ≈-N, ≈-⊕, ≈-⊙, dot-comm, bilinear, comb-⊕}
+use Rattle.lattices.specs.Vector.{Vec, N, Zero, dot, _⊕_, _⊖_, comb}
+use Rattle.lattices.specs.VectorLaws.{_≈_, ≈-refl, ≈-trans, ≈-dot, ≈-N, ≈-⊕, ≈-⊙, dot-comm, bilinear, zero-dot, against, comb-dot, comb-⊕}
 use Rattle.lattices.specs.Nearest.{value}
 use Rattle.minima.specs.Values.{Least, gain, change}
 
@@ -69,6 +69,15 @@ value-change bs t y x i = rw (value-⊕ bs t y x) (simp entries (back (nth (valu
   where
     back : (a b : ℤ) → a +ℤ b +ℤ negsuc 0 *ℤ a ≡ b
     back a b = by-ring (a ∷ b ∷ []) (search reads) (search reads) tt
+
+-- the list of zeros changes nothing
+pub change-zero : (r : Vec) (bs : List Vec) (e : List ℤ) → Zero e → Zero (change r bs e)
+unfolding gain dot
+change-zero r bs e z zero = gain-≈ r still
+  where
+    still : comb e bs ≈ []
+    still = record { on = λ w. comb-dot e bs w ∙ zero-dot e z (against bs w) }
+change-zero r bs e z (suc i) = z i
 
 -- both from one residual: enough that the two vectors do not point apart
 pub change-⊕ : (r : Vec) (bs : List Vec) (x e : List ℤ) → NN (dot (comb x bs) (comb e bs))
