@@ -54,7 +54,7 @@ record Split (A B C p q r : ℤ) (i j k : ℕ) : Type 0 where
   small : (a ≤ 1) × (b ≤ 1) × (c ≤ 1)
   some : 1 ≤ a + b + c
   sums : (a + x ≡ i) × (b + y ≡ j) × (c + z ≡ k)
-  apart : NN (form A B C p q r (pos a) (pos b) (pos c) (pos x) (pos y) (pos z))
+  product : NN (form A B C p q r (pos a) (pos b) (pos c) (pos x) (pos y) (pos z))
 
 -- the first vector may be any of the three: turn them
 turn-six : {A B C p q r : ℤ} → Six A B C p q r → Six B C A r p q
@@ -75,7 +75,7 @@ turn {A} {B} {C} {p} {q} {r} s = record {
   small = (s .small .2, s .small .0, s .small .1);
   some = omega (arith, s .some);
   sums = (s .sums .2, s .sums .0, s .sums .1);
-  apart = subst NN (turn-form A B C p q r (pos (s .c)) (pos (s .a)) (pos (s .b)) (pos (s .z)) (pos (s .x)) (pos (s .y))) (s .apart);
+  product = subst NN (turn-form A B C p q r (pos (s .c)) (pos (s .a)) (pos (s .b)) (pos (s .z)) (pos (s .x)) (pos (s .y))) (s .product);
 }
 
 one : {A B C p q r : ℤ} → Six A B C p q r → (i j k : ℕ) → j + k + 2 ≤ 2 * i → Split A B C p q r i j k
@@ -89,7 +89,7 @@ one s i j k h = record {
   small = omega arith;
   some = omega arith;
   sums = omega arith;
-  apart = alone s (pos (i - 1)) (pos j) (pos k) (nn-pos j) (nn-pos k) (leZ-yes (le→leb (j + k) (2 * (i - 1)) (omega arith)));
+  product = alone s (pos (i - 1)) (pos j) (pos k) (nn-pos j) (nn-pos k) (leZ-yes (le→leb (j + k) (2 * (i - 1)) (omega arith)));
 }
 
 three : {A B C p q r : ℤ} → Six A B C p q r → (i j k : ℕ) → i ≡ j → 1 ≤ k → k ≤ i → Split A B C p q r i j k
@@ -103,7 +103,7 @@ three s i j k e h l = record {
   small = omega arith;
   some = omega arith;
   sums = omega arith;
-  apart = together s (pos (k - 1)) (pos (i - k)) (nn-pos (k - 1)) (nn-pos (i - k));
+  product = together s (pos (k - 1)) (pos (i - k)) (nn-pos (k - 1)) (nn-pos (i - k));
 }
 
 -- the largest size first: where it does not outweigh the others, another is equal to it
@@ -133,7 +133,7 @@ descent s P base step zero i j k h = base i j k (omega arith) (omega arith) (ome
 descent {A} {B} {C} {p} {q} {r} s P base step (suc n) i j k h = pick (decLe (max i (max j k)) 1) (descent s P base step n)
   where
     down : Split A B C p q r i j k → ((i j k : ℕ) → i + j + k ≤ n → P i j k) → P i j k
-    down t ih = step (t .a) (t .b) (t .c) (t .x) (t .y) (t .z) i j k (t .sums .0) (t .sums .1) (t .sums .2) (t .apart)
+    down t ih = step (t .a) (t .b) (t .c) (t .x) (t .y) (t .z) i j k (t .sums .0) (t .sums .1) (t .sums .2) (t .product)
         (base (t .a) (t .b) (t .c) (t .small .0) (t .small .1) (t .small .2)) (ih (t .x) (t .y) (t .z) (omega (arith, t .sums, t .some)))
 
     pick : Dec (max i (max j k) ≤ 1) → ((i j k : ℕ) → i + j + k ≤ n → P i j k) → P i j k
