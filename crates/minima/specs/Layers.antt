@@ -16,7 +16,8 @@ use Rattle.integers.specs.Lex.{Nonneg, nonneg-⊕, nonneg-raise, nonneg-unscale
 use Rattle.lattices.specs.Vector.{Vec, N, dot, comb, _⊕_, _⊙_, _⊖_}
 use Rattle.lattices.specs.VectorLaws.{dot-comm, bilinear, N-nonneg, comb-dot, unit, _≈_, ≈-refl, ≈-sym, ≈-trans, ≈-⊕, ≈-N, comb-snoc}
 use Rattle.minima.specs.Values.{gain, change}
-use Rattle.minima.specs.Rounding.{≤-up, loss, loss-bound, dent-third, Above, nonneg-≈, gain-≈, above-≈, round}
+use Rattle.minima.specs.ValueLaws.{gain-≈, gain-shift}
+use Rattle.minima.specs.Rounding.{≤-up, loss, loss-bound, dent-third, Above, nonneg-≈, above-≈, round}
 use Rattle.minima.specs.Reduced.{Top}
 use Rattle.minima.specs.ReducedLaws.{Sign, by-sign, sign-⊙, rounded}
 use Rattle.minima.specs.Snoc.{snoc-≈, units, comb-units, fit, length-fit, comb-fit, fit-units}
@@ -76,12 +77,6 @@ layers r {b} {vs} t l f = by-sign (Layer r vs b) (f (pos 0) (omega arith)) beyon
     beyond (suc (suc k)) s x e g n = far r vs b t l (suc (suc k)) s x e g (≤-up 3 (suc (suc k)) (omega arith)) (f s (omega (arith, e .size)))
 
 -- ---- one layer from a search below it
--- a change in two steps, the second from the residual that the first leaves
-gain-⊕ : (r y d : Vec) → gain r (y ⊕ d) ≡ gain r y +ℤ gain (r ⊖ y) d
-unfolding gain
-gain-⊕ r y d = simp (bilinear, dot-comm d y)
-    (by-ring (N y ∷ N d ∷ dot y d ∷ dot y r ∷ dot d r ∷ []) (search reads depth 20 fits 5000) (search reads depth 20 fits 5000) tt)
-
 replace : (c w z : Vec) → (c ⊕ w) ⊕ (z ⊖ w) ≈ c ⊕ z
 replace c w z = record { on = λ v. simp bilinear (by-ring (dot c v ∷ dot w v ∷ dot z v ∷ []) (search reads depth 20) (search reads depth 20) tt) }
 
@@ -92,7 +87,7 @@ nonneg-sum a c u v p q = nonneg-⊕ (a ∷ u) (c ∷ v) p q
 -- if w is not below on the layer j, and no list of the vectors below b lies below from there, the whole layer is not below
 pub layer-by-search : (r : Vec) (vs : List Vec) (b : Vec) (j : ℤ) (w : List ℤ) → length w ≡ length vs → Nonneg (change r (vs ++ (b ∷ [])) (w ++ (j ∷ []))) → ((e : List ℤ) → length e ≡ length vs → Nonneg (change (r ⊖ comb (w ++ (j ∷ [])) (vs ++ (b ∷ []))) vs e)) → Layer r vs b j
 layer-by-search r vs b j w l p f z m =
-    nonneg-≈ ((w ++ (j ∷ [])) ⊕ (z ⊖ w)) (z ++ (j ∷ [])) (sym (gain-⊕ r y d) ∙ gain-≈ r point) list
+    nonneg-≈ ((w ++ (j ∷ [])) ⊕ (z ⊖ w)) (z ++ (j ∷ [])) (sym (gain-shift r y d) ∙ gain-≈ r point) list
     (nonneg-sum (gain r y) (gain (r ⊖ y) d) (w ++ (j ∷ [])) (z ⊖ w) p (f (z ⊖ w) (length-⊖-same z w (m ∙ sym l) ∙ m)))
   where
     y : Vec

@@ -5,6 +5,10 @@ pub mod Rounding
 pub mod Reduced
 pub mod Snoc
 pub mod ReducedLaws
+pub mod Digits
+pub mod Grid
+pub mod Descent
+pub mod Pairs
 pub mod Table
 pub mod Layers
 pub mod NearestLaws

@@ -14,10 +14,11 @@ use Rattle.integers.specs.Order.{≤ℤ-of-<ℤ, ≤ℤ-of-≡, ≤ℤ-antisymm
 use Rattle.integers.specs.Certificate.{NN, _⊞_, _⊠_, nn-sq, nn-pos, nn-ring, le, lt, eq, by-nn}
 use Rattle.integers.specs.Division.{up, quot, rest, up-pos, quot-rest, rest-nonneg, rest-lt}
 use Rattle.integers.specs.Lists.{entries}
-use Rattle.integers.specs.Lex.{Nonneg, nonneg-⊕, nonneg-⊙, nonneg-cancel, nonneg-ext, nonneg-scale, nonneg-raise, nonneg-zeros}
+use Rattle.integers.specs.Lex.{Nonneg, head-nonneg, nonneg-⊕, nonneg-⊙, nonneg-cancel, nonneg-ext, nonneg-scale, nonneg-raise, nonneg-zeros}
 use Rattle.lattices.specs.Vector.{Vec, N, nth, dot, comb, _⊕_, _⊙_}
 use Rattle.lattices.specs.VectorLaws.{dot-comm, dot-nil, nil-dot, dot-⊕, dot-⊙, dot-⊙ʳ, bilinear, N-nonneg, comb-dot, _≈_, ≈-refl, ≈-sym, ≈-trans, ≈-⊕, ≈-N, ≈-nth, ≈-Zero}
 use Rattle.minima.specs.Values.{gain}
+use Rattle.minima.specs.ValueLaws.{gain-≈}
 use Rattle.minima.specs.Reduced.{Under}
 
 -- ---- interpolation between p and p + n·b
@@ -97,10 +98,6 @@ nonneg-≈ {a} {a′} u u′ e f p = nonneg-ext (a ∷ u) (a′ ∷ u′) entry 
     entry : (i : ℕ) → nth (a ∷ u) i ≡ nth (a′ ∷ u′) i
     entry zero = e
     entry (suc i) = ≈-nth f i
-
-pub gain-≈ : (r : Vec) {y y′ : Vec} → y ≈ y′ → gain r y ≡ gain r y′
-unfolding gain
-gain-≈ r e = ap₂ (λ a b. a -ℤ pos 2 *ℤ b) (≈-N e) (e .on r)
 
 pub above-≈ : {r y y′ : Vec} {m : ℤ} {x x′ : List ℤ} → y ≈ y′ → x ≈ x′ → Above r m y x → Above r m y′ x′
 above-≈ {r} {m} {x} {x′} e f p = record { nonneg = nonneg-≈ x x′ (ap (λ a. a +ℤ m) (gain-≈ r e)) f (p .nonneg) }
@@ -191,9 +188,6 @@ round k r m (w ∷ ws) bs us c ξ h =
     (λ q. round k r m ws (tail bs) (tail us) (c ⊕ q ⊙ getD bs 0 []) (ξ ⊕ q ⊙ getD us 0 []) (λ z. above-≈ (taken (up k) q c z bs) (taken (up k) q ξ z us) (h (q ∷ z))))
 
 -- ---- the bound for numbers alone: no residual, no tie list
-head-nonneg : {r y : Vec} {m : ℤ} {x : List ℤ} → Above r m y x → NN (gain r y +ℤ m)
-head-nonneg p = ⊎-elim ≤ℤ-of-<ℤ (λ h. ≤ℤ-of-≡ (sym (h .0))) (p .nonneg)
-
 bare : {m : ℤ} {y : Vec} {x : List ℤ} → x ≈ [] → m ≤ℤ N y → Above [] (negℤ m) y x
 unfolding gain
 bare {m} {y} {x} e h = record {
@@ -214,4 +208,4 @@ round-N k m w bs c h = by-nn (up k ∷ m ∷ N y ∷ dot y [] ∷ dot y (up k �
     none z = record { on = λ v. simp (dot-⊕, comb-dot, nil-dot, dot-nil) }
 
     bound : NN (gain (up k ⊙ []) y +ℤ (loss k w bs +ℤ up k *ℤ up k *ℤ negℤ m))
-    bound = head-nonneg (round k [] (negℤ m) w bs [] c [] (λ z. bare (none z) (h z)))
+    bound = head-nonneg (gain (up k ⊙ []) y +ℤ (loss k w bs +ℤ up k *ℤ up k *ℤ negℤ m)) (up k ⊙ [] ⊕ comb w []) (round k [] (negℤ m) w bs [] c [] (λ z. bare (none z) (h z)) .nonneg)

@@ -1,6 +1,6 @@
 -- Laws of the change of value, over any number of vectors: how it adds, and that a list is of least value exactly when no change
 -- from it is below zero. Distance and tie rule are one order here, so one argument proves both.
-use mathlib.Core.Path.{_≡_, refl, sym, ap, ap₂, _∙_}
+use mathlib.Core.Path.{_≡_, sym, ap, ap₂, _∙_, subst}
 use mathlib.Core.Bool.{false}
 use mathlib.Core.List.{List, [], _∷_, tail}
 use Prim.Native.Nat.{ℕ, zero, suc}
@@ -12,8 +12,8 @@ use Rattle.integers.specs.Identity.{by-ring, reads}
 use Rattle.integers.specs.Certificate.{NN, by-nn, nn-pos, _⊠_}
 use Rattle.integers.specs.Lists.{nth, entries, same, length-⊕, length-⊕-same, length-⊖-same}
 use Rattle.integers.specs.Lex.{Nonneg, below, nonneg-ext, nonneg-⊕, nonneg-raise, nonneg-below, below-false, below-antisymm}
-use Rattle.lattices.specs.Vector.{Vec, N, dot, _⊕_, _⊖_, _⊙_, comb}
-use Rattle.lattices.specs.VectorLaws.{_≈_, ≈-refl, ≈-dot, ≈-N, dot-comm, bilinear, comb-⊕}
+use Rattle.lattices.specs.Vector.{Vec, N, Zero, dot, _⊕_, _⊖_, comb}
+use Rattle.lattices.specs.VectorLaws.{_≈_, ≈-refl, ≈-trans, ≈-dot, ≈-N, ≈-⊕, ≈-⊙, dot-comm, bilinear, zero-dot, against, comb-dot, comb-⊕}
 use Rattle.lattices.specs.Nearest.{value}
 use Rattle.minima.specs.Values.{Least, gain, change}
 
@@ -38,30 +38,46 @@ gain-shift r u v = simp (bilinear, dot-comm v u) (by-ring (N u ∷ N v ∷ dot u
 
 -- ---- the change of value
 
--- what value changes by from one coefficient list to another, in the words of the residual at the first
-pub value-change : (bs : List Vec) (t : Vec) (y x : List ℤ) (i : ℕ) → nth (value bs t (y ⊕ x) ⊖ value bs t y) i ≡ nth (change (t ⊖ comb y bs) bs x) i
-unfolding _⊕_ _⊙_
-value-change bs t y x zero = distances
+-- the residual at a sum is what the second part leaves of the residual at the first
+pub residual-⊕ : (bs : List Vec) (t : Vec) (y x : List ℤ) → t ⊖ comb (y ⊕ x) bs ≈ (t ⊖ comb y bs) ⊖ comb x bs
+residual-⊕ bs t y x = ≈-trans (≈-⊕ ≈-refl (≈-⊙ (negsuc 0) (comb-⊕ y x bs))) (regroup (comb y bs) (comb x bs))
   where
-    split : N (t ⊖ comb (y ⊕ x) bs) ≡ N t +ℤ (gain t (comb y bs) +ℤ gain (t ⊖ comb y bs) (comb x bs))
-    split = gain-is t (comb (y ⊕ x) bs) ∙ ap (λ g. N t +ℤ g) (gain-≈ t (comb-⊕ y x bs) ∙ gain-shift t (comb y bs) (comb x bs))
+    regroup : (u v : Vec) → t ⊖ (u ⊕ v) ≈ (t ⊖ u) ⊖ v
+    regroup u v = record { on = λ w. simp bilinear (by-ring (dot t w ∷ dot u w ∷ dot v w ∷ []) (search reads depth 8) (search reads depth 8) tt) }
 
-    cancel : (n g h : ℤ) → (n +ℤ (g +ℤ h)) +ℤ negsuc 0 *ℤ (n +ℤ g) ≡ h
-    cancel n g h = by-ring (n ∷ g ∷ h ∷ []) (search reads) (search reads) tt
-
-    distances : N (t ⊖ comb (y ⊕ x) bs) +ℤ negsuc 0 *ℤ N (t ⊖ comb y bs) ≡ gain (t ⊖ comb y bs) (comb x bs)
-    distances = ap₂ (λ p q. p +ℤ negsuc 0 *ℤ q) split (gain-is t (comb y bs)) ∙ cancel (N t) (gain t (comb y bs)) (gain (t ⊖ comb y bs) (comb x bs))
-value-change bs t y x (suc i) = simp entries (by-ring (nth y i ∷ nth x i ∷ []) (search reads) (search reads) tt)
+-- the residual first, its squared length before the coefficients
+pub residual-change : (r : Vec) (bs : List Vec) (y x : List ℤ) → (N (r ⊖ comb x bs) ∷ (y ⊕ x)) ≡ (N r ∷ y) ⊕ change r bs x
+unfolding _⊕_
+residual-change r bs y x = ap (λ n. n ∷ (y ⊕ x)) (gain-is r (comb x bs))
 
 -- in two steps: the second from the residual that the first leaves
-pub change-shift : (r : Vec) (bs : List Vec) (x e : List ℤ) (i : ℕ) → nth (change r bs x ⊕ change (r ⊖ comb x bs) bs e) i ≡ nth (change r bs (x ⊕ e)) i
+pub change-shift : (r : Vec) (bs : List Vec) (x e : List ℤ) → change r bs (x ⊕ e) ≡ change r bs x ⊕ change (r ⊖ comb x bs) bs e
 unfolding _⊕_
-change-shift r bs x e zero = sym (gain-≈ r (comb-⊕ x e bs) ∙ gain-shift r (comb x bs) (comb e bs))
-change-shift r bs x e (suc i) = refl
+change-shift r bs x e = ap (λ g. g ∷ (x ⊕ e)) (gain-≈ r (comb-⊕ x e bs) ∙ gain-shift r (comb x bs) (comb e bs))
 
 pub nonneg-shift : (r : Vec) (bs : List Vec) (x e : List ℤ) → Nonneg (change r bs x) → Nonneg (change (r ⊖ comb x bs) bs e) → Nonneg (change r bs (x ⊕ e))
-nonneg-shift r bs x e p q = nonneg-ext (change r bs x ⊕ change (r ⊖ comb x bs) bs e) (change r bs (x ⊕ e)) (change-shift r bs x e)
-    (nonneg-⊕ (change r bs x) (change (r ⊖ comb x bs) bs e) p q)
+nonneg-shift r bs x e p q = subst Nonneg (sym (change-shift r bs x e)) (nonneg-⊕ (change r bs x) (change (r ⊖ comb x bs) bs e) p q)
+
+-- the value of a sum, in the words of the residual at its first part
+pub value-⊕ : (bs : List Vec) (t : Vec) (y x : List ℤ) → value bs t (y ⊕ x) ≡ value bs t y ⊕ change (t ⊖ comb y bs) bs x
+unfolding _⊕_
+value-⊕ bs t y x = ap (λ n. n ∷ (y ⊕ x)) (≈-N (residual-⊕ bs t y x) ∙ gain-is (t ⊖ comb y bs) (comb x bs))
+
+-- entry by entry, what the value changes by
+pub value-change : (bs : List Vec) (t : Vec) (y x : List ℤ) (i : ℕ) → nth (value bs t (y ⊕ x) ⊖ value bs t y) i ≡ nth (change (t ⊖ comb y bs) bs x) i
+value-change bs t y x i = rw (value-⊕ bs t y x) (simp entries (back (nth (value bs t y) i) (nth (change (t ⊖ comb y bs) bs x) i)))
+  where
+    back : (a b : ℤ) → a +ℤ b +ℤ negsuc 0 *ℤ a ≡ b
+    back a b = by-ring (a ∷ b ∷ []) (search reads) (search reads) tt
+
+-- the list of zeros changes nothing
+pub change-zero : (r : Vec) (bs : List Vec) (e : List ℤ) → Zero e → Zero (change r bs e)
+unfolding gain dot
+change-zero r bs e z zero = gain-≈ r still
+  where
+    still : comb e bs ≈ []
+    still = record { on = λ w. comb-dot e bs w ∙ zero-dot e z (against bs w) }
+change-zero r bs e z (suc i) = z i
 
 -- both from one residual: enough that the two vectors do not point apart
 pub change-⊕ : (r : Vec) (bs : List Vec) (x e : List ℤ) → NN (dot (comb x bs) (comb e bs))

@@ -1,4 +1,4 @@
--- The value of a coefficient list as it changes: least values, and the change from one list to another. First the definitions.
+-- The value of a coefficient list as it changes: least values, and the change from one list to another. Their laws are in ValueLaws.
 use mathlib.Core.Path.{_≡_}
 use mathlib.Core.Bool.{false}
 use mathlib.Core.List.{List, _∷_}
