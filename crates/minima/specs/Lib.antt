@@ -8,3 +8,4 @@ pub mod ReducedLaws
 pub mod Table
 pub mod Layers
 pub mod NearestLaws
+pub mod Minima
