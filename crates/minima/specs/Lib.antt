@@ -12,3 +12,4 @@ pub mod Pairs
 pub mod Table
 pub mod Layers
 pub mod NearestLaws
+pub mod Minima
