@@ -1,0 +1,1 @@
+-- The checks of an input, refusals 1 to 5, and its basis as an array.

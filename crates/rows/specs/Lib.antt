@@ -1,0 +1,1 @@
+-- Rows of numbers: what the engine's vectors and tables are made of.

@@ -1,0 +1,1 @@
+-- The search for the nearest vector among at most three reduced ones.
