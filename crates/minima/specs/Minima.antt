@@ -15,7 +15,7 @@ use Rattle.lattices.specs.Vector.{Vec, N, nth, comb, _⊙_, In, Dependent, Inde
 use Rattle.lattices.specs.VectorLaws.{_≈_, ≈-refl, ≈-sym, ≈-trans, ≈-of-≡, ≈-⊕, ≈-⊙, ≈-N, ≈-Zero, Zero-≈, nth-≈, nil-dot, N-nonneg, comb-⊕, comb-⊙, comb-≈, comb-nil, comb-none, comb-reverse}
 use Rattle.volumes.specs.Dependence.{Fit, too-many}
 use Rattle.minima.specs.Reduced.{Under, Descending, Reduced}
-use Rattle.minima.specs.ReducedLaws.{any}
+use Rattle.minima.specs.ReducedLaws.{any, under}
 
 -- every element of a list has P
 abbrev pub All : {A : Type 0} → (A → Type 0) → List A → Type 0
@@ -41,11 +41,6 @@ getD-reverse (x ∷ l) d (suc i) k e =
     ap (λ r. getD r k d) (reverse-cons x l) ∙ List·getD-append (reverse l) (x ∷ []) d k (omega (arith, length-reverse l)) ∙ getD-reverse l d i k (omega arith)
 
 -- `Descending` says it by recursion, here it is by places: no later vector is longer
-under : {s : ℤ} (bs : List Vec) → Under s bs → NN s → (j : ℕ) → N (getD bs j []) ≤ℤ s
-under [] u n j = rw (nil-dot []) n
-under (b ∷ bs) u n zero = u .0
-under (b ∷ bs) u n (suc j) = under bs (u .1) n j
-
 descending : (bs : List Vec) → Descending bs → (j k : ℕ) → j ≤ k → N (getD bs k []) ≤ℤ N (getD bs j [])
 descending [] d j k h = ≤ℤ-refl (N [])
 descending (b ∷ bs) d zero zero h = ≤ℤ-refl (N b)

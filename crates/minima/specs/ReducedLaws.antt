@@ -84,7 +84,8 @@ skip : {x : ℤ} (xs : List ℤ) (b : Vec) (bs : List Vec) → x ≡ pos 0 → c
 skip {x} xs b bs e = ≈-trans (comb-cons x xs b bs)
     (record { on = λ w. rw e (simp bilinear (by-ring (dot b w ∷ dot (comb xs bs) w ∷ []) (search reads) (search reads) tt)) })
 
-under : {s : ℤ} (bs : List Vec) → Under s bs → NN s → (j : ℕ) → N (getD bs j []) ≤ℤ s
+-- `Under` by places, the place beyond the end included
+pub under : {s : ℤ} (bs : List Vec) → Under s bs → NN s → (j : ℕ) → N (getD bs j []) ≤ℤ s
 under [] u n j = rw (nil-dot []) n
 under (b ∷ bs) u n zero = u .0
 under (b ∷ bs) u n (suc j) = under bs (u .1) n j

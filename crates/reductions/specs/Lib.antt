@@ -6,3 +6,4 @@ pub mod Fuel
 pub mod Tables
 pub mod Start
 pub mod Exactness
+pub mod Kept
