@@ -55,12 +55,12 @@ falls-sorted k reduce m (r ∷ rows) e s q =
     new : total (joined p) ≡ total (c .rows) +ℤ (N (p .last .vector) +ℤ pos 0)
     new = total-append (p .first) (p .last ∷ []) ∙ ap (λ s. s +ℤ (N (p .last .vector) +ℤ pos 0)) (total-credited _ (l .v) (c .rows))
 
-falls : (k : ℕ) (reduce : List Row → Counted) → Moving k reduce → (rows : List Row) → length rows ≡ suc k
+pub falls : (k : ℕ) (reduce : List Row → Counted) → Moving k reduce → (rows : List Row) → length rows ≡ suc k
     → shorter (round reduce (order rows) .last) (round reduce (order rows) .first) ≡ true → total (joined (round reduce (order rows))) <ℤ total rows
 falls k reduce m rows e q = subst (λ t. total (joined (round reduce (order rows))) <ℤ t) (sym (perm-total (order-perm rows)))
     (falls-sorted k reduce m (order rows) (sym (perm-length (order-perm rows)) ∙ e) (order-sorted rows) q)
 
-size-falls : (a b : ℤ) → NN a → a <ℤ b → natAbs a < natAbs b
+pub size-falls : (a b : ℤ) → NN a → a <ℤ b → natAbs a < natAbs b
 size-falls (pos a) (pos b) h k = ltb→lt a b (k .lt)
 size-falls (pos a) (negsuc b) h k = absurd (k .lt)
 size-falls (negsuc a) b h k = absurd (h .le)

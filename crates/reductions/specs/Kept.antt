@@ -20,7 +20,7 @@ use Rattle.volumes.specs.Forms.{inner-on, inner-comm}
 use Rattle.volumes.specs.Exterior.{wedge-bound, inner-nonneg}
 use Rattle.volumes.specs.Hadamard.{hadamard}
 use Rattle.volumes.specs.Cramer.{step-keeps, perm-keeps}
-use Rattle.reductions.specs.Moves.{Moves, none, after, exchange, subtract, vectors-credited, length-vectors}
+use Rattle.reductions.specs.Moves.{Moves, none, after, exchange, subtract, vectors-credited, vectors-append, length-vectors}
 
 -- ---- the exterior product looks at the entries of a vector only
 head-nth : (u : Vec) → head u ≡ nth u 0
@@ -66,10 +66,6 @@ pass-keeps m x b bs cs e = sym (step-keeps m 0 (pos 1 ∷ (negsuc 0 ⊙ x)) (b �
     same-dot : (w : Vec) → dot (comb (pos 1 ∷ (negsuc 0 ⊙ x)) (b ∷ (bs ++ cs))) w ≡ dot (b ⊖ comb x bs) w
     same-dot w = comb-cons (pos 1) (negsuc 0 ⊙ x) b (bs ++ cs) .on w
         ∙ simp (bilinear, comb-⊙ (negsuc 0) x (bs ++ cs) .on w, comb-left x bs cs e) (by-ring (dot b w ∷ dot (comb x bs) w ∷ []) (search reads) (search reads) tt)
-
-vectors-append : (a b : List Row) → vectors (a ++ b) ≡ vectors a ++ vectors b
-vectors-append [] b = refl
-vectors-append (r ∷ a) b = ap (λ l. r .vector ∷ l) (vectors-append a b)
 
 pub moves-keep : (m : ℕ) {a b : List Row} → Moves a b → squaredVolume m (vectors a) ≡ squaredVolume m (vectors b)
 moves-keep m (none a) = refl

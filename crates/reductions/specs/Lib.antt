@@ -7,3 +7,4 @@ pub mod Tables
 pub mod Start
 pub mod Exactness
 pub mod Kept
+pub mod Output

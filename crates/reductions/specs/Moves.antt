@@ -58,6 +58,10 @@ vectors-credited [] v rows = refl
 vectors-credited (x ∷ xs) v [] = refl
 vectors-credited (x ∷ xs) v (r ∷ rows) = ap (λ l. r .vector ∷ l) (vectors-credited xs v rows)
 
+pub vectors-append : (a b : List Row) → vectors (a ++ b) ≡ vectors a ++ vectors b
+vectors-append [] b = refl
+vectors-append (r ∷ a) b = ap (λ l. r .vector ∷ l) (vectors-append a b)
+
 pub length-vectors : (rows : List Row) → length (vectors rows) ≡ length rows
 length-vectors rows = length-map rows (λ r. r .vector)
 
