@@ -16,7 +16,7 @@ use Rattle.reductions.specs.Every.{Every}
 use Rattle.reductions.specs.Tables.{Exact, moves-exact, spread, Linear, moves-spread}
 use Rattle.reductions.specs.Start.{Sized, Coordinates, comb-places, sized-vectors, sized-us, moves-sized, sized-start, exact-start, spread-start, start-vectors, start-us, length-units, units-coordinates}
 
-comb-full : (m : ℕ) (x : List ℤ) (bs : List Vec) → Coordinates m bs → length x ≡ length bs → 1 ≤ length bs → length (comb x bs) ≡ m
+pub comb-full : (m : ℕ) (x : List ℤ) (bs : List Vec) → Coordinates m bs → length x ≡ length bs → 1 ≤ length bs → length (comb x bs) ≡ m
 unfolding comb
 comb-full m x [] h e s = absurd (omega arith)
 comb-full m [] (b ∷ bs) h e s = absurd (omega arith)
@@ -33,7 +33,7 @@ unfolding comb
 comb-spread f i [] w = nil-dot w
 comb-spread f i (r ∷ rows) w = dot-⊕ (nth (r .v) i ⊙ f r) (comb (rowOfV rows i) (map f rows)) w ∙ ap₂ _+ℤ_ (dot-⊙ (nth (r .v) i) (f r) w) (comb-spread f i rows w)
 
-coordinates-at : (m : ℕ) (gs : List Vec) → Coordinates m gs → (i : ℕ) → i < length gs → length (getD gs i []) ≡ m
+pub coordinates-at : (m : ℕ) (gs : List Vec) → Coordinates m gs → (i : ℕ) → i < length gs → length (getD gs i []) ≡ m
 coordinates-at m [] h i k = absurd (omega arith)
 coordinates-at m (g ∷ gs) h zero k = h .0
 coordinates-at m (g ∷ gs) h (suc i) k = coordinates-at m gs (h .1) i (omega arith)
@@ -59,17 +59,17 @@ u-linear = record { blind = λ r v. refl; linear = λ x rows r. refl }
 
 -- ---- the reduction of a list of at least one vector, of m coordinates each
 module _ (m : ℕ) (bs : List Vec) (full : Coordinates m bs) (some : 1 ≤ length bs) where
-  abbrev rows : List Row
+  abbrev pub rows : List Row
   rows = reduction bs .rows
 
-  begin : List Row
+  unfoldable pub begin : List Row
   begin = start bs (units (length bs))
 
-  length-begin : length begin ≡ length bs
+  pub length-begin : length begin ≡ length bs
   unfolding begin
   length-begin = sym (length-vectors (start bs (units (length bs)))) ∙ ap length (start-vectors bs (units (length bs)) (length-units (length bs)))
 
-  moved : Moves begin rows
+  pub moved : Moves begin rows
   unfolding begin
   moved = greedy-moves (length bs) (start bs (units (length bs))) length-begin
 

@@ -8,3 +8,4 @@ pub mod Start
 pub mod Exactness
 pub mod Kept
 pub mod Output
+pub mod Lattice

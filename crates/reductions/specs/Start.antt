@@ -36,6 +36,18 @@ take-first b n bs = record {
       ∙ ap₂ _+ℤ_ (dot-⊙ (pos 1) b w ∙ pos-one-*ℤ (dot b w)) (comb-zero (replicate n (pos 0)) (nth-replicate n) bs .on w ∙ nil-dot w) ∙ +ℤ-idr (dot b w);
 }
 
+pub getD-map : {A B : Type 0} (f : A → B) (l : List A) (d : A) (e : B) (k : ℕ) → k < length l → getD (map f l) k e ≡ f (getD l k d)
+getD-map f [] d e k h = absurd (omega arith)
+getD-map f (x ∷ l) d e zero h = refl
+getD-map f (x ∷ l) d e (suc k) h = getD-map f l d e k (omega arith)
+
+-- unit list k takes vector k
+pub unit-comb : (bs : List Vec) (k : ℕ) → k < length bs → comb (getD (units (length bs)) k []) bs ≈ getD bs k []
+unit-comb [] k h = absurd (omega arith)
+unit-comb (b ∷ bs) zero h = take-first b (length bs) bs
+unit-comb (b ∷ bs) (suc k) h = subst (λ l. comb l (b ∷ bs) ≈ getD bs k []) (sym (getD-map (λ l. pos 0 ∷ l) (units (length bs)) [] [] k (omega (arith, length-units (length bs)))))
+    (≈-trans (skip-first b (getD (units (length bs)) k []) bs) (unit-comb bs k (omega arith)))
+
 exact-skip : (b : Vec) (ins bs : List Vec) (es : List (List ℤ)) → Exact ins (start bs es) → Exact (b ∷ ins) (start bs (map (λ l. pos 0 ∷ l) es))
 exact-skip b ins [] es h = tt
 exact-skip b ins (c ∷ bs) [] h = tt
