@@ -50,11 +50,11 @@ through m gs h s t k n v i = record {
     count : length (i .coefficients) ≡ length t
     count = i .count ∙ length-map t (λ y. comb y gs)
 
-rows-of-v : (rows : List Row) (i n : ℕ) → Coordinates (length rows) (rowsOfV rows i n)
+pub rows-of-v : (rows : List Row) (i n : ℕ) → Coordinates (length rows) (rowsOfV rows i n)
 rows-of-v rows i zero = tt
 rows-of-v rows i (suc n) = (length-map rows (λ r. nth (r .v) i), rows-of-v rows (suc i) n)
 
-length-rows-of-v : (rows : List Row) (i n : ℕ) → length (rowsOfV rows i n) ≡ n
+pub length-rows-of-v : (rows : List Row) (i n : ℕ) → length (rowsOfV rows i n) ≡ n
 length-rows-of-v rows i zero = refl
 length-rows-of-v rows i (suc n) = ap suc (length-rows-of-v rows (suc i) n)
 

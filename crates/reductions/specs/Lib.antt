@@ -9,3 +9,5 @@ pub mod Exactness
 pub mod Kept
 pub mod Output
 pub mod Lattice
+pub mod Accepted
+pub mod Demand

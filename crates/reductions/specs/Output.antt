@@ -28,7 +28,7 @@ use Rattle.reductions.specs.Fuel.{falls, size-falls, stop, again}
 use Rattle.reductions.specs.Kept.{moves-keep, positive-before, positive-one}
 
 -- a least value leaves no longer residual than any other list
-least-N : {bs : List Vec} {t : Vec} {y : List ℤ} → Least bs t y → (x : List ℤ) → length x ≡ length bs → N (t ⊖ comb y bs) ≤ℤ N (t ⊖ comb x bs)
+pub least-N : {bs : List Vec} {t : Vec} {y : List ℤ} → Least bs t y → (x : List ℤ) → length x ≡ length bs → N (t ⊖ comb y bs) ≤ℤ N (t ⊖ comb x bs)
 least-N {bs} {t} {y} l x e = ⊎-elim (λ h. h) (λ h. absurd (false≢true (sym (l .least x e) ∙ below-< x y h))) (≤ℤ-or-<ℤ (N (t ⊖ comb y bs)) (N (t ⊖ comb x bs)))
 
 -- ---- step 4 and 5: no combination of the others makes the last vector shorter

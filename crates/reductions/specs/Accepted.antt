@@ -1,0 +1,100 @@
+-- What an accepted input is: the checks of the table of refusals, read as facts.
+use mathlib.Core.Path.{_≡_, refl, sym, ap, _∙_, subst}
+use mathlib.Core.Logic.{_≢_}
+use mathlib.Core.Bool.{Bool, true, false, not, _&&_, _||_, false≢true, true≢false}
+use mathlib.Core.List.{List, [], _∷_, _++_}
+use Prim.Native.Nat.{ℕ, zero, suc, _+_, _*_, _-_, _≤_, _<_, min}
+use native.Mathlib.Omega.{arith}
+use lib.IntN.{ℤ, pos, natAbs}
+use lib.Signed.{ltZ, leZ, _≤ℤ_, _<ℤ_}
+use lib.Dec.{T, leb, ltb, eqb, leb→le, eqb→eq}
+use lib.ListN.{length, take, drop, length-take, length-drop}
+use Rattle.integers.specs.Order.{ltZ-false, leZ-false}
+use Rattle.lattices.specs.Vector.{Vec, N, Independent}
+use Rattle.lattices.specs.Volume.{squaredVolume, isDependent}
+use Rattle.lattices.specs.Refusal.{Input, vectorsOf, basis, oneTo, any, tooLong, Check, firstOf, vectorChecks, targetChecks, mostVectors, mostCoordinates, mostSquare, mostSize}
+use Rattle.volumes.specs.Dependence.{independent-of-positive}
+use Rattle.minima.specs.Minima.{All}
+use Rattle.reductions.specs.Start.{Coordinates}
+
+-- ---- where no check applies, each condition is false
+pub passed : (cs : List Check) (i : Input) → All (λ c. c .number ≢ 0) cs → firstOf cs i ≡ 0 → All (λ c. c .condition i ≡ false) cs
+passed [] i h e = tt
+passed (c ∷ cs) i h e = go (c .condition i) refl e (λ f. passed cs i (h .1) f)
+  where
+    go : (b : Bool) → c .condition i ≡ b → _≡_ {A = ℕ} (elim b [ true ↦ c .number | false ↦ firstOf cs i ]) 0 → (firstOf cs i ≡ 0 → All (λ c. c .condition i ≡ false) cs) → (c .condition i ≡ false) × All (λ c. c .condition i ≡ false) cs
+    go true q e f = absurd (h .0 e)
+    go false q e f = (q, f e)
+
+true-T : {b : Bool} → b ≡ true → T b
+true-T e = subst T (sym e) tt
+
+not-false : (b : Bool) → not b ≡ false → b ≡ true
+not-false true e = refl
+not-false false e = absurd (true≢false e)
+
+and-left : (a b : Bool) → a && b ≡ true → a ≡ true
+and-left true b e = refl
+and-left false b e = absurd (false≢true e)
+
+and-right : (a b : Bool) → a && b ≡ true → b ≡ true
+and-right true b e = e
+and-right false b e = absurd (false≢true e)
+
+or-left : (a b : Bool) → a || b ≡ false → a ≡ false
+or-left true b e = absurd (true≢false e)
+or-left false b e = refl
+
+or-right : (a b : Bool) → a || b ≡ false → b ≡ false
+or-right true b e = absurd (true≢false e)
+or-right false b e = e
+
+one-to : (most n : ℕ) → oneTo most n ≡ true → (1 ≤ n) × (n ≤ most)
+one-to most n e = (leb→le 1 n (true-T (and-left (leb 1 n) (leb n most) e)), leb→le n most (true-T (and-right (leb 1 n) (leb n most) e)))
+
+-- the length limit
+abbrev pub Short : Vec → Type 0
+Short v = N v ≤ℤ pos mostSquare
+
+pub short : (v : Vec) → tooLong v ≡ false → Short v
+short v e = ltZ-false (or-right (any (λ x. ltb mostSize (natAbs x)) v) (ltZ (pos mostSquare) (N v)) e)
+
+all-short : (vs : List Vec) → any tooLong vs ≡ false → All Short vs
+all-short [] e = tt
+all-short (v ∷ vs) e = (short v (or-left (tooLong v) (any tooLong vs) e), all-short vs (or-right (tooLong v) (any tooLong vs) e))
+
+-- ---- the vectors of an input
+pub length-vectorsOf : (d m : ℕ) (l : List ℤ) → length (vectorsOf d m l) ≡ d
+length-vectorsOf zero m l = refl
+length-vectorsOf (suc d) m l = ap suc (length-vectorsOf d m (drop m l))
+
+pub vectorsOf-full : (d m : ℕ) (l : List ℤ) → length l ≡ d * m → Coordinates m (vectorsOf d m l)
+vectorsOf-full zero m l e = tt
+vectorsOf-full (suc d) m l e = (length-take m l ∙ omega arith, vectorsOf-full d m (drop m l) (length-drop m l ∙ omega arith))
+
+-- an accepted basis: the rows "vectors" of the table of refusals do not apply
+pub record Accepted (i : Input) : Type 0 where
+  pub some : 1 ≤ i .d
+  pub most : i .d ≤ mostVectors
+  pub coordinates : 1 ≤ i .m
+  pub few : i .m ≤ mostCoordinates
+  pub full : Coordinates (i .m) (basis i)
+  pub limit : All Short (basis i)
+  pub volume : pos 0 <ℤ squaredVolume (i .m) (basis i)
+
+pub accepted : (i : Input) → firstOf vectorChecks i ≡ 0 → Accepted i
+unfolding isDependent
+accepted i e =
+    let p = passed vectorChecks i (omega arith) e in
+    let d = one-to mostVectors (i .d) (not-false (oneTo mostVectors (i .d)) (p .0)) in
+    let m = one-to mostCoordinates (i .m) (not-false (oneTo mostCoordinates (i .m)) (p .1 .0)) in
+    let count : length (i .numbers) ≡ i .d * i .m = eqb→eq (length (i .numbers)) (i .d * i .m) (true-T (not-false (eqb (length (i .numbers)) (i .d * i .m)) (p .1 .1 .0))) in
+    record {
+      some = d .0;
+      most = d .1;
+      coordinates = m .0;
+      few = m .1;
+      full = vectorsOf-full (i .d) (i .m) (i .numbers) count;
+      limit = all-short (basis i) (p .1 .1 .1 .0);
+      volume = leZ-false (p .1 .1 .1 .1 .0);
+    }
