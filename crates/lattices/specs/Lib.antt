@@ -7,4 +7,5 @@ pub mod Nearest
 pub mod Greedy
 pub mod Refusal
 pub mod Answer
+pub mod AnswerLaws
 pub mod KnownResults

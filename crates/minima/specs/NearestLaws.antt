@@ -8,7 +8,7 @@ use native.Mathlib.Nat.{mul-le-mul}
 use native.Mathlib.Omega.{arith}
 use native.Mathlib.Decide.{ℕ-discrete}
 use lib.IntN.{ℤ, pos, negsuc, negℤ, natAbs, _+ℤ_, _-ℤ_, _*ℤ_, zero-*ℤ}
-use lib.Signed.{leZ, _≤ℤ_, _<ℤ_, leZ-yes, ≤ℤ-refl}
+use lib.Signed.{leZ, _≤ℤ_, _<ℤ_, leZ-yes, ≤ℤ-refl, clashℤ}
 use lib.Dec.{leb→le, le→leb}
 use lib.ListN.{length, length-append, length-reverse, replicate, length-replicate}
 use Rattle.integers.specs.Identity.{by-ring, reads}
@@ -18,6 +18,7 @@ use Rattle.integers.specs.Lex.{below-irrefl, below-asymm, below-negtrans, below
 use Rattle.lattices.specs.Vector.{Vec, N, nth, dot, _⊕_, _⊙_, _⊖_, comb}
 use Rattle.lattices.specs.VectorLaws.{_≈_, ≈-trans, ≈-N, nil-dot, dot-⊙, bilinear, dot-comm, N-nonneg, comb-cons, comb-none, comb-zero, ⊖-zero, comb-snoc, comb-reverse}
 use Rattle.lattices.specs.Nearest.{value, below, lesser, outward, near, least, nearest}
+use Rattle.volumes.specs.Sizes.{near-le}
 use Rattle.minima.specs.Values.{Least}
 use Rattle.minima.specs.ValueLaws.{least-only}
 use Rattle.minima.specs.Reduced.{Top, Descending, Reduced}
@@ -187,16 +188,7 @@ least-length bs t =
 -- ---- no list has a smaller value
 -- y farther than twice as far out as t is farther from t than 0 is
 farther : (t y : Vec) → (pos 4 *ℤ N t) <ℤ N y → N t <ℤ N (t ⊖ y)
-farther t y h = ⊎-elim
-    (λ (k : N (t ⊖ y) ≤ℤ N t). nn-false (N t ∷ N y ∷ dot t y ∷ []) (nn-pos 2 ⊠ le (expand k) ⊞ near-nn ⊞ lt h) (search reads depth 20) tt)
-    (λ k. k)
-    (≤ℤ-or-<ℤ (N (t ⊖ y)) (N t))
-  where
-    expand : N (t ⊖ y) ≤ℤ N t → (N t -ℤ pos 2 *ℤ dot t y +ℤ N y) ≤ℤ N t
-    expand k = subst (λ s. s ≤ℤ N t) (simp (bilinear, dot-comm y t) (by-ring (N t ∷ N y ∷ dot t y ∷ []) (search reads depth 20) (search reads depth 20) tt)) k
-
-    near-nn : NN (pos 4 *ℤ N t -ℤ pos 4 *ℤ dot t y +ℤ N y)
-    near-nn = subst NN (simp (bilinear, dot-comm y t) (by-ring (N t ∷ N y ∷ dot t y ∷ []) (search reads depth 20) (search reads depth 20) tt)) (N-nonneg (pos 2 ⊙ t ⊖ y))
+farther t y h = ⊎-elim (λ k. clashℤ h (near-le t y k)) (λ k. k) (≤ℤ-or-<ℤ (N (t ⊖ y)) (N t))
 
 -- the fuel reaches every layer that is near
 reach : (i : ℕ) (b z : ℤ) → pos 0 <ℤ b → (pos i *ℤ pos i *ℤ b) ≤ℤ z → i ≤ natAbs z

@@ -14,6 +14,7 @@ use Rattle.lattices.specs.Nearest.{nearest}
 use Rattle.lattices.specs.Greedy.{Row, Counted, vectors, units, reduction}
 use Rattle.lattices.specs.Refusal.{Input, Check, basis, firstOf, vectorChecks, targetChecks, mostVectors, mostCoordinates}
 use Rattle.lattices.specs.Answer.{padded, table, rowsOfV, Reduction, Nearest, reductionGiven, noReduction, reductionOf, nearestGiven, noNearest, nearestOf}
+use Rattle.lattices.specs.AnswerLaws.{take-padded}
 use Rattle.minima.specs.NearestLaws.{nearest-least, nearest-count}
 use Rattle.minima.specs.Minima.{All, Some, successive}
 use Rattle.reductions.specs.Moves.{length-vectors}
@@ -27,13 +28,6 @@ use Rattle.reductions.specs.Accepted.{Accepted, accepted, passed, length
 -- the first h rows of a table, each with its first w numbers
 abbrev pub used : ℕ → ℕ → List (List ℤ) → List (List ℤ)
 used h w t = map (take w) (take h t)
-
-take-padded : (m w : ℕ) (v : List ℤ) → length v ≡ m → m ≤ w → take m (padded w v) ≡ v
-take-padded zero w [] e h = refl
-take-padded zero w (x ∷ v) e h = absurd (omega arith)
-take-padded (suc m) zero v e h = absurd (omega arith)
-take-padded (suc m) (suc w) [] e h = absurd (omega arith)
-take-padded (suc m) (suc w) (x ∷ v) e h = ap (λ l. x ∷ l) (take-padded m w v (omega arith) (omega arith))
 
 used-table : (d m h w : ℕ) (vs : List (List ℤ)) → length vs ≡ d → Coordinates m vs → d ≤ h → m ≤ w → used d m (table h w vs) ≡ vs
 used-table zero m h w [] e k p q = refl
