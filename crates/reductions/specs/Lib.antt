@@ -11,3 +11,4 @@ pub mod Output
 pub mod Lattice
 pub mod Accepted
 pub mod Demand
+pub mod Padding
