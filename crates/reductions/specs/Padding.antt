@@ -11,12 +11,14 @@ use lib.ListN.{length}
 use Rattle.integers.specs.Lists.{same, nth-⊕, nth-⊙, length-⊕, length-⊙}
 use Rattle.lattices.specs.Vector.{Vec, N, nth, dot, _⊕_, _⊙_, _⊖_, comb}
 use Rattle.lattices.specs.VectorLaws.{_≈_, ≈-refl, ≈-sym, ≈-trans, ≈-⊕, ≈-⊙, ≈-≡, ≈-N}
+use Rattle.lattices.specs.Permutation.{perm-length}
 use Rattle.lattices.specs.Nearest.{outward, near, least, nearest}
 use Rattle.lattices.specs.Greedy.{Row, vectors, insert, order, lastOf, before, less, credited, Counted, Pass, pass, round, shorter, joined, repeat, total, greedy}
 use Rattle.lattices.specs.Answer.{padded}
 use Rattle.lattices.specs.AnswerLaws.{length-padded, nth-padded, padded-≈}
 use Rattle.reductions.specs.Moves.{Moves, Moving, order-perm, before-last, length-before, moves-length, ordered-moves, greedy-moves}
-use Rattle.reductions.specs.Every.{Every, every-perm, every-left}
+use Rattle.reductions.specs.Fuel.{stop, again}
+use Rattle.reductions.specs.Every.{Every, every-perm, every-left, every-right}
 use Rattle.reductions.specs.Start.{Sized, Coordinates, comb-places, sized-vectors, sized-us, moves-sized}
 
 -- ---- padding is linear
@@ -91,10 +93,10 @@ nearest-padded n m k bs c t e =
 
 -- ---- rows filled up: vectors to w numbers, rows of U and columns of V to h
 module _ (w h m d : ℕ) (wide : m ≤ w) (high : d ≤ h) where
-  pub pad : Row → Row
+  unfoldable pub pad : Row → Row
   pad r = record { vector = padded w (r .vector); u = padded h (r .u); v = padded h (r .v) }
 
-  abbrev Fits : List Row → Type 0
+  abbrev pub Fits : List Row → Type 0
   Fits = Every (Sized m d)
 
   pad-vectors : (rows : List Row) → vectors (map pad rows) ≡ map (padded w) (vectors rows)
@@ -157,3 +159,112 @@ module _ (w h m d : ℕ) (wide : m ≤ w) (high : d ≤ h) where
     where
       v-path : padded h (r .v) ⊕ x ⊙ padded h (s .v) ≡ padded h (r .v ⊕ x ⊙ s .v)
       v-path = sym (padded-⊕ h (r .v) (x ⊙ s .v) (omega (arith, f .0 .v)) (omega (arith, length-⊙ x (s .v), z .v)) ∙ ap (λ l. padded h (r .v) ⊕ l) (padded-⊙ h x (s .v) (omega (arith, z .v))))
+
+  -- ---- the steps
+  unfoldable pub pad-counted : Counted → Counted
+  pad-counted c = record { rows = map pad (c .rows); passes = c .passes }
+
+  pad-pass : Pass → Pass
+  pad-pass p = record { first = map pad (p .first); last = pad (p .last); passes = p .passes }
+
+  pass-padded : (c : Counted) (r : Row) → Fits (c .rows) → Sized m d r → pass (pad-counted c) (pad r) ≡ pad-pass (pass c r)
+  unfolding pad-counted pad-pass pad
+  pass-padded c r f s = same-x ∙ (λ i. record { first = credited-padded x r (c .rows) s f i; last = less-padded x (c .rows) r f s i; passes = suc (c .passes) })
+    where
+      x : List ℤ
+      x = nearest (vectors (c .rows)) (r .vector)
+
+      found : nearest (vectors (map pad (c .rows))) (padded w (r .vector)) ≡ x
+      found = ap (λ l. nearest l (padded w (r .vector))) (pad-vectors (c .rows))
+          ∙ nearest-padded w m wide (vectors (c .rows)) (sized-vectors m d (c .rows) f) (r .vector) (s .vector)
+
+      same-x : pass (pad-counted c) (pad r) ≡ record { first = credited x (pad r .v) (map pad (c .rows)); last = less x (map pad (c .rows)) (pad r); passes = suc (c .passes) }
+      same-x = ap (λ y. record { first = credited y (pad r .v) (map pad (c .rows)); last = less y (map pad (c .rows)) (pad r); passes = suc (c .passes) }) found
+
+  shorter-padded : (r : Row) (rows : List Row) → Sized m d r → Fits rows → shorter (pad r) (map pad rows) ≡ shorter r rows
+  shorter-padded r [] s f = refl
+  shorter-padded r (q ∷ rows) s f = ap₂ ltZ (pad-N r s) (ap (λ l. N (l .vector)) (last-padded q rows) ∙ pad-N (lastOf q rows) (last-fits q rows f))
+    where
+      last-fits : (q : Row) (rows : List Row) → Fits (q ∷ rows) → Sized m d (lastOf q rows)
+      last-fits q [] f = f .0
+      last-fits q (r ∷ rows) f = last-fits r rows (f .1)
+
+  map-append : (a b : List Row) → map pad (a ++ b) ≡ map pad a ++ map pad b
+  map-append [] b = refl
+  map-append (r ∷ a) b = ap (λ l. pad r ∷ l) (map-append a b)
+
+  total-padded : (rows : List Row) → Fits rows → total (map pad rows) ≡ total rows
+  total-padded [] f = refl
+  total-padded (r ∷ rows) f = ap₂ _+ℤ_ (pad-N r (f .0)) (total-padded rows (f .1))
+
+  -- `reduce` gives padded rows for padded rows
+  abbrev pub Padding : ℕ → (List Row → Counted) → Type 0
+  Padding k reduce = (rows : List Row) → length rows ≡ k → Fits rows → reduce (map pad rows) ≡ pad-counted (reduce rows)
+
+  round-padded : (k : ℕ) (reduce : List Row → Counted) → Moving k reduce → Padding k reduce → (rows : List Row) → length rows ≡ suc k → Fits rows
+      → round reduce (map pad rows) ≡ pad-pass (round reduce rows)
+  round-padded k reduce mv pd [] e f = absurd (omega arith)
+  round-padded k reduce mv pd (r ∷ rows) e f =
+      ap₂ (λ b l. pass (reduce b) l) (before-padded r rows) (last-padded r rows)
+      ∙ ap (λ c. pass c (pad (lastOf r rows))) (pd (before r rows) count fits)
+      ∙ pass-padded (reduce (before r rows)) (lastOf r rows) (moves-sized m d (mv (before r rows) count) fits) (every-right (Sized m d) (before r rows) (lastOf r rows ∷ []) whole .0)
+    where
+      count : length (before r rows) ≡ k
+      count = length-before r rows ∙ omega arith
+
+      whole : Fits (before r rows ++ (lastOf r rows ∷ []))
+      whole = subst Fits (sym (before-last r rows)) f
+
+      fits : Fits (before r rows)
+      fits = every-left (Sized m d) (before r rows) (lastOf r rows ∷ []) whole
+
+  joined-padded : (p : Pass) → joined (pad-pass p) ≡ map pad (joined p)
+  unfolding pad-pass
+  joined-padded p = sym (map-append (p .first) (p .last ∷ []))
+
+  settle : Bool → Pass → Counted → Counted
+  settle b p c = elim b [ false ↦ stop p | true ↦ again p c ]
+
+  settle-padded : (b : Bool) (p : Pass) (c : Counted) → settle b (pad-pass p) (pad-counted c) ≡ pad-counted (settle b p c)
+  unfolding settle pad-pass pad-counted
+  settle-padded false p c = ap (λ l. record { rows = l; passes = p .passes }) (sym (map-append (p .first) (p .last ∷ [])))
+  settle-padded true p c = refl
+
+  repeat-padded : (k : ℕ) (reduce : List Row → Counted) → Moving k reduce → Padding k reduce → (fuel : ℕ) (rows : List Row) → length rows ≡ suc k → Fits rows
+      → repeat reduce fuel (map pad rows) ≡ pad-counted (repeat reduce fuel rows)
+  unfolding settle pad-counted pad-pass
+  repeat-padded k reduce mv pd zero rows e f = refl
+  repeat-padded k reduce mv pd (suc fuel) rows e f =
+      ap (λ q. settle (shorter (q .last) (q .first)) q (repeat reduce fuel (joined q))) same-pass
+      ∙ ap₂ (λ b c. settle b (pad-pass p) c) (shorter-padded (p .last) (p .first) last-fits first-fits) (ap (repeat reduce fuel) same-rows ∙ repeat-padded k reduce mv pd fuel (joined p) (sym (moves-length moves) ∙ e) all-fit)
+      ∙ settle-padded (shorter (p .last) (p .first)) p (repeat reduce fuel (joined p))
+    where
+      p : Pass
+      p = round reduce (order rows)
+
+      moves : Moves rows (joined p)
+      moves = ordered-moves k reduce mv rows e
+
+      all-fit : Fits (joined p)
+      all-fit = moves-sized m d moves f
+
+      first-fits : Fits (p .first)
+      first-fits = every-left (Sized m d) (p .first) (p .last ∷ []) all-fit
+
+      last-fits : Sized m d (p .last)
+      last-fits = every-right (Sized m d) (p .first) (p .last ∷ []) all-fit .0
+
+      same-pass : round reduce (order (map pad rows)) ≡ pad-pass p
+      same-pass = ap (round reduce) (order-padded rows f)
+          ∙ round-padded k reduce mv pd (order rows) (sym (perm-length (order-perm rows)) ∙ e) (every-perm (Sized m d) (order-perm rows) f)
+
+      same-rows : joined (pad-pass p) ≡ map pad (joined p)
+      same-rows = joined-padded p
+
+  pub greedy-padded : (k : ℕ) → Padding k (greedy k)
+  unfolding greedy pad-counted
+  greedy-padded zero rows e f = refl
+  greedy-padded (suc zero) rows e f = refl
+  greedy-padded (suc (suc k)) rows e f =
+      ap (λ t. repeat (greedy (suc k)) (suc (natAbs t)) (map pad rows)) (total-padded rows f)
+      ∙ repeat-padded (suc k) (greedy (suc k)) (greedy-moves (suc k)) (greedy-padded (suc k)) (suc (natAbs (total rows))) rows e f
