@@ -2,6 +2,7 @@
 -- sums and products up to the fact that a result fits its width (`fits-within`).
 use mathlib.Core.Path.{_≡_, refl, sym, subst, subst₂}
 use mathlib.Core.Bool.{Bool, true, false, not}
+use mathlib.Core.List.{List, [], _∷_, _++_}
 use Prim.Native.Nat.{ℕ, zero, suc, _+_, _*_, _^_, _<_, _≤_}
 use native.Mathlib.Nat.{le-refl, le-trans, lt-of-le-of-lt, mul-le-mul}
 use native.Mathlib.Omega.{arith}
@@ -10,7 +11,9 @@ use lib.IntN.{ℤ, pos, negsuc, negℤ, natAbs, subℕ, _+ℤ_, _-ℤ_, _*ℤ_}
 use lib.Signed.{mag, leZ, _≤ℤ_, leZ-yes}
 use mir.Syntax.{Width}
 use mir.Val.{hbits, SFits}
+use lib.ListN.{length}
 use Rattle.integers.specs.Order.{sub-ind}
+use Rattle.integers.specs.Lists.{nth}
 
 -- ---- the size of a result
 
@@ -118,3 +121,16 @@ root x y h = root-ℕ (natAbs x) (natAbs y) (leb→le (natAbs x * natAbs x) (nat
 
 pub root-within : {B : ℕ} {x : ℤ} → (x *ℤ x) ≤ℤ pos (B * B) → Within B x
 root-within {B} {x} h = record { within = root x (pos B) h }
+
+-- ---- the size of a combination at place i, term by term: the sum of the sizes of x_k · t_k[i]
+unfoldable pub load : List ℤ → List (List ℤ) → ℕ → ℕ
+load [] t i = 0
+load (x ∷ xs) [] i = 0
+load (x ∷ xs) (r ∷ t) i = natAbs (x *ℤ nth r i) + load xs t i
+
+pub load-snoc : (x : List ℤ) (t : List (List ℤ)) (y : ℤ) (r : List ℤ) → length x ≡ length t → (i : ℕ) → load (x ++ (y ∷ [])) (t ++ (r ∷ [])) i ≡ load x t i + natAbs (y *ℤ nth r i)
+unfolding load
+load-snoc [] [] y r e i = omega arith
+load-snoc [] (q ∷ t) y r e i = absurd (omega arith)
+load-snoc (x ∷ xs) [] y r e i = absurd (omega arith)
+load-snoc (x ∷ xs) (q ∷ t) y r e i = omega (arith, load-snoc xs t y r (omega arith) i)

@@ -147,13 +147,13 @@ value-last bs b t x j e = ap (λ s. s ∷ (x ++ (j ∷ []))) (≈-N (record { on
         ∙ simp bilinear (by-ring (dot t w ∷ dot (comb x bs) w ∷ dot b w ∷ j ∷ []) (search reads depth 20) (search reads depth 20) tt))
 
 -- every list that is not empty has a last entry
-record Ended (n : ℕ) (x : List ℤ) : Type 0 where
-  start : List ℤ
-  end : ℤ
-  count : length start ≡ n
-  is : x ≡ start ++ (end ∷ [])
+pub record Ended (n : ℕ) (x : List ℤ) : Type 0 where
+  pub start : List ℤ
+  pub end : ℤ
+  pub count : length start ≡ n
+  pub is : x ≡ start ++ (end ∷ [])
 
-ended : (n : ℕ) (x : List ℤ) → length x ≡ suc n → Ended n x
+pub ended : (n : ℕ) (x : List ℤ) → length x ≡ suc n → Ended n x
 ended n [] e = absurd (omega arith)
 ended zero (x ∷ []) e = record { start = []; end = x; count = refl; is = refl }
 ended zero (x ∷ y ∷ l) e = absurd (omega arith)

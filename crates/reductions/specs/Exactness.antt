@@ -28,7 +28,7 @@ u-exact m bs h s [] z e = refl
 u-exact m bs h s (r ∷ rows) z e = ap₂ _∷_
     (≈-≡ (comb (r .u) bs) (r .vector) (comb-full m (r .u) bs h (z .0 .u) s ∙ sym (z .0 .vector)) (e .0)) (u-exact m bs h s rows (z .1) (e .1))
 
-comb-spread : (f : Row → Vec) (i : ℕ) (rows : List Row) (w : Vec) → dot (comb (rowOfV rows i) (map f rows)) w ≡ spread f i rows w
+pub comb-spread : (f : Row → Vec) (i : ℕ) (rows : List Row) (w : Vec) → dot (comb (rowOfV rows i) (map f rows)) w ≡ spread f i rows w
 unfolding comb
 comb-spread f i [] w = nil-dot w
 comb-spread f i (r ∷ rows) w = dot-⊕ (nth (r .v) i ⊙ f r) (comb (rowOfV rows i) (map f rows)) w ∙ ap₂ _+ℤ_ (dot-⊙ (nth (r .v) i) (f r) w) (comb-spread f i rows w)
@@ -51,7 +51,7 @@ v-exact m f gs h rows k s e i (suc n) q =
     places = comb-full m (rowOfV rows i) (map f rows) k (length-map rows (λ r. nth (r .v) i) ∙ sym (length-map rows f)) (subst (λ n. 1 ≤ n) (sym (length-map rows f)) s)
         ∙ sym (coordinates-at m gs h i (omega arith))
 
-vector-linear : Linear (λ r. r .vector)
+pub vector-linear : Linear (λ r. r .vector)
 vector-linear = record { blind = λ r v. refl; linear = λ x rows r. refl }
 
 u-linear : Linear (λ r. r .u)

@@ -12,3 +12,4 @@ pub mod Lattice
 pub mod Accepted
 pub mod Demand
 pub mod Padding
+pub mod Sizes
