@@ -2,7 +2,7 @@
 use mathlib.Core.Path.{_≡_, refl, sym, ap, ap₂, _∙_, subst}
 use mathlib.Core.Logic.{⊎-elim}
 use mathlib.Core.Bool.{Bool, true, false}
-use mathlib.Core.List.{List, [], _∷_, _++_, map}
+use mathlib.Core.List.{List, [], _∷_, _++_, map, append-nil}
 use Prim.Native.Nat.{ℕ, zero, suc}
 use native.Mathlib.Omega.{arith}
 use lib.IntN.{ℤ, pos, negsuc, _+ℤ_, _-ℤ_, _*ℤ_}
@@ -94,3 +94,7 @@ positive-before m bs b h = positive-rest m b bs (subst (λ s. pos 0 <ℤ s) (per
 
 pub positive-one : (m : ℕ) (b : Vec) → pos 0 <ℤ squaredVolume m (b ∷ []) → pos 0 <ℤ N b
 positive-one m b h = by-lt (N b ∷ squaredVolume m (b ∷ []) ∷ []) (lt h ⊞ le (hadamard m (b ∷ []))) (search reads depth 20) (search reads depth 20) tt
+
+pub positive-left : (m : ℕ) (bs cs : List Vec) → pos 0 <ℤ squaredVolume m (bs ++ cs) → pos 0 <ℤ squaredVolume m bs
+positive-left m bs [] h = subst (λ l. pos 0 <ℤ squaredVolume m l) (append-nil bs) h
+positive-left m bs (c ∷ cs) h = positive-left m bs cs (positive-rest m c (bs ++ cs) (subst (λ s. pos 0 <ℤ s) (perm-keeps m (perm-middle bs c cs)) h))

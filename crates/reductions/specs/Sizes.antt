@@ -24,13 +24,13 @@ use Rattle.volumes.specs.Sizes.{Short, coefficient-≤, near-le}
 use Rattle.minima.specs.Reduced.{Top, Descending, Reduced}
 use Rattle.minima.specs.ReducedLaws.{pinned}
 use Rattle.minima.specs.NearestLaws.{nearest-count, nearest-shorter, Ended, ended}
-use Rattle.reductions.specs.Moves.{Moves, after, subtract, before-last, length-before, length-vectors, vectors-append, vectors-credited}
+use Rattle.reductions.specs.Moves.{Moves, moves-length, after, subtract, before-last, length-before, length-vectors, vectors-append, vectors-credited}
 use Rattle.reductions.specs.Every.{Every, every-left, every-right}
 use Rattle.reductions.specs.Lengths.{NoLonger, moves-no-longer}
 use Rattle.reductions.specs.Tables.{Exact, moves-exact, spread, moves-spread}
-use Rattle.reductions.specs.Start.{Sized, Coordinates, moves-sized, every-map}
+use Rattle.reductions.specs.Start.{Sized, Coordinates, moves-sized, every-map, start-vectors, length-units, sized-start, exact-start, spread-start}
 use Rattle.reductions.specs.Exactness.{begin, comb-spread, vector-linear}
-use Rattle.reductions.specs.Kept.{moves-keep}
+use Rattle.reductions.specs.Kept.{moves-keep, positive-left}
 
 -- 20,000⁴
 abbrev pub most : ℕ
@@ -161,3 +161,138 @@ module _ (m : ℕ) (ins : List Vec) (four : length ins ≤ 4) (limit : Short (po
   weighs (suc k) A (q ∷ front) e s = subst (Weighs (suc k) A) (before-last q front)
       (weighs-last k A (before q front) (lastOf q front) (length-before q front ∙ omega arith) (omega arith)
       (weighs k (3 * A) (before q front) (length-before q front ∙ omega arith) (omega arith)))
+
+-- ---- a list that may be reduced, and the rows on the way
+pub record Basis (m : ℕ) (ins : List Vec) : Type 0 where
+  pub full : Coordinates m ins
+  pub some : 1 ≤ length ins
+  pub four : length ins ≤ 4
+  pub limit : Short (pos 400000000) ins
+  pub volume : pos 0 <ℤ squaredVolume m ins
+
+-- the rows with which the greedy steps begin
+abbrev pub first-rows : List Vec → List Row
+first-rows ins = start ins (units (length ins))
+
+short-of : (s : ℤ) → NN s → (rows : List Row) → NoLonger s rows → Short s (vectors rows)
+short-of s n [] h i = subst (λ z. z ≤ℤ s) (sym (nil-dot [])) n
+short-of s n (r ∷ rows) h zero = h .0
+short-of s n (r ∷ rows) h (suc i) = short-of s n rows (h .1) i
+
+no-longer-of : (s : ℤ) (ins : List Vec) (es : List (List ℤ)) → Short s ins → NoLonger s (start ins es)
+no-longer-of s [] es h = tt
+no-longer-of s (b ∷ ins) [] h = tt
+no-longer-of s (b ∷ ins) (e ∷ es) h = (h 0, no-longer-of s ins es (λ i. h (suc i)))
+
+module _ (m : ℕ) (ins : List Vec) (B : Basis m ins) (rows : List Row) (moved : Moves (first-rows ins) rows) where
+  start-is : vectors (first-rows ins) ≡ ins
+  start-is = start-vectors ins (units (length ins)) (length-units (length ins))
+
+  pub way-sized : Every (Sized m (length ins)) rows
+  way-sized = moves-sized m (length ins) moved (sized-start m ins (B .full))
+
+  pub way-exact : Exact ins rows
+  way-exact = moves-exact ins moved (exact-start ins)
+
+  pub way-count : length rows ≡ length ins
+  way-count = sym (moves-length moved) ∙ sym (length-vectors (first-rows ins)) ∙ ap length start-is
+
+  pub way-short : NoLonger (pos 400000000) rows
+  way-short = moves-no-longer (pos 400000000) moved (no-longer-of (pos 400000000) ins (units (length ins)) (B .limit))
+
+  pub way-volume : pos 0 <ℤ squaredVolume m (vectors rows)
+  way-volume = subst (λ s. pos 0 <ℤ s) (ap (squaredVolume m) (sym start-is) ∙ moves-keep m moved) (B .volume)
+
+  -- no number in U passes 20,000⁴
+  pub u-size : (j : ℕ) → Every (λ r. natAbs (nth (r .u) j) ≤ most) rows
+  u-size j = go rows way-sized way-exact way-short
+    where
+      go : (l : List Row) → Every (Sized m (length ins)) l → Exact ins l → NoLonger (pos 400000000) l → Every (λ r. natAbs (nth (r .u) j) ≤ most) l
+      go [] z e s = tt
+      go (r ∷ l) z e s = (omega (arith, entry m ins (B .four) (B .limit) (B .volume) 1 (r .u) (z .0 .u) (≤ℤ-trans (≤ℤ-of-≡ (≈-N (e .0))) (s .0)) j), go l (z .1) (e .1) (s .1))
+
+  -- nor in V: row i of V gives input i
+  row-exact : (i : ℕ) → comb (rowOfV rows i) (vectors rows) ≈ getD ins i []
+  row-exact i = record {
+    on = λ w. comb-spread (λ r. r .vector) i rows w ∙ sym (moves-spread (λ r. r .vector) vector-linear i moved w)
+        ∙ spread-start (λ r. r .vector) ins ins start-is refl i w;
+  }
+
+  pub v-size : (i : ℕ) → Every (λ r. natAbs (nth (r .v) i) ≤ most) rows
+  v-size i = go rows (λ k. omega (
+    arith,
+    entry m (vectors rows) (omega (arith, length-vectors rows, way-count, B .four)) (short-of (pos 400000000) (nn-pos 400000000) rows way-short) way-volume
+        1 (rowOfV rows i) (length-map rows (λ r. nth (r .v) i) ∙ sym (length-vectors rows)) (≤ℤ-trans (≤ℤ-of-≡ (≈-N (row-exact i))) (B .limit i)) k,
+  ))
+    where
+      go : (l : List Row) → ((k : ℕ) → natAbs (nth (rowOfV l i) k) ≤ most) → Every (λ r. natAbs (nth (r .v) i) ≤ most) l
+      go [] h = tt
+      go (r ∷ l) h = (h 0, go l (λ k. h (suc k)))
+
+-- ---- room for a pass: the rows front, the row r behind them, and what is nearest to it
+cost-most : (k : ℕ) → k ≤ 3 → cost k 2 ≤ 52
+unfolding cost
+cost-most zero h = omega arith
+cost-most (suc zero) h = omega arith
+cost-most (suc (suc zero)) h = omega arith
+cost-most (suc (suc (suc zero))) h = omega arith
+cost-most (suc (suc (suc (suc k)))) h = absurd (omega arith)
+
+-- what a column gains is the difference of two columns
+gain-size : (a y b : ℤ) → natAbs a ≤ most → natAbs (a +ℤ y *ℤ b) ≤ most → natAbs a + natAbs (y *ℤ b) ≤ 3 * most
+gain-size a y b p q = omega (arith, ap natAbs difference, size-sub (a +ℤ y *ℤ b) a)
+  where
+    difference : y *ℤ b ≡ a +ℤ y *ℤ b -ℤ a
+    difference = by-ring (a ∷ y ∷ b ∷ []) (search reads) (search reads) tt
+
+gain-room : (i : ℕ) (v xs : List ℤ) (l : List Row) → length xs ≡ length l → Every (λ r. natAbs (nth (r .v) i) ≤ most) l → Every (λ r. natAbs (nth (r .v) i) ≤ most) (credited xs v l)
+    → (j : ℕ) → j < length l → natAbs (nth (getD (map (λ s. s .v) l) j []) i) + natAbs (nth xs j *ℤ nth v i) ≤ 3 * most
+unfolding credited
+gain-room i v xs [] e p q j h = absurd (omega arith)
+gain-room i v [] (s ∷ l) e p q j h = absurd (omega arith)
+gain-room i v (y ∷ xs) (s ∷ l) e p q zero h =
+    gain-size (nth (s .v) i) y (nth v i) (p .0) (subst (λ z. natAbs z ≤ most) (nth-⊕ (s .v) (y ⊙ v) i ∙ ap (λ z. nth (s .v) i +ℤ z) (nth-⊙ y v i)) (q .0))
+gain-room i v (y ∷ xs) (s ∷ l) e p q (suc j) h = gain-room i v xs l (omega arith) (p .1) (q .1) j (omega arith)
+
+module _ (m : ℕ) (ins : List Vec) (B : Basis m ins) (front : List Row) (r : Row) (rest : List Row) (moved : Moves (first-rows ins) (front ++ (r ∷ rest)))
+    (few : length front ≤ 3) (red : Reduced (vectors front)) where
+  abbrev x : List ℤ
+  x = nearest (vectors front) (r .vector)
+
+  x-count : length x ≡ length front
+  x-count = nearest-count (vectors front) (r .vector) ∙ length-vectors front
+
+  abbrev all : List Row
+  all = front ++ (r ∷ rest)
+
+  short-front : NoLonger (pos 400000000) front
+  short-front = every-left (λ r. N (r .vector) ≤ℤ pos 400000000) front (r ∷ rest) (way-short m ins B all moved)
+
+  short-last : N (r .vector) ≤ℤ pos 400000000
+  short-last = every-right (λ r. N (r .vector) ≤ℤ pos 400000000) front (r ∷ rest) (way-short m ins B all moved) .0
+
+  -- the nearest vector is at most twice as long as the limit
+  near-long : N (comb x (vectors front)) ≤ℤ pos (2 * 2 * 400000000)
+  near-long = ≤ℤ-trans (near-le (r .vector) (comb x (vectors front)) (nearest-shorter (vectors front) (r .vector))) (*ℤ-mono (nn-pos 4) short-last)
+
+  pub u-room : (j : ℕ) → natAbs (nth (r .u) j) + load x (us front) j ≤ 53 * most
+  u-room j = omega (
+    arith,
+    every-right (λ r. natAbs (nth (r .u) j) ≤ most) front (r ∷ rest) (u-size m ins B all moved j) .0,
+    weighs m ins (B .four) (B .limit) (B .volume) (length front) 2 front refl (omega arith) (every-left (Sized m (length ins)) front (r ∷ rest) (way-sized m ins B all moved))
+        (every-left (λ r. comb (r .u) ins ≈ r .vector) front (r ∷ rest) (way-exact m ins B all moved)) red x x-count near-long j,
+    cost-most (length front) few,
+  )
+
+  -- no coefficient passes 2 · 20,000⁴
+  pub x-size : (j : ℕ) → natAbs (nth x j) ≤ 2 * most
+  x-size j = entry m (vectors front) (omega (arith, length-vectors front)) (short-of (pos 400000000) (nn-pos 400000000) front short-front)
+      (positive-left m (vectors front) (vectors (r ∷ rest)) (subst (λ l. pos 0 <ℤ squaredVolume m l) (vectors-append front (r ∷ rest)) (way-volume m ins B all moved)))
+      2 x (nearest-count (vectors front) (r .vector)) near-long j
+
+  next : Moves (first-rows ins) (credited x (r .v) front ++ (less x front r ∷ rest))
+  next = after moved (subtract x front r rest x-count (nearest-shorter (vectors front) (r .vector)))
+
+  pub v-room : (i : ℕ) (j : ℕ) → j < length front → natAbs (nth (getD (map (λ s. s .v) front) j []) i) + natAbs (nth x j *ℤ nth (r .v) i) ≤ 3 * most
+  v-room i j h = gain-room i (r .v) x front x-count (every-left (λ r. natAbs (nth (r .v) i) ≤ most) front (r ∷ rest) (v-size m ins B all moved i))
+      (every-left (λ r. natAbs (nth (r .v) i) ≤ most) (credited x (r .v) front) (less x front r ∷ rest) (v-size m ins B (credited x (r .v) front ++ (less x front r ∷ rest)) next i)) j h
