@@ -193,7 +193,7 @@ module _ (i : Input) (ok : Accepted i) (e : firstOf vectorChecks i ≡ 0) where
   }
 
 -- the checks of a target come after those of its vectors
-first-append : (cs ds : List Check) (i : Input) → All (λ c. c .number ≢ 0) cs → firstOf (cs ++ ds) i ≡ 0 → firstOf cs i ≡ 0
+pub first-append : (cs ds : List Check) (i : Input) → All (λ c. c .number ≢ 0) cs → firstOf (cs ++ ds) i ≡ 0 → firstOf cs i ≡ 0
 first-append [] ds i h e = refl
 first-append (c ∷ cs) ds i h e = go (c .condition i) e (λ f. first-append cs ds i (h .1) f)
   where
@@ -202,10 +202,14 @@ first-append (c ∷ cs) ds i h e = go (c .condition i) e (λ f. first-append cs 
     go true e f = e
     go false e f = f e
 
+pub accepted-nearest : (i : Input) → firstOf (vectorChecks ++ targetChecks) i ≡ 0 → nearestOf i ≡ nearestGiven (vectors (reduction (basis i) .rows)) (i .target)
+unfolding nearestOf
+accepted-nearest i e =
+    ap (λ (n : ℕ). elim n as (λ n. Nearest) [ zero ↦ nearestGiven (vectors (reduction (basis i) .rows)) (i .target) | suc k ↦ noNearest (suc k) ]) e
+
 -- for every accepted target with its vectors
 pub nearest-theorem : (i : Input) → firstOf (vectorChecks ++ targetChecks) i ≡ 0 → Nears i (nearestOf i)
-unfolding nearestOf near-given outs rows
+unfolding near-given outs rows
 nearest-theorem i e =
     let v = first-append vectorChecks targetChecks i (omega arith) e in
-    subst (Nears i) (sym (ap (λ (n : ℕ). elim n as (λ n. Nearest) [ zero ↦ nearestGiven (vectors (reduction (basis i) .rows)) (i .target) | suc k ↦ noNearest (suc k) ]) e))
-    (given-nears i (accepted i v) v)
+    subst (Nears i) (sym (accepted-nearest i e)) (given-nears i (accepted i v) v)

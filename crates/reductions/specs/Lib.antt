@@ -13,3 +13,4 @@ pub mod Accepted
 pub mod Demand
 pub mod Padding
 pub mod Sizes
+pub mod Promise

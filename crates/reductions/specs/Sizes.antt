@@ -87,7 +87,7 @@ us-append (r ∷ a) b = ap (λ l. r .u ∷ l) (us-append a b)
 
 module _ (m : ℕ) (ins : List Vec) (four : length ins ≤ 4) (limit : Short (pos 400000000) ins) (volume : pos 0 <ℤ squaredVolume m ins) where
   -- a vector of the lattice that is at most A · 20,000 long has coefficients of at most A · 20,000⁴
-  entry : (A : ℕ) (u : List ℤ) → length u ≡ length ins → N (comb u ins) ≤ℤ pos (A * A * 400000000) → (j : ℕ) → natAbs (nth u j) ≤ A * most
+  pub entry : (A : ℕ) (u : List ℤ) → length u ≡ length ins → N (comb u ins) ≤ℤ pos (A * A * 400000000) → (j : ℕ) → natAbs (nth u j) ≤ A * most
   entry A u e h j = go (decLt j (length ins))
     where
       go : Dec (j < length ins) → natAbs (nth u j) ≤ A * most
@@ -174,7 +174,7 @@ pub record Basis (m : ℕ) (ins : List Vec) : Type 0 where
 abbrev pub first-rows : List Vec → List Row
 first-rows ins = start ins (units (length ins))
 
-short-of : (s : ℤ) → NN s → (rows : List Row) → NoLonger s rows → Short s (vectors rows)
+pub short-of : (s : ℤ) → NN s → (rows : List Row) → NoLonger s rows → Short s (vectors rows)
 short-of s n [] h i = subst (λ z. z ≤ℤ s) (sym (nil-dot [])) n
 short-of s n (r ∷ rows) h zero = h .0
 short-of s n (r ∷ rows) h (suc i) = short-of s n rows (h .1) i
