@@ -35,6 +35,12 @@ take-padded (suc m) zero v e h = absurd (omega arith)
 take-padded (suc m) (suc n) [] e h = absurd (omega arith)
 take-padded (suc m) (suc n) (x ∷ v) e h = ap (λ l. x ∷ l) (take-padded m n v (omega arith) (omega arith))
 
+pub padded-same : (n : ℕ) (v : List ℤ) → length v ≡ n → padded n v ≡ v
+padded-same zero [] e = refl
+padded-same zero (x ∷ v) e = absurd (omega arith)
+padded-same (suc n) [] e = absurd (omega arith)
+padded-same (suc n) (x ∷ v) e = ap (λ l. x ∷ l) (padded-same n v (omega arith))
+
 -- the rows in use
 pub table-rows : (h w : ℕ) (rows : List Vec) → length rows ≤ h → take (length rows) (table h w rows) ≡ map (padded w) rows
 table-rows h w [] k = refl

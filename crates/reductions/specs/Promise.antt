@@ -1,8 +1,9 @@
 -- The two numbers that document 01 promises: no number in U or V passes 160,000,000,000,000,000 and no coefficient of a nearest
 -- vector 320,000,000,000,000,000, for every accepted input.
-use mathlib.Core.Path.{_≡_, refl, sym, ap, _∙_, subst}
+use mathlib.Core.Path.{_≡_, refl, sym, ap, ap₂, _∙_, subst}
 use mathlib.Core.List.{List, [], _∷_, _++_, map}
 use Prim.Native.Nat.{ℕ, zero, suc, _*_, _≤_, zero-le}
+use native.Mathlib.Nat.{le-refl}
 use native.Mathlib.Omega.{arith}
 use lib.IntN.{ℤ, pos, natAbs}
 use lib.Signed.{_≤ℤ_, _<ℤ_}
@@ -14,6 +15,7 @@ use Rattle.lattices.specs.Nearest.{nearest}
 use Rattle.lattices.specs.Greedy.{Row, vectors, units, start, reduction}
 use Rattle.lattices.specs.Refusal.{Input, basis, firstOf, vectorChecks, targetChecks, mostSquare}
 use Rattle.lattices.specs.Answer.{padded, table, rowOfV, rowsOfV, reductionGiven, reductionOf, nearestGiven, noNearest, Nearest, nearestOf}
+use Rattle.lattices.specs.AnswerLaws.{padded-same}
 use Rattle.minima.specs.Minima.{All}
 use Rattle.minima.specs.NearestLaws.{nearest-count, nearest-shorter}
 use Rattle.volumes.specs.Sizes.{Short, near-le}
@@ -22,9 +24,10 @@ use Rattle.reductions.specs.Moves.{Moves, length-vectors}
 use Rattle.reductions.specs.Lengths.{NoLonger}
 use Rattle.reductions.specs.Every.{Every}
 use Rattle.reductions.specs.Exactness.{length-begin, begin, moved}
+use Rattle.reductions.specs.Start.{Coordinates, units-coordinates}
 use Rattle.reductions.specs.Accepted.{Accepted, accepted, passed, short as short-vector, length-vectorsOf}
 use Rattle.reductions.specs.Demand.{accepted-reduction, accepted-nearest, first-append}
-use Rattle.reductions.specs.Sizes.{Basis, first-rows, most, entry, short-of, way-count, way-short, way-volume, u-size, v-size}
+use Rattle.reductions.specs.Sizes.{Basis, first-rows, narrow-length, most, entry, short-of, way-count, way-short, way-volume, u-size, v-size}
 
 -- ---- an accepted input may be reduced
 short-by-places : (vs : List Vec) → All (λ v. N v ≤ℤ pos mostSquare) vs → Short (pos mostSquare) vs
@@ -37,9 +40,17 @@ basis-of i ok =
     let count = length-vectorsOf (i .d) (i .m) (i .numbers) in
     record { full = ok .full; some = omega (arith, count, ok .some); four = omega (arith, count, ok .most); limit = short-by-places (basis i) (ok .limit); volume = ok .volume }
 
-pub reduction-moves : (i : Input) → Accepted i → Moves (first-rows (basis i)) (reduction (basis i) .rows)
+-- rows of d numbers are as wide as they need be
+padded-units : (d : ℕ) (es : List (List ℤ)) → Coordinates d es → map (padded d) es ≡ es
+padded-units d [] c = refl
+padded-units d (e ∷ es) c = ap₂ _∷_ (padded-same d e (c .0)) (padded-units d es (c .1))
+
+pub reduction-moves : (i : Input) → Accepted i → Moves (first-rows (length (basis i)) (basis i)) (reduction (basis i) .rows)
 unfolding begin
-reduction-moves i ok = let B = basis-of i ok in moved (i .m) (basis i) (B .full) (B .some)
+reduction-moves i ok =
+    let B = basis-of i ok in
+    subst (λ es. Moves (start (basis i) es) (reduction (basis i) .rows)) (sym (padded-units (length (basis i)) (units (length (basis i))) (units-coordinates (length (basis i)))))
+    (moved (i .m) (basis i) (B .full) (B .some))
 
 -- ---- sizes in tables
 abbrev Entries : ℕ → List ℤ → Type 0
@@ -79,8 +90,8 @@ table-sizes i e k j =
     let ok = accepted i e in
     let rows = reduction (basis i) .rows in
     subst (λ r. (natAbs (nth (getD (r .u) k []) j) ≤ 160000000000000000) × (natAbs (nth (getD (r .v) k []) j) ≤ 160000000000000000)) (sym (accepted-reduction i e)) (
-      table-entries most 4 4 (map (λ r. r .u) rows) (u-entries most rows (u-size (i .m) (basis i) (basis-of i ok) rows (reduction-moves i ok))) k j,
-      table-entries most 4 4 (rowsOfV rows 0 (length rows)) (v-entries most rows (v-size (i .m) (basis i) (basis-of i ok) rows (reduction-moves i ok)) 0 (length rows)) k j,
+      table-entries most 4 4 (map (λ r. r .u) rows) (u-entries most rows (u-size (i .m) (length (basis i)) (basis i) (basis-of i ok) (le-refl (length (basis i))) rows (reduction-moves i ok))) k j,
+      table-entries most 4 4 (rowsOfV rows 0 (length rows)) (v-entries most rows (v-size (i .m) (length (basis i)) (basis i) (basis-of i ok) (le-refl (length (basis i))) rows (reduction-moves i ok)) 0 (length rows)) k j,
     )
 
 -- every coefficient of a nearest vector
@@ -88,7 +99,7 @@ pub coefficient-sizes : (i : Input) → firstOf (vectorChecks ++ targetChecks) i
 coefficient-sizes i e j =
     subst (λ r. natAbs (nth (r .coefficients) j) ≤ 320000000000000000) (sym (accepted-nearest i e))
     (padded-entries 320000000000000000 4 x (λ j. entry (i .m) outs (omega (arith, length-vectors rows, count, B .four)) (short-of (pos mostSquare) (pos-nonneg mostSquare) rows short) volume
-    2 x (nearest-count outs (i .target)) long j) j)
+    2 x (narrow-length (length outs) x (nearest-count outs (i .target))) long j) j)
   where
     v : firstOf vectorChecks i ≡ 0
     v = first-append vectorChecks targetChecks i (omega arith) e
@@ -109,13 +120,13 @@ coefficient-sizes i e j =
     x = nearest outs (i .target)
 
     count : length rows ≡ length (basis i)
-    count = way-count (i .m) (basis i) B rows (reduction-moves i ok)
+    count = way-count (i .m) (length (basis i)) (basis i) B (le-refl (length (basis i))) rows (reduction-moves i ok)
 
     short : NoLonger (pos mostSquare) rows
-    short = way-short (i .m) (basis i) B rows (reduction-moves i ok)
+    short = way-short (i .m) (length (basis i)) (basis i) B (le-refl (length (basis i))) rows (reduction-moves i ok)
 
     volume : pos 0 <ℤ squaredVolume (i .m) outs
-    volume = way-volume (i .m) (basis i) B rows (reduction-moves i ok)
+    volume = way-volume (i .m) (length (basis i)) (basis i) B (le-refl (length (basis i))) rows (reduction-moves i ok)
 
     target : N (i .target) ≤ℤ pos mostSquare
     target = short-vector (i .target) (passed (vectorChecks ++ targetChecks) i (omega arith) e .1 .1 .1 .1 .1 .1 .0)

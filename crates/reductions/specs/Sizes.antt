@@ -1,12 +1,12 @@
 -- Sizes on the way of the greedy steps, for one to four vectors of squared length at most 400,000,000 with positive squared volume:
 -- no number in U or V passes 20,000⁴, and what a pass adds to a table fits 64 bits term by term.
-use mathlib.Core.Path.{_≡_, refl, sym, ap, _∙_, subst, subst₂}
+use mathlib.Core.Path.{_≡_, refl, sym, ap, ap₂, _∙_, subst, subst₂}
 use mathlib.Core.Logic.{⊎-elim}
 use mathlib.Core.List.{List, [], _∷_, _++_, map, reverse, reverse-append, reverse-reverse}
 use Prim.Native.Nat.{ℕ, zero, suc, _+_, _*_, _≤_, _<_}
 use native.Mathlib.Omega.{arith}
 use native.Mathlib.Decide.{decLt}
-use lib.IntN.{ℤ, pos, negsuc, natAbs, _+ℤ_, _-ℤ_, _*ℤ_}
+use lib.IntN.{ℤ, pos, negsuc, natAbs, _+ℤ_, _-ℤ_, _*ℤ_, *ℤ-zero}
 use lib.Signed.{_≤ℤ_, _<ℤ_, ≤ℤ-refl, ltZ-yes}
 use lib.ListN.{length, getD, length-append, length-map, length-reverse, List·getD-eq-default}
 use Rattle.integers.specs.Identity.{by-ring, reads}
@@ -15,20 +15,21 @@ use Rattle.integers.specs.Certificate.{NN, nn-pos, nn-sq, _⊞_, _⊠_, le, eq,
 use Rattle.integers.specs.Size.{load, load-snoc, size-sub}
 use Rattle.integers.specs.Lists.{nth-⊕, nth-⊙, length-⊙}
 use Rattle.lattices.specs.Vector.{Vec, N, nth, dot, _⊕_, _⊙_, _⊖_, comb}
-use Rattle.lattices.specs.VectorLaws.{_≈_, ≈-N, ≈-refl, ≈-sym, ≈-trans, ≈-⊕, ≈-⊙, bilinear, dot-comm, N-nonneg, N-zero, nil-dot, comb-⊙, comb-cons, comb-snoc, comb-reverse}
+use Rattle.lattices.specs.VectorLaws.{_≈_, ≈-N, ≈-refl, ≈-sym, ≈-trans, ≈-⊕, ≈-⊙, bilinear, dot-comm, N-nonneg, N-zero, nil-dot, comb-≈, comb-⊙, comb-cons, comb-snoc, comb-reverse}
 use Rattle.lattices.specs.Volume.{squaredVolume}
 use Rattle.lattices.specs.Nearest.{nearest}
 use Rattle.lattices.specs.Greedy.{Row, vectors, lastOf, before, less, credited, units, start}
-use Rattle.lattices.specs.Answer.{rowOfV}
+use Rattle.lattices.specs.Answer.{padded, rowOfV}
+use Rattle.lattices.specs.AnswerLaws.{nth-padded, padded-≈}
 use Rattle.volumes.specs.Sizes.{Short, coefficient-≤, near-le}
 use Rattle.minima.specs.Reduced.{Top, Descending, Reduced}
 use Rattle.minima.specs.ReducedLaws.{pinned}
 use Rattle.minima.specs.NearestLaws.{nearest-count, nearest-shorter, Ended, ended}
 use Rattle.reductions.specs.Moves.{Moves, moves-length, after, subtract, before-last, length-before, length-vectors, vectors-append, vectors-credited}
-use Rattle.reductions.specs.Every.{Every, every-left, every-right}
+use Rattle.reductions.specs.Every.{Every, every-left, every-right, moves-every}
 use Rattle.reductions.specs.Lengths.{NoLonger, moves-no-longer}
 use Rattle.reductions.specs.Tables.{Exact, moves-exact, spread, moves-spread}
-use Rattle.reductions.specs.Start.{Sized, Coordinates, moves-sized, every-map, start-vectors, length-units, sized-start, exact-start, spread-start}
+use Rattle.reductions.specs.Start.{Coordinates, start-vectors, length-units, units-coordinates, exact-start, spread-start}
 use Rattle.reductions.specs.Exactness.{begin, comb-spread, vector-linear}
 use Rattle.reductions.specs.Kept.{moves-keep, positive-left}
 
@@ -73,6 +74,29 @@ module _ (ws : List Vec) (l : Vec) (top : Top l (reverse ws)) (short : length ws
       same-dot : (w : Vec) → dot (whole ⊖ y ⊙ l) w ≡ dot (comb x ws) w
       same-dot w = simp (bilinear, comb-snoc x ws y l e .on w) (by-ring (y ∷ dot l w ∷ dot (comb x ws) w ∷ []) (search reads depth 20) (search reads depth 20) tt)
 
+-- zeros from place d on: a table's row may be wider than the list of vectors
+abbrev pub Narrow : ℕ → List ℤ → Type 0
+Narrow d u = (j : ℕ) → d ≤ j → nth u j ≡ pos 0
+
+pub narrow-length : (d : ℕ) (u : List ℤ) → length u ≡ d → Narrow d u
+narrow-length d u e j h = List·getD-eq-default u (pos 0) (omega arith)
+
+narrow-⊙ : (d : ℕ) (y : ℤ) (u : List ℤ) → Narrow d u → Narrow d (y ⊙ u)
+narrow-⊙ d y u n j h = nth-⊙ y u j ∙ ap (λ z. y *ℤ z) (n j h) ∙ *ℤ-zero y
+
+narrow-⊕ : (d : ℕ) (u v : List ℤ) → Narrow d u → Narrow d v → Narrow d (u ⊕ v)
+narrow-⊕ d u v m n j h = nth-⊕ u v j ∙ ap₂ _+ℤ_ (m j h) (n j h)
+
+narrow-comb : (d : ℕ) (x : List ℤ) (rows : List Row) → Every (λ r. Narrow d (r .u)) rows → Narrow d (comb x (map (λ r. r .u) rows))
+unfolding comb
+narrow-comb d [] rows n j h = refl
+narrow-comb d (x ∷ xs) [] n j h = refl
+narrow-comb d (x ∷ xs) (r ∷ rows) n j h = narrow-⊕ d (x ⊙ r .u) (comb xs (map (λ r. r .u) rows)) (narrow-⊙ d x (r .u) (n .0)) (narrow-comb d xs rows (n .1)) j h
+
+moves-narrow : (d : ℕ) {a b : List Row} → Moves a b → Every (λ r. Narrow d (r .u)) a → Every (λ r. Narrow d (r .u)) b
+moves-narrow d = moves-every (λ r. Narrow d (r .u)) (λ r s x h k. h)
+    (λ x rows r k h p. narrow-⊕ d (r .u) (negsuc 0 ⊙ comb x (map (λ r. r .u) rows)) p (narrow-⊙ d (negsuc 0) (comb x (map (λ r. r .u) rows)) (narrow-comb d x rows h)))
+
 -- ---- rows of U: what k reduced rows weigh in a combination that is at most A · 20,000 long
 cost : ℕ → ℕ → ℕ
 cost zero A = 0
@@ -87,15 +111,15 @@ us-append (r ∷ a) b = ap (λ l. r .u ∷ l) (us-append a b)
 
 module _ (m : ℕ) (ins : List Vec) (four : length ins ≤ 4) (limit : Short (pos 400000000) ins) (volume : pos 0 <ℤ squaredVolume m ins) where
   -- a vector of the lattice that is at most A · 20,000 long has coefficients of at most A · 20,000⁴
-  pub entry : (A : ℕ) (u : List ℤ) → length u ≡ length ins → N (comb u ins) ≤ℤ pos (A * A * 400000000) → (j : ℕ) → natAbs (nth u j) ≤ A * most
+  pub entry : (A : ℕ) (u : List ℤ) → Narrow (length ins) u → N (comb u ins) ≤ℤ pos (A * A * 400000000) → (j : ℕ) → natAbs (nth u j) ≤ A * most
   entry A u e h j = go (decLt j (length ins))
     where
       go : Dec (j < length ins) → natAbs (nth u j) ≤ A * most
       go (yes k) = coefficient-≤ A m j u ins four limit volume k h
-      go (no k) = subst (λ z. natAbs z ≤ A * most) (sym (List·getD-eq-default u (pos 0) (omega arith))) (omega arith)
+      go (no k) = subst (λ z. natAbs z ≤ A * most) (sym (e j (omega arith))) (omega arith)
 
   -- the last row's term and the terms of the rest
-  module _ (b : List Row) (r : Row) (few : length b ≤ 3) (sized : Sized m (length ins) r) (exact : comb (r .u) ins ≈ r .vector)
+  module _ (b : List Row) (r : Row) (few : length b ≤ 3) (narrow : Narrow (length ins) (r .u)) (exact : comb (r .u) ins ≈ r .vector)
       (red : Reduced (vectors (b ++ (r ∷ [])))) (x : List ℤ) (y : ℤ) (e : length x ≡ length b) (A : ℕ)
       (h : N (comb (x ++ (y ∷ [])) (vectors (b ++ (r ∷ [])))) ≤ℤ pos (A * A * 400000000)) where
     count : length x ≡ length (vectors b)
@@ -125,7 +149,7 @@ module _ (m : ℕ) (ins : List Vec) (four : length ins ≤ 4) (limit : Short (po
         nine-times = omega arith
 
     last-term : (j : ℕ) → natAbs (y *ℤ nth (r .u) j) ≤ 2 * A * most
-    last-term j = subst (λ z. natAbs z ≤ 2 * A * most) (nth-⊙ y (r .u) j) (entry (2 * A) (y ⊙ r .u) (length-⊙ y (r .u) ∙ sized .u) last-long j)
+    last-term j = subst (λ z. natAbs z ≤ 2 * A * most) (nth-⊙ y (r .u) j) (entry (2 * A) (y ⊙ r .u) (narrow-⊙ (length ins) y (r .u) narrow) last-long j)
 
     terms : (k : ℕ) → (j : ℕ) → load x (us b) j ≤ cost k (3 * A) * most → load (x ++ (y ∷ [])) (us (b ++ (r ∷ []))) j ≤ cost (suc k) A * most
     unfolding cost
@@ -134,18 +158,18 @@ module _ (m : ℕ) (ins : List Vec) (four : length ins ≤ 4) (limit : Short (po
 
   -- `load` is bounded for every combination of these rows that is at most A · 20,000 long
   abbrev Weighs : ℕ → ℕ → List Row → Type 0
-  Weighs k A front = Every (Sized m (length ins)) front → Exact ins front → Reduced (vectors front) → (x : List ℤ) → length x ≡ length front
+  Weighs k A front = Every (λ r. Narrow (length ins) (r .u)) front → Exact ins front → Reduced (vectors front) → (x : List ℤ) → length x ≡ length front
       → N (comb x (vectors front)) ≤ℤ pos (A * A * 400000000) → (j : ℕ) → load x (us front) j ≤ cost k A * most
 
   weighs-last : (k A : ℕ) (b : List Row) (r : Row) → length b ≡ k → k ≤ 3 → Weighs k (3 * A) b → Weighs (suc k) A (b ++ (r ∷ []))
   weighs-last k A b r e s ih z ex red x f h j =
       let o = ended (length b) x (f ∙ length-append b (r ∷ []) ∙ omega arith) in
       let h′ = subst (λ l. N (comb l (vectors (b ++ (r ∷ [])))) ≤ℤ pos (A * A * 400000000)) (o .is) h in
-      let z′ = every-right (Sized m (length ins)) b (r ∷ []) z .0 in
+      let z′ = every-right (λ r. Narrow (length ins) (r .u)) b (r ∷ []) z .0 in
       let ex′ = every-right (λ r. comb (r .u) ins ≈ r .vector) b (r ∷ []) ex .0 in
       subst (λ l. load l (us (b ++ (r ∷ []))) j ≤ cost (suc k) A * most) (sym (o .is))
       (terms b r (omega arith) z′ ex′ red (o .start) (o .end) (o .count) A h′ k j
-      (ih (every-left (Sized m (length ins)) b (r ∷ []) z) (every-left (λ r. comb (r .u) ins ≈ r .vector) b (r ∷ []) ex)
+      (ih (every-left (λ r. Narrow (length ins) (r .u)) b (r ∷ []) z) (every-left (λ r. comb (r .u) ins ≈ r .vector) b (r ∷ []) ex)
       (descending b r (omega arith) z′ ex′ red (o .start) (o .end) (o .count) A h′ .1) (o .start) (o .count)
       (rest-long b r (omega arith) z′ ex′ red (o .start) (o .end) (o .count) A h′) j))
 
@@ -170,9 +194,9 @@ pub record Basis (m : ℕ) (ins : List Vec) : Type 0 where
   pub limit : Short (pos 400000000) ins
   pub volume : pos 0 <ℤ squaredVolume m ins
 
--- the rows with which the greedy steps begin
-abbrev pub first-rows : List Vec → List Row
-first-rows ins = start ins (units (length ins))
+-- the rows with which the greedy steps begin, with tables of w numbers to a row
+abbrev pub first-rows : ℕ → List Vec → List Row
+first-rows w ins = start ins (map (padded w) (units (length ins)))
 
 pub short-of : (s : ℤ) → NN s → (rows : List Row) → NoLonger s rows → Short s (vectors rows)
 short-of s n [] h i = subst (λ z. z ≤ℤ s) (sym (nil-dot [])) n
@@ -184,45 +208,66 @@ no-longer-of s [] es h = tt
 no-longer-of s (b ∷ ins) [] h = tt
 no-longer-of s (b ∷ ins) (e ∷ es) h = (h 0, no-longer-of s ins es (λ i. h (suc i)))
 
-module _ (m : ℕ) (ins : List Vec) (B : Basis m ins) (rows : List Row) (moved : Moves (first-rows ins) rows) where
-  start-is : vectors (first-rows ins) ≡ ins
-  start-is = start-vectors ins (units (length ins)) (length-units (length ins))
+wide-length : (w d : ℕ) → length (map (padded w) (units d)) ≡ d
+wide-length w d = length-map (units d) (padded w) ∙ length-units d
 
-  pub way-sized : Every (Sized m (length ins)) rows
-  way-sized = moves-sized m (length ins) moved (sized-start m ins (B .full))
+narrow-start : (w : ℕ) (d : ℕ) (ins : List Vec) (es : List (List ℤ)) → Coordinates d es → d ≤ w → Every (λ r. Narrow d (r .u)) (start ins (map (padded w) es))
+narrow-start w d [] es c h = tt
+narrow-start w d (b ∷ ins) [] c h = tt
+narrow-start w d (b ∷ ins) (e ∷ es) c h =
+    (λ j k. nth-padded w e (omega (arith, c .0)) j ∙ narrow-length d e (c .0) j k, narrow-start w d ins es (c .1) h)
+
+exact-wide : (w d : ℕ) (ins bs : List Vec) (es : List (List ℤ)) → Coordinates d es → d ≤ w → Exact ins (start bs es) → Exact ins (start bs (map (padded w) es))
+exact-wide w d ins [] es c h e = tt
+exact-wide w d ins (b ∷ bs) [] c h e = tt
+exact-wide w d ins (b ∷ bs) (f ∷ es) c h e = (≈-trans (comb-≈ ins (padded-≈ w f (omega (arith, c .0)))) (e .0), exact-wide w d ins bs es (c .1) h (e .1))
+
+spread-wide : (w d i : ℕ) (bs : List Vec) (es : List (List ℤ)) → Coordinates d es → d ≤ w → (v : Vec)
+    → spread (λ r. r .vector) i (start bs (map (padded w) es)) v ≡ spread (λ r. r .vector) i (start bs es) v
+spread-wide w d i [] es c h v = refl
+spread-wide w d i (b ∷ bs) [] c h v = refl
+spread-wide w d i (b ∷ bs) (f ∷ es) c h v = ap₂ (λ a s. a *ℤ dot b v +ℤ s) (nth-padded w f (omega (arith, c .0)) i) (spread-wide w d i bs es (c .1) h v)
+
+module _ (m w : ℕ) (ins : List Vec) (B : Basis m ins) (wide : length ins ≤ w) (rows : List Row) (moved : Moves (first-rows w ins) rows) where
+  start-is : vectors (first-rows w ins) ≡ ins
+  start-is = start-vectors ins (map (padded w) (units (length ins))) (wide-length w (length ins))
+
+  pub way-narrow : Every (λ r. Narrow (length ins) (r .u)) rows
+  way-narrow = moves-narrow (length ins) moved (narrow-start w (length ins) ins (units (length ins)) (units-coordinates (length ins)) wide)
 
   pub way-exact : Exact ins rows
-  way-exact = moves-exact ins moved (exact-start ins)
+  way-exact = moves-exact ins moved (exact-wide w (length ins) ins ins (units (length ins)) (units-coordinates (length ins)) wide (exact-start ins))
 
   pub way-count : length rows ≡ length ins
-  way-count = sym (moves-length moved) ∙ sym (length-vectors (first-rows ins)) ∙ ap length start-is
+  way-count = sym (moves-length moved) ∙ sym (length-vectors (first-rows w ins)) ∙ ap length start-is
 
   pub way-short : NoLonger (pos 400000000) rows
-  way-short = moves-no-longer (pos 400000000) moved (no-longer-of (pos 400000000) ins (units (length ins)) (B .limit))
+  way-short = moves-no-longer (pos 400000000) moved (no-longer-of (pos 400000000) ins (map (padded w) (units (length ins))) (B .limit))
 
   pub way-volume : pos 0 <ℤ squaredVolume m (vectors rows)
   way-volume = subst (λ s. pos 0 <ℤ s) (ap (squaredVolume m) (sym start-is) ∙ moves-keep m moved) (B .volume)
 
   -- no number in U passes 20,000⁴
   pub u-size : (j : ℕ) → Every (λ r. natAbs (nth (r .u) j) ≤ most) rows
-  u-size j = go rows way-sized way-exact way-short
+  u-size j = go rows way-narrow way-exact way-short
     where
-      go : (l : List Row) → Every (Sized m (length ins)) l → Exact ins l → NoLonger (pos 400000000) l → Every (λ r. natAbs (nth (r .u) j) ≤ most) l
+      go : (l : List Row) → Every (λ r. Narrow (length ins) (r .u)) l → Exact ins l → NoLonger (pos 400000000) l → Every (λ r. natAbs (nth (r .u) j) ≤ most) l
       go [] z e s = tt
-      go (r ∷ l) z e s = (omega (arith, entry m ins (B .four) (B .limit) (B .volume) 1 (r .u) (z .0 .u) (≤ℤ-trans (≤ℤ-of-≡ (≈-N (e .0))) (s .0)) j), go l (z .1) (e .1) (s .1))
+      go (r ∷ l) z e s = (omega (arith, entry m ins (B .four) (B .limit) (B .volume) 1 (r .u) (z .0) (≤ℤ-trans (≤ℤ-of-≡ (≈-N (e .0))) (s .0)) j), go l (z .1) (e .1) (s .1))
 
   -- nor in V: row i of V gives input i
   row-exact : (i : ℕ) → comb (rowOfV rows i) (vectors rows) ≈ getD ins i []
   row-exact i = record {
-    on = λ w. comb-spread (λ r. r .vector) i rows w ∙ sym (moves-spread (λ r. r .vector) vector-linear i moved w)
-        ∙ spread-start (λ r. r .vector) ins ins start-is refl i w;
+    on = λ v. comb-spread (λ r. r .vector) i rows v ∙ sym (moves-spread (λ r. r .vector) vector-linear i moved v)
+        ∙ spread-wide w (length ins) i ins (units (length ins)) (units-coordinates (length ins)) wide v
+        ∙ spread-start (λ r. r .vector) ins ins (start-vectors ins (units (length ins)) (length-units (length ins))) refl i v;
   }
 
   pub v-size : (i : ℕ) → Every (λ r. natAbs (nth (r .v) i) ≤ most) rows
   v-size i = go rows (λ k. omega (
     arith,
     entry m (vectors rows) (omega (arith, length-vectors rows, way-count, B .four)) (short-of (pos 400000000) (nn-pos 400000000) rows way-short) way-volume
-        1 (rowOfV rows i) (length-map rows (λ r. nth (r .v) i) ∙ sym (length-vectors rows)) (≤ℤ-trans (≤ℤ-of-≡ (≈-N (row-exact i))) (B .limit i)) k,
+        1 (rowOfV rows i) (narrow-length (length (vectors rows)) (rowOfV rows i) (length-map rows (λ r. nth (r .v) i) ∙ sym (length-vectors rows))) (≤ℤ-trans (≤ℤ-of-≡ (≈-N (row-exact i))) (B .limit i)) k,
   ))
     where
       go : (l : List Row) → ((k : ℕ) → natAbs (nth (rowOfV l i) k) ≤ most) → Every (λ r. natAbs (nth (r .v) i) ≤ most) l
@@ -254,7 +299,7 @@ gain-room i v (y ∷ xs) (s ∷ l) e p q zero h =
     gain-size (nth (s .v) i) y (nth v i) (p .0) (subst (λ z. natAbs z ≤ most) (nth-⊕ (s .v) (y ⊙ v) i ∙ ap (λ z. nth (s .v) i +ℤ z) (nth-⊙ y v i)) (q .0))
 gain-room i v (y ∷ xs) (s ∷ l) e p q (suc j) h = gain-room i v xs l (omega arith) (p .1) (q .1) j (omega arith)
 
-module _ (m : ℕ) (ins : List Vec) (B : Basis m ins) (front : List Row) (r : Row) (rest : List Row) (moved : Moves (first-rows ins) (front ++ (r ∷ rest)))
+module _ (m w : ℕ) (ins : List Vec) (B : Basis m ins) (wide : length ins ≤ w) (front : List Row) (r : Row) (rest : List Row) (moved : Moves (first-rows w ins) (front ++ (r ∷ rest)))
     (few : length front ≤ 3) (red : Reduced (vectors front)) where
   abbrev x : List ℤ
   x = nearest (vectors front) (r .vector)
@@ -266,10 +311,10 @@ module _ (m : ℕ) (ins : List Vec) (B : Basis m ins) (front : List Row) (r : Ro
   all = front ++ (r ∷ rest)
 
   short-front : NoLonger (pos 400000000) front
-  short-front = every-left (λ r. N (r .vector) ≤ℤ pos 400000000) front (r ∷ rest) (way-short m ins B all moved)
+  short-front = every-left (λ r. N (r .vector) ≤ℤ pos 400000000) front (r ∷ rest) (way-short m w ins B wide all moved)
 
   short-last : N (r .vector) ≤ℤ pos 400000000
-  short-last = every-right (λ r. N (r .vector) ≤ℤ pos 400000000) front (r ∷ rest) (way-short m ins B all moved) .0
+  short-last = every-right (λ r. N (r .vector) ≤ℤ pos 400000000) front (r ∷ rest) (way-short m w ins B wide all moved) .0
 
   -- the nearest vector is at most twice as long as the limit
   near-long : N (comb x (vectors front)) ≤ℤ pos (2 * 2 * 400000000)
@@ -278,21 +323,21 @@ module _ (m : ℕ) (ins : List Vec) (B : Basis m ins) (front : List Row) (r : Ro
   pub u-room : (j : ℕ) → natAbs (nth (r .u) j) + load x (us front) j ≤ 53 * most
   u-room j = omega (
     arith,
-    every-right (λ r. natAbs (nth (r .u) j) ≤ most) front (r ∷ rest) (u-size m ins B all moved j) .0,
-    weighs m ins (B .four) (B .limit) (B .volume) (length front) 2 front refl (omega arith) (every-left (Sized m (length ins)) front (r ∷ rest) (way-sized m ins B all moved))
-        (every-left (λ r. comb (r .u) ins ≈ r .vector) front (r ∷ rest) (way-exact m ins B all moved)) red x x-count near-long j,
+    every-right (λ r. natAbs (nth (r .u) j) ≤ most) front (r ∷ rest) (u-size m w ins B wide all moved j) .0,
+    weighs m ins (B .four) (B .limit) (B .volume) (length front) 2 front refl (omega arith) (every-left (λ r. Narrow (length ins) (r .u)) front (r ∷ rest) (way-narrow m w ins B wide all moved))
+        (every-left (λ r. comb (r .u) ins ≈ r .vector) front (r ∷ rest) (way-exact m w ins B wide all moved)) red x x-count near-long j,
     cost-most (length front) few,
   )
 
   -- no coefficient passes 2 · 20,000⁴
   pub x-size : (j : ℕ) → natAbs (nth x j) ≤ 2 * most
   x-size j = entry m (vectors front) (omega (arith, length-vectors front)) (short-of (pos 400000000) (nn-pos 400000000) front short-front)
-      (positive-left m (vectors front) (vectors (r ∷ rest)) (subst (λ l. pos 0 <ℤ squaredVolume m l) (vectors-append front (r ∷ rest)) (way-volume m ins B all moved)))
-      2 x (nearest-count (vectors front) (r .vector)) near-long j
+      (positive-left m (vectors front) (vectors (r ∷ rest)) (subst (λ l. pos 0 <ℤ squaredVolume m l) (vectors-append front (r ∷ rest)) (way-volume m w ins B wide all moved)))
+      2 x (narrow-length (length (vectors front)) x (nearest-count (vectors front) (r .vector))) near-long j
 
-  next : Moves (first-rows ins) (credited x (r .v) front ++ (less x front r ∷ rest))
+  next : Moves (first-rows w ins) (credited x (r .v) front ++ (less x front r ∷ rest))
   next = after moved (subtract x front r rest x-count (nearest-shorter (vectors front) (r .vector)))
 
   pub v-room : (i : ℕ) (j : ℕ) → j < length front → natAbs (nth (getD (map (λ s. s .v) front) j []) i) + natAbs (nth x j *ℤ nth (r .v) i) ≤ 3 * most
-  v-room i j h = gain-room i (r .v) x front x-count (every-left (λ r. natAbs (nth (r .v) i) ≤ most) front (r ∷ rest) (v-size m ins B all moved i))
-      (every-left (λ r. natAbs (nth (r .v) i) ≤ most) (credited x (r .v) front) (less x front r ∷ rest) (v-size m ins B (credited x (r .v) front ++ (less x front r ∷ rest)) next i)) j h
+  v-room i j h = gain-room i (r .v) x front x-count (every-left (λ r. natAbs (nth (r .v) i) ≤ most) front (r ∷ rest) (v-size m w ins B wide all moved i))
+      (every-left (λ r. natAbs (nth (r .v) i) ≤ most) (credited x (r .v) front) (less x front r ∷ rest) (v-size m w ins B wide (credited x (r .v) front ++ (less x front r ∷ rest)) next i)) j h
