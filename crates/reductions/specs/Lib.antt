@@ -14,3 +14,4 @@ pub mod Demand
 pub mod Padding
 pub mod Sizes
 pub mod Promise
+pub mod Passes
