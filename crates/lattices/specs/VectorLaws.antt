@@ -9,7 +9,7 @@ use native.Mathlib.Omega.{arith}
 use lib.ListN.{length, length-reverse}
 use Rattle.integers.specs.Ring.{*ℤ-pos-one, +ℤ-left-comm}
 use Rattle.integers.specs.Identity.{by-ring, reads}
-use Rattle.integers.specs.Order.{≤ℤ-antisymm, ≤ℤ-of-≡, zero-of-square}
+use Rattle.integers.specs.Order.{≤ℤ-trans, ≤ℤ-antisymm, ≤ℤ-of-≡, zero-of-square}
 use Rattle.integers.specs.Certificate.{nn-sq, _⊞_, le, by-nn}
 use Rattle.integers.specs.Lists.{same}
 use Rattle.lattices.specs.Vector.{Vec, N, Zero, nth, dot, _⊕_, _⊙_, _⊖_, comb}
@@ -61,6 +61,13 @@ pub N-nonneg : (u : Vec) → pos 0 ≤ℤ N u
 unfolding dot
 N-nonneg [] = ≤ℤ-refl (pos 0)
 N-nonneg (x ∷ u) = nn-sq x ⊞ N-nonneg u
+
+-- the square of an entry is at most the squared length
+pub square-≤ : (v : Vec) (j : ℕ) → (nth v j *ℤ nth v j) ≤ℤ N v
+unfolding dot
+square-≤ [] j = ≤ℤ-refl (pos 0)
+square-≤ (x ∷ v) zero = by-nn ((x *ℤ x) ∷ N v ∷ []) (N-nonneg v) (search reads) (search reads) tt
+square-≤ (x ∷ v) (suc j) = ≤ℤ-trans (square-≤ v j) (by-nn ((x *ℤ x) ∷ N v ∷ []) (nn-sq x) (search reads) (search reads) tt)
 
 -- ---- vectors compared by their inner products
 infix 4 _≈_

@@ -12,6 +12,7 @@ pub mod Lattice
 pub mod Accepted
 pub mod Demand
 pub mod Padding
+pub mod Weight
 pub mod Sizes
 pub mod Promise
 pub mod Passes

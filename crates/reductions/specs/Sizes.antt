@@ -12,10 +12,10 @@ use lib.ListN.{length, getD, length-append, length-map, length-reverse, List·ge
 use Rattle.integers.specs.Identity.{by-ring, reads}
 use Rattle.integers.specs.Order.{≤ℤ-trans, ≤ℤ-of-≡, *ℤ-mono, *ℤ-cancel-≤}
 use Rattle.integers.specs.Certificate.{NN, nn-pos, nn-sq, _⊞_, _⊠_, le, eq, by-nn}
-use Rattle.integers.specs.Size.{load, load-snoc, size-sub}
+use Rattle.integers.specs.Size.{load, size-sub, root}
 use Rattle.integers.specs.Lists.{nth-⊕, nth-⊙, length-⊙}
 use Rattle.lattices.specs.Vector.{Vec, N, nth, dot, _⊕_, _⊙_, _⊖_, comb}
-use Rattle.lattices.specs.VectorLaws.{_≈_, ≈-N, ≈-refl, ≈-sym, ≈-trans, ≈-⊕, ≈-⊙, bilinear, dot-comm, N-nonneg, N-zero, nil-dot, comb-≈, comb-⊙, comb-cons, comb-snoc, comb-reverse}
+use Rattle.lattices.specs.VectorLaws.{_≈_, ≈-N, ≈-refl, ≈-sym, ≈-trans, ≈-⊕, ≈-⊙, bilinear, dot-comm, N-nonneg, square-≤, nil-dot, comb-≈, comb-⊙, comb-cons, comb-snoc, comb-reverse}
 use Rattle.lattices.specs.Volume.{squaredVolume}
 use Rattle.lattices.specs.Nearest.{nearest}
 use Rattle.lattices.specs.Greedy.{Row, vectors, lastOf, before, less, credited, units, start}
@@ -31,48 +31,12 @@ use Rattle.reductions.specs.Lengths.{NoLonger, moves-no-longer}
 use Rattle.reductions.specs.Tables.{Exact, moves-exact, spread, moves-spread}
 use Rattle.reductions.specs.Start.{Coordinates, start-vectors, length-units, units-coordinates, exact-start, spread-start}
 use Rattle.reductions.specs.Exactness.{begin, comb-spread, vector-linear}
+use Rattle.reductions.specs.Weight.{weighs, cost-most}
 use Rattle.reductions.specs.Kept.{moves-keep, positive-left}
 
 -- 20,000⁴
 abbrev pub most : ℕ
 most = 160000000000000000
-
--- ---- the parts of a combination of reduced vectors
--- a difference of vectors of lengths a and 2·a is at most 3·a long
-third : (s : ℤ) (u v : Vec) → N u ≤ℤ s → N v ≤ℤ (pos 4 *ℤ s) → N (u ⊖ v) ≤ℤ (pos 9 *ℤ s)
-third s u v h k = *ℤ-cancel-≤ {c = pos 2} (ltZ-yes tt) (by-nn (N u ∷ N v ∷ dot u v ∷ s ∷ N (u ⊖ v) ∷ N (pos 2 ⊙ u ⊕ v) ∷ [])
-    (nn-pos 6 ⊠ le h ⊞ nn-pos 3 ⊠ le k ⊞ N-nonneg (pos 2 ⊙ u ⊕ v) ⊞ eq (negsuc 0) double ⊞ eq (negsuc 1) difference) (search reads depth 20) (search reads depth 20) tt)
-  where
-    difference : N (u ⊖ v) ≡ N u -ℤ pos 2 *ℤ dot u v +ℤ N v
-    difference = simp (bilinear, dot-comm v u) (by-ring (N u ∷ N v ∷ dot u v ∷ []) (search reads depth 20) (search reads depth 20) tt)
-
-    double : N (pos 2 ⊙ u ⊕ v) ≡ pos 4 *ℤ N u +ℤ pos 4 *ℤ dot u v +ℤ N v
-    double = simp (bilinear, dot-comm v u) (by-ring (N u ∷ N v ∷ dot u v ∷ []) (search reads depth 20) (search reads depth 20) tt)
-
-N-⊙ : (x : ℤ) (v : Vec) → N (x ⊙ v) ≡ x *ℤ x *ℤ N v
-N-⊙ x v = simp bilinear (by-ring (x ∷ N v ∷ []) (search reads depth 20) (search reads depth 20) tt)
-
--- the last vector's part of a combination, and the rest of it: at most 2 and 3 times as long
-module _ (ws : List Vec) (l : Vec) (top : Top l (reverse ws)) (short : length ws ≤ 3) (x : List ℤ) (y : ℤ) (e : length x ≡ length ws) where
-  whole : Vec
-  whole = comb (x ++ (y ∷ [])) (ws ++ (l ∷ []))
-
-  turned : comb (reverse x) (reverse ws) ≈ comb x ws
-  turned = comb-reverse x ws e
-
-  opened : comb (y ∷ reverse x) (l ∷ reverse ws) ≈ whole
-  unfolding whole
-  opened = ≈-trans (comb-cons y (reverse x) l (reverse ws)) (≈-trans (≈-⊕ ≈-refl turned) (≈-sym (comb-snoc x ws y l e)))
-
-  part-last : N (y ⊙ l) ≤ℤ (pos 4 *ℤ N whole)
-  part-last = subst₂ _≤ℤ_ (sym (N-⊙ y l)) (ap (λ n. pos 4 *ℤ n) (≈-N opened)) (pinned top (omega (arith, length-reverse ws)) y (reverse x))
-
-  part-rest : N (comb x ws) ≤ℤ (pos 9 *ℤ N whole)
-  unfolding whole
-  part-rest = subst (λ n. n ≤ℤ (pos 9 *ℤ N whole)) (≈-N (record { on = same-dot })) (third (N whole) whole (y ⊙ l) (≤ℤ-refl (N whole)) part-last)
-    where
-      same-dot : (w : Vec) → dot (whole ⊖ y ⊙ l) w ≡ dot (comb x ws) w
-      same-dot w = simp (bilinear, comb-snoc x ws y l e .on w) (by-ring (y ∷ dot l w ∷ dot (comb x ws) w ∷ []) (search reads depth 20) (search reads depth 20) tt)
 
 -- zeros from place d on: a table's row may be wider than the list of vectors
 abbrev pub Narrow : ℕ → List ℤ → Type 0
@@ -97,20 +61,8 @@ moves-narrow : (d : ℕ) {a b : List Row} → Moves a b → Every (λ r. Narrow 
 moves-narrow d = moves-every (λ r. Narrow d (r .u)) (λ r s x h k. h)
     (λ x rows r k h p. narrow-⊕ d (r .u) (negsuc 0 ⊙ comb x (map (λ r. r .u) rows)) p (narrow-⊙ d (negsuc 0) (comb x (map (λ r. r .u) rows)) (narrow-comb d x rows h)))
 
--- ---- rows of U: what k reduced rows weigh in a combination that is at most A · 20,000 long
-cost : ℕ → ℕ → ℕ
-cost zero A = 0
-cost (suc k) A = 2 * A + cost k (3 * A)
-
-abbrev us : List Row → List (List ℤ)
-us = map (λ r. r .u)
-
-us-append : (a b : List Row) → us (a ++ b) ≡ us a ++ us b
-us-append [] b = refl
-us-append (r ∷ a) b = ap (λ l. r .u ∷ l) (us-append a b)
-
+-- ---- a vector of the lattice that is at most A · 20,000 long has coefficients of at most A · 20,000⁴
 module _ (m : ℕ) (ins : List Vec) (four : length ins ≤ 4) (limit : Short (pos 400000000) ins) (volume : pos 0 <ℤ squaredVolume m ins) where
-  -- a vector of the lattice that is at most A · 20,000 long has coefficients of at most A · 20,000⁴
   pub entry : (A : ℕ) (u : List ℤ) → Narrow (length ins) u → N (comb u ins) ≤ℤ pos (A * A * 400000000) → (j : ℕ) → natAbs (nth u j) ≤ A * most
   entry A u e h j = go (decLt j (length ins))
     where
@@ -118,73 +70,17 @@ module _ (m : ℕ) (ins : List Vec) (four : length ins ≤ 4) (limit : Short (po
       go (yes k) = coefficient-≤ A m j u ins four limit volume k h
       go (no k) = subst (λ z. natAbs z ≤ A * most) (sym (e j (omega arith))) (omega arith)
 
-  -- the last row's term and the terms of the rest
-  module _ (b : List Row) (r : Row) (few : length b ≤ 3) (narrow : Narrow (length ins) (r .u)) (exact : comb (r .u) ins ≈ r .vector)
-      (red : Reduced (vectors (b ++ (r ∷ [])))) (x : List ℤ) (y : ℤ) (e : length x ≡ length b) (A : ℕ)
-      (h : N (comb (x ++ (y ∷ [])) (vectors (b ++ (r ∷ [])))) ≤ℤ pos (A * A * 400000000)) where
-    count : length x ≡ length (vectors b)
-    count = e ∙ sym (length-vectors b)
+  -- so has its row of U
+  row-size : (A : ℕ) (y : ℤ) (r : Row) → Narrow (length ins) (r .u) × (comb (r .u) ins ≈ r .vector) → N (y ⊙ r .vector) ≤ℤ pos (A * A * 400000000) → (j : ℕ) → natAbs (y *ℤ nth (r .u) j) ≤ A * most
+  row-size A y r p h j = subst (λ z. natAbs z ≤ A * most) (nth-⊙ y (r .u) j)
+      (entry A (y ⊙ r .u) (narrow-⊙ (length ins) y (r .u) (p .0)) (≤ℤ-trans (≤ℤ-of-≡ (≈-N (≈-trans (comb-⊙ y (r .u) ins) (≈-⊙ y (p .1))))) h) j)
 
-    descending : Descending (r .vector ∷ reverse (vectors b))
-    descending = subst Descending (ap reverse (vectors-append b (r ∷ [])) ∙ reverse-append (vectors b) (r .vector ∷ [])) red
-
-    bound : N (comb (x ++ (y ∷ [])) (vectors b ++ (r .vector ∷ []))) ≤ℤ pos (A * A * 400000000)
-    bound = subst (λ l. N (comb (x ++ (y ∷ [])) l) ≤ℤ pos (A * A * 400000000)) (vectors-append b (r ∷ [])) h
-
-    last-long : N (comb (y ⊙ r .u) ins) ≤ℤ pos (2 * A * (2 * A) * 400000000)
-    unfolding whole
-    last-long = subst (λ n. n ≤ℤ pos (2 * A * (2 * A) * 400000000)) (sym (≈-N (≈-trans (comb-⊙ y (r .u) ins) (≈-⊙ y exact))))
-        (≤ℤ-trans (part-last (vectors b) (r .vector) (descending .0) (omega (arith, length-vectors b)) x y count)
-        (subst (λ n. (pos 4 *ℤ N (comb (x ++ (y ∷ [])) (vectors b ++ (r .vector ∷ [])))) ≤ℤ n) (ap pos four-times) (*ℤ-mono (nn-pos 4) bound)))
-      where
-        four-times : 4 * (A * A * 400000000) ≡ 2 * A * (2 * A) * 400000000
-        four-times = omega arith
-
-    rest-long : N (comb x (vectors b)) ≤ℤ pos (3 * A * (3 * A) * 400000000)
-    unfolding whole
-    rest-long = ≤ℤ-trans (part-rest (vectors b) (r .vector) (descending .0) (omega (arith, length-vectors b)) x y count)
-        (subst (λ n. (pos 9 *ℤ N (comb (x ++ (y ∷ [])) (vectors b ++ (r .vector ∷ [])))) ≤ℤ n) (ap pos nine-times) (*ℤ-mono (nn-pos 9) bound))
-      where
-        nine-times : 9 * (A * A * 400000000) ≡ 3 * A * (3 * A) * 400000000
-        nine-times = omega arith
-
-    last-term : (j : ℕ) → natAbs (y *ℤ nth (r .u) j) ≤ 2 * A * most
-    last-term j = subst (λ z. natAbs z ≤ 2 * A * most) (nth-⊙ y (r .u) j) (entry (2 * A) (y ⊙ r .u) (narrow-⊙ (length ins) y (r .u) narrow) last-long j)
-
-    terms : (k : ℕ) → (j : ℕ) → load x (us b) j ≤ cost k (3 * A) * most → load (x ++ (y ∷ [])) (us (b ++ (r ∷ []))) j ≤ cost (suc k) A * most
-    unfolding cost
-    terms k j i = subst (λ n. n ≤ (2 * A + cost k (3 * A)) * most) (sym (ap (λ t. load (x ++ (y ∷ [])) t j) (us-append b (r ∷ [])) ∙ load-snoc x (us b) y (r .u) (e ∙ sym (length-map b (λ r. r .u))) j))
-        (omega (arith, last-term j))
-
-  -- `load` is bounded for every combination of these rows that is at most A · 20,000 long
-  abbrev Weighs : ℕ → ℕ → List Row → Type 0
-  Weighs k A front = Every (λ r. Narrow (length ins) (r .u)) front → Exact ins front → Reduced (vectors front) → (x : List ℤ) → length x ≡ length front
-      → N (comb x (vectors front)) ≤ℤ pos (A * A * 400000000) → (j : ℕ) → load x (us front) j ≤ cost k A * most
-
-  weighs-last : (k A : ℕ) (b : List Row) (r : Row) → length b ≡ k → k ≤ 3 → Weighs k (3 * A) b → Weighs (suc k) A (b ++ (r ∷ []))
-  weighs-last k A b r e s ih z ex red x f h j =
-      let o = ended (length b) x (f ∙ length-append b (r ∷ []) ∙ omega arith) in
-      let h′ = subst (λ l. N (comb l (vectors (b ++ (r ∷ [])))) ≤ℤ pos (A * A * 400000000)) (o .is) h in
-      let z′ = every-right (λ r. Narrow (length ins) (r .u)) b (r ∷ []) z .0 in
-      let ex′ = every-right (λ r. comb (r .u) ins ≈ r .vector) b (r ∷ []) ex .0 in
-      subst (λ l. load l (us (b ++ (r ∷ []))) j ≤ cost (suc k) A * most) (sym (o .is))
-      (terms b r (omega arith) z′ ex′ red (o .start) (o .end) (o .count) A h′ k j
-      (ih (every-left (λ r. Narrow (length ins) (r .u)) b (r ∷ []) z) (every-left (λ r. comb (r .u) ins ≈ r .vector) b (r ∷ []) ex)
-      (descending b r (omega arith) z′ ex′ red (o .start) (o .end) (o .count) A h′ .1) (o .start) (o .count)
-      (rest-long b r (omega arith) z′ ex′ red (o .start) (o .end) (o .count) A h′) j))
-
-  weighs-none : (A : ℕ) → Weighs 0 A []
-  unfolding load
-  weighs-none A z ex red [] f h j = omega arith
-  weighs-none A z ex red (y ∷ x) f h j = absurd (omega arith)
-
-  weighs : (k A : ℕ) (front : List Row) → length front ≡ k → k ≤ 4 → Weighs k A front
-  weighs zero A [] e s = weighs-none A
-  weighs zero A (r ∷ front) e s = absurd (omega arith)
-  weighs (suc k) A [] e s = absurd (omega arith)
-  weighs (suc k) A (q ∷ front) e s = subst (Weighs (suc k) A) (before-last q front)
-      (weighs-last k A (before q front) (lastOf q front) (length-before q front ∙ omega arith) (omega arith)
-      (weighs k (3 * A) (before q front) (length-before q front ∙ omega arith) (omega arith)))
+-- a coordinate is no larger than its vector is long
+pub coordinate : (A : ℕ) (v : Vec) → N v ≤ℤ pos (A * A * 400000000) → (j : ℕ) → natAbs (nth v j) ≤ A * 20000
+coordinate A v h j = root (nth v j) (pos (A * 20000)) (≤ℤ-trans (square-≤ v j) (≤ℤ-trans h (≤ℤ-of-≡ (ap pos (regroup A)))))
+  where
+    regroup : (A : ℕ) → A * A * 400000000 ≡ A * 20000 * (A * 20000)
+    regroup A = omega arith
 
 -- ---- a list that may be reduced, and the rows on the way
 pub record Basis (m : ℕ) (ins : List Vec) : Type 0 where
@@ -275,13 +171,13 @@ module _ (m w : ℕ) (ins : List Vec) (B : Basis m ins) (wide : length ins ≤ w
       go (r ∷ l) h = (h 0, go l (λ k. h (suc k)))
 
 -- ---- room for a pass: the rows front, the row r behind them, and what is nearest to it
-cost-most : (k : ℕ) → k ≤ 3 → cost k 2 ≤ 52
-unfolding cost
-cost-most zero h = omega arith
-cost-most (suc zero) h = omega arith
-cost-most (suc (suc zero)) h = omega arith
-cost-most (suc (suc (suc zero))) h = omega arith
-cost-most (suc (suc (suc (suc k)))) h = absurd (omega arith)
+every-both : (P Q : Row → Type 0) (l : List Row) → Every P l → Every Q l → Every (λ r. P r × Q r) l
+every-both P Q [] p q = tt
+every-both P Q (r ∷ l) p q = ((p .0, q .0), every-both P Q l (p .1) (q .1))
+
+every-unit : (l : List Row) → Every (λ r. Unit {0}) l
+every-unit [] = tt
+every-unit (r ∷ l) = (tt, every-unit l)
 
 -- what a column gains is the difference of two columns
 gain-size : (a y b : ℤ) → natAbs a ≤ most → natAbs (a +ℤ y *ℤ b) ≤ most → natAbs a + natAbs (y *ℤ b) ≤ 3 * most
@@ -320,12 +216,23 @@ module _ (m w : ℕ) (ins : List Vec) (B : Basis m ins) (wide : length ins ≤ w
   near-long : N (comb x (vectors front)) ≤ℤ pos (2 * 2 * 400000000)
   near-long = ≤ℤ-trans (near-le (r .vector) (comb x (vectors front)) (nearest-shorter (vectors front) (r .vector))) (*ℤ-mono (nn-pos 4) short-last)
 
-  pub u-room : (j : ℕ) → natAbs (nth (r .u) j) + load x (us front) j ≤ 53 * most
+  pub u-room : (j : ℕ) → natAbs (nth (r .u) j) + load x (map (λ s. s .u) front) j ≤ 53 * most
   u-room j = omega (
     arith,
     every-right (λ r. natAbs (nth (r .u) j) ≤ most) front (r ∷ rest) (u-size m w ins B wide all moved j) .0,
-    weighs m ins (B .four) (B .limit) (B .volume) (length front) 2 front refl (omega arith) (every-left (λ r. Narrow (length ins) (r .u)) front (r ∷ rest) (way-narrow m w ins B wide all moved))
-        (every-left (λ r. comb (r .u) ins ≈ r .vector) front (r ∷ rest) (way-exact m w ins B wide all moved)) red x x-count near-long j,
+    weighs (λ s. s .u) most (λ r. Narrow (length ins) (r .u) × (comb (r .u) ins ≈ r .vector)) (row-size m ins (B .four) (B .limit) (B .volume)) (length front) 2 front refl (omega arith)
+        (every-both (λ r. Narrow (length ins) (r .u)) (λ r. comb (r .u) ins ≈ r .vector) front (every-left (λ r. Narrow (length ins) (r .u)) front (r ∷ rest) (way-narrow m w ins B wide all moved))
+        (every-left (λ r. comb (r .u) ins ≈ r .vector) front (r ∷ rest) (way-exact m w ins B wide all moved))) red x x-count near-long j,
+    cost-most (length front) few,
+  )
+
+  -- the same for the vectors themselves
+  pub vector-room : (j : ℕ) → natAbs (nth (r .vector) j) + load x (vectors front) j ≤ 53 * 20000
+  vector-room j = omega (
+    arith,
+    coordinate 1 (r .vector) short-last j,
+    weighs (λ s. s .vector) 20000 (λ r. Unit {0}) (λ A y r p h j. subst (λ z. natAbs z ≤ A * 20000) (nth-⊙ y (r .vector) j) (coordinate A (y ⊙ r .vector) h j))
+        (length front) 2 front refl (omega arith) (every-unit front) red x x-count near-long j,
     cost-most (length front) few,
   )
 
