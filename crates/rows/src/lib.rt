@@ -8,6 +8,24 @@ ghost use Rattle.integers.specs.Size.{Within};
 ghost use Rattle.lattices.specs.Vector.{dot, _⊖_, _⊙_};
 ghost use Rattle.rows.specs.Minus.{room};
 
+// One vector. Its width is the only place that knows how many coordinates there may be.
+pub struct VectorRow {
+    pub at: [i64; 4],
+}
+
+// One row of U, or one column of V: a number for each vector.
+pub struct TableRow {
+    pub at: [i64; 4],
+}
+
+// The work on a list of vectors: the vectors, the rows of U, the columns of V, and the passes made so far.
+pub struct Work {
+    pub vectors: [VectorRow; 4],
+    pub u: [TableRow; 4],
+    pub v: [TableRow; 4],
+    pub passes: u64,
+}
+
 // The inner product.
 pub fn dot(a: [i64; 4], b: [i64; 4]) -> i64
     requires { ⌜ ((i : ℕ) → Within 100000 (nth a i)) ⌝ }
