@@ -3,3 +3,4 @@ pub mod Rows
 pub mod Dot
 pub mod Front
 pub mod Minus
+pub mod Loss

@@ -1,12 +1,15 @@
 // Arithmetic on the rows of the work: vectors, rows of U and columns of V, each four numbers wide, the unused ones zero.
 // A table is an array of arrays, and each function gives the table that its contract names.
 ghost use mathlib.Core.Path.{_≡_};
+ghost use mathlib.Core.List.{[]};
 ghost use Prim.Native.Nat.{ℕ, _+_, _≤_};
+ghost use lib.ListN.{getD, set, take};
 ghost use lib.IntN.{_*ℤ_, natAbs};
 ghost use Rattle.integers.specs.Lists.{nth};
 ghost use Rattle.integers.specs.Size.{Within};
-ghost use Rattle.lattices.specs.Vector.{dot, _⊖_, _⊙_};
+ghost use Rattle.lattices.specs.Vector.{dot, comb, _⊖_, _⊙_};
 ghost use Rattle.rows.specs.Minus.{room};
+ghost use Rattle.rows.specs.Loss.{load};
 
 // One vector. Its width is the only place that knows how many coordinates there may be.
 pub struct VectorRow {
@@ -47,6 +50,19 @@ pub fn minus_multiple(a: [i64; 4], q: i64, b: [i64; 4]) -> [i64; 4]
     let mut r = a;
     for i in 0..4 {
         r[i] -= q * b[i];
+    }
+    r
+}
+
+// Row k loses the combination x of the rows before it.
+pub fn minus_rows(t: [[i64; 4]; 4], k: usize, x: [i64; 3]) -> [[i64; 4]; 4]
+    requires { ⌜ k ≤ 3 ⌝ }
+    requires { ⌜ ((i : ℕ) → natAbs (nth (getD t k []) i) + load (take k x) (take k t) i ≤ room) ⌝ }
+    ensures { λ r. ⌜ r ≡ set t k (getD t k [] ⊖ comb (take k x) (take k t)) ⌝ }
+{
+    let mut r = t;
+    for j in 0..k {
+        r[k] = minus_multiple(r[k], x[j], r[j]);
     }
     r
 }
