@@ -4,3 +4,4 @@ pub mod Dot
 pub mod Front
 pub mod Minus
 pub mod Loss
+pub mod Gain

@@ -2,12 +2,13 @@
 // A table is an array of arrays, and each function gives the table that its contract names.
 ghost use mathlib.Core.Path.{_≡_};
 ghost use mathlib.Core.List.{[]};
-ghost use Prim.Native.Nat.{ℕ, _+_, _≤_};
+ghost use Prim.Native.Nat.{ℕ, _+_, _≤_, _<_};
 ghost use lib.ListN.{getD, set, take};
 ghost use lib.IntN.{_*ℤ_, natAbs};
 ghost use Rattle.integers.specs.Lists.{nth};
 ghost use Rattle.integers.specs.Size.{Within};
 ghost use Rattle.lattices.specs.Vector.{dot, comb, _⊖_, _⊙_};
+ghost use Rattle.rows.specs.Rows.{gained};
 ghost use Rattle.rows.specs.Minus.{room};
 ghost use Rattle.rows.specs.Loss.{load};
 
@@ -63,6 +64,20 @@ pub fn minus_rows(t: [[i64; 4]; 4], k: usize, x: [i64; 3]) -> [[i64; 4]; 4]
     let mut r = t;
     for j in 0..k {
         r[k] = minus_multiple(r[k], x[j], r[j]);
+    }
+    r
+}
+
+// Each row before row k gains its number of x times row k: taken away with the other sign.
+pub fn credit_rows(t: [[i64; 4]; 4], k: usize, x: [i64; 3]) -> [[i64; 4]; 4]
+    requires { ⌜ k ≤ 3 ⌝ }
+    requires { ⌜ ((j : ℕ) → Within room (nth x j)) ⌝ }
+    requires { ⌜ ((j i : ℕ) → j < k → natAbs (nth (getD t j []) i) + natAbs (nth x j *ℤ nth (getD t k []) i) ≤ room) ⌝ }
+    ensures { λ r. ⌜ r ≡ gained (take k x) (getD t k []) t ⌝ }
+{
+    let mut r = t;
+    for j in 0..k {
+        r[j] = minus_multiple(r[j], -x[j], r[k]);
     }
     r
 }
