@@ -4,7 +4,7 @@ use mathlib.Core.List.{List, [], _∷_, map}
 use Prim.Native.Nat.{ℕ, zero, suc}
 use native.Mathlib.Omega.{arith}
 use lib.IntN.{ℤ}
-use lib.ListN.{length, take, drop}
+use lib.ListN.{length, getD, take, drop}
 use Rattle.lattices.specs.Vector.{_⊕_, _⊙_}
 use Rattle.lattices.specs.Greedy.{Row, credited}
 use Rattle.rows.specs.declared.VectorRow.{VectorRow}
@@ -102,3 +102,13 @@ credited-rowsOf (x ∷ xs) v (b ∷ bs) (u ∷ us) (w ∷ vs) = ap (λ l. record
 pub credited-columns : (x v : List ℤ) (rows : List Row) → credited x v rows ≡ rowsOf (map (λ r. r .vector) rows) (map (λ r. r .u) rows) (gained x v (map (λ r. r .v) rows))
 credited-columns x v rows =
     ap (credited x v) (sym (rowsOf-parts rows)) ∙ credited-rowsOf x v (map (λ r. r .vector) rows) (map (λ r. r .u) rows) (map (λ r. r .v) rows)
+
+-- ---- four rows, packed or unpacked one by one
+
+pub map-four : {A B : Type 0} (f : A → B) (l : List A) (d : A) → length l ≡ 4 → f (getD l 0 d) ∷ f (getD l 1 d) ∷ f (getD l 2 d) ∷ f (getD l 3 d) ∷ [] ≡ map f l
+map-four f [] d e = absurd (omega arith)
+map-four f (a ∷ []) d e = absurd (omega arith)
+map-four f (a ∷ b ∷ []) d e = absurd (omega arith)
+map-four f (a ∷ b ∷ c ∷ []) d e = absurd (omega arith)
+map-four f (a ∷ b ∷ c ∷ g ∷ []) d e = refl
+map-four f (a ∷ b ∷ c ∷ g ∷ h ∷ l) d e = absurd (omega arith)

@@ -1,14 +1,14 @@
 // Arithmetic on the rows of the work: vectors, rows of U and columns of V, each four numbers wide, the unused ones zero.
 // A table is an array of arrays, and each function gives the table that its contract names.
 ghost use mathlib.Core.Path.{_≡_};
-ghost use mathlib.Core.List.{[]};
+ghost use mathlib.Core.List.{[], map};
 ghost use Prim.Native.Nat.{ℕ, _+_, _≤_, _<_};
 ghost use lib.ListN.{getD, set, take};
 ghost use lib.IntN.{_*ℤ_, natAbs};
 ghost use Rattle.integers.specs.Lists.{nth};
 ghost use Rattle.integers.specs.Size.{Within};
 ghost use Rattle.lattices.specs.Vector.{dot, comb, _⊖_, _⊙_};
-ghost use Rattle.rows.specs.Rows.{gained};
+ghost use Rattle.rows.specs.Rows.{gained, vectorRow, tableRow};
 ghost use Rattle.rows.specs.Minus.{room};
 ghost use Rattle.rows.specs.Loss.{load};
 
@@ -80,4 +80,55 @@ pub fn credit_rows(t: [[i64; 4]; 4], k: usize, x: [i64; 3]) -> [[i64; 4]; 4]
         r[j] = minus_multiple(r[j], -x[j], r[k]);
     }
     r
+}
+
+// Tables are packed in row structs, which a struct can hold, and unpacked to be worked on.
+pub fn vector_rows(t: [[i64; 4]; 4]) -> [VectorRow; 4]
+    ensures { λ r. ⌜ r ≡ map vectorRow t ⌝ }
+{
+    [
+        VectorRow { at: t[0] },
+        VectorRow { at: t[1] },
+        VectorRow { at: t[2] },
+        VectorRow { at: t[3] },
+    ]
+}
+
+pub fn vectors_of(rows: [VectorRow; 4]) -> [[i64; 4]; 4]
+    ensures { λ r. ⌜ r ≡ map (λ row. row .at) rows ⌝ }
+{
+    let a = rows[0];
+    let b = rows[1];
+    let c = rows[2];
+    let d = rows[3];
+    let p = a.at;
+    let q = b.at;
+    let r = c.at;
+    let s = d.at;
+    [p, q, r, s]
+}
+
+pub fn table_rows(t: [[i64; 4]; 4]) -> [TableRow; 4]
+    ensures { λ r. ⌜ r ≡ map tableRow t ⌝ }
+{
+    [
+        TableRow { at: t[0] },
+        TableRow { at: t[1] },
+        TableRow { at: t[2] },
+        TableRow { at: t[3] },
+    ]
+}
+
+pub fn tables_of(rows: [TableRow; 4]) -> [[i64; 4]; 4]
+    ensures { λ r. ⌜ r ≡ map (λ row. row .at) rows ⌝ }
+{
+    let a = rows[0];
+    let b = rows[1];
+    let c = rows[2];
+    let d = rows[3];
+    let p = a.at;
+    let q = b.at;
+    let r = c.at;
+    let s = d.at;
+    [p, q, r, s]
 }
