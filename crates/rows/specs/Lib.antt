@@ -5,3 +5,4 @@ pub mod Front
 pub mod Minus
 pub mod Loss
 pub mod Gain
+pub mod Places

@@ -1,14 +1,15 @@
 // Arithmetic on the rows of the work: vectors, rows of U and columns of V, each four numbers wide, the unused ones zero.
 // A table is an array of arrays, and each function gives the table that its contract names.
 ghost use mathlib.Core.Path.{_≡_};
-ghost use mathlib.Core.List.{[], map};
-ghost use Prim.Native.Nat.{ℕ, _+_, _≤_, _<_};
+ghost use mathlib.Core.List.{[], _∷_, map};
+ghost use Prim.Native.Nat.{ℕ, _+_, suc, _-_, _≤_, _<_};
 ghost use lib.ListN.{getD, set, take};
 ghost use lib.IntN.{_*ℤ_, natAbs};
 ghost use Rattle.integers.specs.Lists.{nth};
 ghost use Rattle.integers.specs.Size.{Within};
 ghost use Rattle.lattices.specs.Vector.{dot, comb, _⊖_, _⊙_};
 ghost use Rattle.rows.specs.Rows.{gained, vectorRow, tableRow};
+ghost use Rattle.rows.specs.Places.{Places, insertAt, orderedFrom};
 ghost use Rattle.rows.specs.Minus.{room};
 ghost use Rattle.rows.specs.Loss.{load};
 
@@ -131,4 +132,26 @@ pub fn tables_of(rows: [TableRow; 4]) -> [[i64; 4]; 4]
     let r = c.at;
     let s = d.at;
     [p, q, r, s]
+}
+
+// The place at i goes past those behind it, up to n, whose rows are shorter: neighbours are exchanged.
+fn inserted(places: [usize; 4], lengths: [i64; 4], i: usize, n: usize) -> [usize; 4]
+    requires { ⌜ (i < n) × (n ≤ 4) ⌝ }
+    requires { ⌜ Places places ⌝ }
+    ensures { λ r. ⌜ Places r ⌝ }
+    ensures { λ r. ⌜ r ≡ insertAt (nth lengths) i (n - suc i) places ⌝ }
+{
+    let mut r = places;
+    let mut j = i;
+    while j + 1 < n {
+        let p = r[j];
+        let q = r[j + 1];
+        if lengths[p] <= lengths[q] {
+            return r;
+        }
+        r[j] = q;
+        r[j + 1] = p;
+        j += 1;
+    }
+    r
 }
