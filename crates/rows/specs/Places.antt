@@ -141,3 +141,13 @@ places-set {l} j p f h = record { count = length-set l j p ∙ f .count; below =
     go (q ∷ l) zero f (suc k) = f (suc k)
     go (q ∷ l) (suc j) f zero = f zero
     go (q ∷ l) (suc j) f (suc k) = go l j (λ i. f (suc i)) k
+
+pub unsorted : Places (0 ∷ 1 ∷ 2 ∷ 3 ∷ [])
+unsorted = record { count = refl; below = go }
+  where
+    go : (k : ℕ) → getD (0 ∷ 1 ∷ 2 ∷ 3 ∷ []) k 0 < 4
+    go zero = omega arith
+    go (suc zero) = omega arith
+    go (suc (suc zero)) = omega arith
+    go (suc (suc (suc zero))) = omega arith
+    go (suc (suc (suc (suc k)))) = omega arith

@@ -7,7 +7,7 @@ ghost use lib.ListN.{getD, set, take};
 ghost use lib.IntN.{_*ℤ_, natAbs};
 ghost use Rattle.integers.specs.Lists.{nth};
 ghost use Rattle.integers.specs.Size.{Within};
-ghost use Rattle.lattices.specs.Vector.{dot, comb, _⊖_, _⊙_};
+ghost use Rattle.lattices.specs.Vector.{dot, N, comb, _⊖_, _⊙_};
 ghost use Rattle.rows.specs.Rows.{gained, vectorRow, tableRow};
 ghost use Rattle.rows.specs.Places.{Places, insertAt, orderedFrom};
 ghost use Rattle.rows.specs.Minus.{room};
@@ -154,4 +154,44 @@ fn inserted(places: [usize; 4], lengths: [i64; 4], i: usize, n: usize) -> [usize
         j += 1;
     }
     r
+}
+
+// The places of the first n rows, shortest row first and equal lengths in their order; those from n on stay.
+fn places(lengths: [i64; 4], n: usize) -> [usize; 4]
+    requires { ⌜ n ≤ 4 ⌝ }
+    ensures { λ r. ⌜ Places r ⌝ }
+    ensures { λ r. ⌜ r ≡ orderedFrom (nth lengths) n 0 (0 ∷ 1 ∷ 2 ∷ 3 ∷ []) ⌝ }
+{
+    let mut r = [0, 1, 2, 3];
+    let mut i = n;
+    while 0 < i {
+        i -= 1;
+        let next = inserted(r, lengths, i, n);
+        r = next;
+    }
+    r
+}
+
+// The squared lengths of the vectors.
+fn squared_lengths(b: [[i64; 4]; 4]) -> [i64; 4]
+    requires { ⌜ ((i j : ℕ) → Within 100000 (nth (getD b i []) j)) ⌝ }
+    ensures { λ r. ⌜ r ≡ map N b ⌝ }
+{
+    let mut r = [0; 4];
+    for i in 0..4 {
+        r[i] = dot(b[i], b[i]);
+    }
+    r
+}
+
+// The rows at the given places.
+fn rows_at(t: [[i64; 4]; 4], places: [usize; 4]) -> [[i64; 4]; 4]
+    requires { ⌜ Places places ⌝ }
+    ensures { λ r. ⌜ r ≡ map (λ i. getD t i []) places ⌝ }
+{
+    let i = places[0];
+    let j = places[1];
+    let k = places[2];
+    let l = places[3];
+    [t[i], t[j], t[k], t[l]]
 }
