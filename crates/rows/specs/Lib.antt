@@ -6,3 +6,4 @@ pub mod Minus
 pub mod Loss
 pub mod Gain
 pub mod Places
+pub mod Order

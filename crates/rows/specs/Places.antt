@@ -12,6 +12,7 @@ use lib.Seq.{length-take-le}
 use Rattle.integers.specs.Order.{leZ-true, leZ-false, <ℤ-ltZ, ≤ℤ-ltZ}
 use Rattle.lattices.specs.Vector.{N}
 use Rattle.lattices.specs.Greedy.{Row, insert, order}
+use Rattle.rows.specs.Rows.{firstFour}
 
 -- two branches, side by side
 branch : {X Y : Type 0} (f : X → Y) (t : Bool) {a b : Y} {c d : X} → a ≡ f c → b ≡ f d → elim t [ true ↦ a | false ↦ b ] ≡ f (elim t [ true ↦ c | false ↦ d ])
@@ -142,10 +143,10 @@ places-set {l} j p f h = record { count = length-set l j p ∙ f .count; below =
     go (q ∷ l) (suc j) f zero = f zero
     go (q ∷ l) (suc j) f (suc k) = go l j (λ i. f (suc i)) k
 
-pub unsorted : Places (0 ∷ 1 ∷ 2 ∷ 3 ∷ [])
-unsorted = record { count = refl; below = go }
+pub firstFour-places : Places firstFour
+firstFour-places = record { count = refl; below = go }
   where
-    go : (k : ℕ) → getD (0 ∷ 1 ∷ 2 ∷ 3 ∷ []) k 0 < 4
+    go : (k : ℕ) → getD firstFour k 0 < 4
     go zero = omega arith
     go (suc zero) = omega arith
     go (suc (suc zero)) = omega arith

@@ -103,12 +103,18 @@ pub credited-columns : (x v : List ℤ) (rows : List Row) → credited x v rows 
 credited-columns x v rows =
     ap (credited x v) (sym (rowsOf-parts rows)) ∙ credited-rowsOf x v (map (λ r. r .vector) rows) (map (λ r. r .u) rows) (map (λ r. r .v) rows)
 
--- ---- four rows, packed or unpacked one by one
+-- ---- four rows, one by one
+
+abbrev pub firstFour : List ℕ
+firstFour = 0 ∷ 1 ∷ 2 ∷ 3 ∷ []
+
+pub four : {A : Type 0} (l : List A) (d : A) → length l ≡ 4 → map (λ i. getD l i d) firstFour ≡ l
+four [] d e = absurd (omega arith)
+four (a ∷ []) d e = absurd (omega arith)
+four (a ∷ b ∷ []) d e = absurd (omega arith)
+four (a ∷ b ∷ c ∷ []) d e = absurd (omega arith)
+four (a ∷ b ∷ c ∷ f ∷ []) d e = refl
+four (a ∷ b ∷ c ∷ f ∷ g ∷ l) d e = absurd (omega arith)
 
 pub map-four : {A B : Type 0} (f : A → B) (l : List A) (d : A) → length l ≡ 4 → f (getD l 0 d) ∷ f (getD l 1 d) ∷ f (getD l 2 d) ∷ f (getD l 3 d) ∷ [] ≡ map f l
-map-four f [] d e = absurd (omega arith)
-map-four f (a ∷ []) d e = absurd (omega arith)
-map-four f (a ∷ b ∷ []) d e = absurd (omega arith)
-map-four f (a ∷ b ∷ c ∷ []) d e = absurd (omega arith)
-map-four f (a ∷ b ∷ c ∷ g ∷ []) d e = refl
-map-four f (a ∷ b ∷ c ∷ g ∷ h ∷ l) d e = absurd (omega arith)
+map-four f l d e = ap (map f) (four l d e)

@@ -1,14 +1,15 @@
 // Arithmetic on the rows of the work: vectors, rows of U and columns of V, each four numbers wide, the unused ones zero.
 // A table is an array of arrays, and each function gives the table that its contract names.
 ghost use mathlib.Core.Path.{_≡_};
-ghost use mathlib.Core.List.{[], _∷_, map};
+ghost use mathlib.Core.List.{[], _++_, map};
 ghost use Prim.Native.Nat.{ℕ, _+_, suc, _-_, _≤_, _<_};
-ghost use lib.ListN.{getD, set, take};
+ghost use lib.ListN.{getD, set, take, drop};
 ghost use lib.IntN.{_*ℤ_, natAbs};
 ghost use Rattle.integers.specs.Lists.{nth};
 ghost use Rattle.integers.specs.Size.{Within};
 ghost use Rattle.lattices.specs.Vector.{dot, N, comb, _⊖_, _⊙_};
-ghost use Rattle.rows.specs.Rows.{gained, vectorRow, tableRow};
+ghost use Rattle.lattices.specs.Greedy.{order};
+ghost use Rattle.rows.specs.Rows.{rowsOf, workOf, gained, vectorRow, tableRow, firstFour};
 ghost use Rattle.rows.specs.Places.{Places, insertAt, orderedFrom};
 ghost use Rattle.rows.specs.Minus.{room};
 ghost use Rattle.rows.specs.Loss.{load};
@@ -160,7 +161,7 @@ fn inserted(places: [usize; 4], lengths: [i64; 4], i: usize, n: usize) -> [usize
 fn places(lengths: [i64; 4], n: usize) -> [usize; 4]
     requires { ⌜ n ≤ 4 ⌝ }
     ensures { λ r. ⌜ Places r ⌝ }
-    ensures { λ r. ⌜ r ≡ orderedFrom (nth lengths) n 0 (0 ∷ 1 ∷ 2 ∷ 3 ∷ []) ⌝ }
+    ensures { λ r. ⌜ r ≡ orderedFrom (nth lengths) n 0 firstFour ⌝ }
 {
     let mut r = [0, 1, 2, 3];
     let mut i = n;
@@ -194,4 +195,19 @@ fn rows_at(t: [[i64; 4]; 4], places: [usize; 4]) -> [[i64; 4]; 4]
     let k = places[2];
     let l = places[3];
     [t[i], t[j], t[k], t[l]]
+}
+
+// The first n rows in order of length, shortest first and equal lengths in their order; the rows from n on stay.
+pub fn order(b: [[i64; 4]; 4], u: [[i64; 4]; 4], v: [[i64; 4]; 4], n: usize, passes: u64) -> Work
+    requires { ⌜ n ≤ 4 ⌝ }
+    requires { ⌜ ((i j : ℕ) → Within 100000 (nth (getD b i []) j)) ⌝ }
+    ensures { λ r. ⌜ r ≡ workOf (order (take n (rowsOf b u v)) ++ drop n (rowsOf b u v)) passes ⌝ }
+{
+    let at = places(squared_lengths(b), n);
+    Work {
+        vectors: vector_rows(rows_at(b, at)),
+        u: table_rows(rows_at(u, at)),
+        v: table_rows(rows_at(v, at)),
+        passes,
+    }
 }
