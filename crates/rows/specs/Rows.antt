@@ -1,6 +1,6 @@
 -- The rows of the work as three tables, one after the other: vectors, rows of U and columns of V.
 use mathlib.Core.Path.{_≡_, refl, sym, ap, _∙_}
-use mathlib.Core.List.{List, [], _∷_, map}
+use mathlib.Core.List.{List, [], _∷_, map, map-map}
 use Prim.Native.Nat.{ℕ, zero, suc}
 use native.Mathlib.Omega.{arith}
 use lib.IntN.{ℤ}
@@ -61,6 +61,18 @@ pub rowsOf-parts : (rows : List Row) → rowsOf (map (λ r. r .vector) rows) (ma
 unfolding rowsOf
 rowsOf-parts [] = refl
 rowsOf-parts (r ∷ rows) = ap (λ l. r ∷ l) (rowsOf-parts rows)
+
+-- packed and unpacked again
+pub rowsOf-workOf : (rows : List Row) (n : ℕ) → let w = workOf rows n in rowsOf (map (λ r. r .at) (w .vectors)) (map (λ r. r .at) (w .u)) (map (λ r. r .at) (w .v)) ≡ rows
+rowsOf-workOf rows n = simp map-map (rowsOf-parts rows)
+
+pub workOf-rowsOf : (bs us vs : List (List ℤ)) → length us ≡ length bs → length vs ≡ length bs → (n : ℕ) → record { vectors = map vectorRow bs; u = map tableRow us; v = map tableRow vs; passes = n } ≡ workOf (rowsOf bs us vs) n
+workOf-rowsOf bs us vs e f n =
+    let t = rowsOf-tables bs us vs e f in
+    rw (t .vectors, t .u, t .v) at (packed (rowsOf bs us vs))
+  where
+    packed : (rows : List Row) → record { vectors = map vectorRow (map (λ r. r .vector) rows); u = map tableRow (map (λ r. r .u) rows); v = map tableRow (map (λ r. r .v) rows); passes = n } ≡ workOf rows n
+    packed rows = simp map-map
 
 pub take-rowsOf : (n : ℕ) (bs us vs : List (List ℤ)) → take n (rowsOf bs us vs) ≡ rowsOf (take n bs) (take n us) (take n vs)
 unfolding rowsOf
