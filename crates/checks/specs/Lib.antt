@@ -1,1 +1,2 @@
 -- The checks of an input, refusals 1 to 5, and its basis as an array.
+pub mod Padded
