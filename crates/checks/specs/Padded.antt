@@ -8,8 +8,9 @@ use Prim.Native.Nat.{ℕ, zero, suc, _+_, _*_, _≤_, _<_, zero-le}
 use native.Mathlib.Nat.{le-of-suc-le-suc, not-suc-le-zero, le-refl, le-trans}
 use native.Mathlib.Omega.{arith}
 use lib.IntN.{ℤ, pos, natAbs}
-use lib.ListN.{length, getD, set, take, drop, length-take, length-map}
-use lib.Seq.{drop-drop}
+use lib.ListN.{length, getD, set, take, drop, length-take, length-drop, length-map}
+use lib.Seq.{drop-drop, getD-drop}
+use native.Mathlib.Numerals.{add-one}
 use lib.Dec.{ltb}
 use lib.Signed.{ltZ}
 use Rattle.lattices.specs.Vector.{Vec, N, nth, dot, comb, Zero, Dependent, _⊕_, _⊙_}
@@ -30,24 +31,36 @@ pub length-vectorsOf : (d m : ℕ) (l : List ℤ) → length (vectorsOf d m l) �
 length-vectorsOf zero m l = refl
 length-vectorsOf (suc d) m l = ap suc (length-vectorsOf d m (drop m l))
 
--- ---- one coordinate more, one row more
+-- ---- one coordinate more, one row more, as code stores them
 
-pub padded-more : (n j : ℕ) (l : List ℤ) → j < n → j < length l → set (padded n (take j l)) j (nth l j) ≡ padded n (take (suc j) l)
-padded-more zero j l h k = absurd (not-suc-le-zero h)
-padded-more (suc n) j [] h k = absurd (not-suc-le-zero k)
-padded-more (suc n) zero (x ∷ l) h k = refl
-padded-more (suc n) (suc j) (x ∷ l) h k = ap (λ r. x ∷ r) (padded-more n j l (le-of-suc-le-suc h) (le-of-suc-le-suc k))
+set-next : (n j : ℕ) (l : List ℤ) → j < n → j < length l → set (padded n (take j l)) j (nth l j) ≡ padded n (take (suc j) l)
+set-next zero j l h k = absurd (not-suc-le-zero h)
+set-next (suc n) j [] h k = absurd (not-suc-le-zero k)
+set-next (suc n) zero (x ∷ l) h k = refl
+set-next (suc n) (suc j) (x ∷ l) h k = ap (λ r. x ∷ r) (set-next n j l (le-of-suc-le-suc h) (le-of-suc-le-suc k))
 
-pub table-more : (h w i m : ℕ) (l : List ℤ) → i < h
+pub padded-more : (n at j : ℕ) (l : List ℤ) {v : List ℤ} {x : ℤ} → j < n → at + j < length l → v ≡ padded n (take j (drop at l)) → x ≡ nth l (at + j)
+    → set v j x ≡ padded n (take (j + 1) (drop at l))
+padded-more n at j l h k e f =
+    ap₂ (λ v x. set v j x) e (f ∙ sym (getD-drop at l j (pos 0)))
+    ∙ set-next n j (drop at l) h (omega (arith, length-drop at l))
+    ∙ ap (λ i. padded n (take i (drop at l))) (sym (add-one j))
+
+set-row : (h w i m : ℕ) (l : List ℤ) → i < h
     → set (table h w (vectorsOf i m l)) i (padded w (take m (drop (i * m) l))) ≡ table h w (vectorsOf (suc i) m l)
-table-more zero w i m l k = absurd (not-suc-le-zero k)
-table-more (suc h) w zero m l k =
+set-row zero w i m l k = absurd (not-suc-le-zero k)
+set-row (suc h) w zero m l k =
     let start : 0 * m ≡ 0 = omega arith in
     ap (λ n. padded w (take m (drop n l)) ∷ table h w []) start
-table-more (suc h) w (suc i) m l k =
+set-row (suc h) w (suc i) m l k =
     let next : suc i * m ≡ m + i * m = omega arith in
     ap (λ r. padded w (take m l) ∷ set (table h w (vectorsOf i m (drop m l))) i (padded w (take m r))) (ap (λ n. drop n l) next ∙ sym (drop-drop (i * m) m l))
-    ∙ ap (λ t. padded w (take m l) ∷ t) (table-more h w i m (drop m l) (le-of-suc-le-suc k))
+    ∙ ap (λ t. padded w (take m l) ∷ t) (set-row h w i m (drop m l) (le-of-suc-le-suc k))
+
+pub table-more : (h w i m : ℕ) (l : List ℤ) {t : List (List ℤ)} {r : List ℤ} → i < h → t ≡ table h w (vectorsOf i m l) → r ≡ padded w (take m (drop (i * m) l))
+    → set t i r ≡ table h w (vectorsOf (i + 1) m l)
+table-more h w i m l k e f =
+    ap₂ (λ t r. set t i r) e f ∙ set-row h w i m l k ∙ ap (λ n. table h w (vectorsOf n m l)) (sym (add-one i))
 
 -- the rows in use
 pub table-rows : (h w : ℕ) (rows : List Vec) → length rows ≤ h → take (length rows) (table h w rows) ≡ map (padded w) rows

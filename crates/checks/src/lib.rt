@@ -1,0 +1,33 @@
+// An input as an array of vectors, and its refusals 1 to 5: comparisons first, so that no number of the input makes arithmetic overflow.
+ghost use mathlib.Core.Path.{_≡_};
+ghost use Prim.Native.Nat.{ℕ, _+_, _*_, _<_, _≤_};
+ghost use lib.ListN.{length, take, drop, getD};
+ghost use Rattle.lattices.specs.Refusal.{vectorsOf};
+ghost use Rattle.lattices.specs.Answer.{padded, table};
+
+// The m numbers from `at` on as a vector of the array: zeros follow.
+pub fn vector(numbers: &[i64], at: usize, m: usize) -> [i64; 4]
+    requires { ⌜ m ≤ 4 ⌝ }
+    requires { ⌜ at + m ≤ length (now numbers) ⌝ }
+    ensures { λ r. ⌜ r ≡ padded 4 (take m (drop at (now (numbers .entry)))) ⌝ }
+{
+    let mut v = [0; 4];
+    for j in 0..m {
+        v[j] = numbers[at + j];
+    }
+    v
+}
+
+// d vectors of m coordinates each; zeros elsewhere.
+pub fn basis(numbers: &[i64], d: usize, m: usize) -> [[i64; 4]; 4]
+    requires { ⌜ d ≤ 4 ⌝ }
+    requires { ⌜ m ≤ 4 ⌝ }
+    requires { ⌜ length (now numbers) ≡ d * m ⌝ }
+    ensures { λ r. ⌜ r ≡ table 4 4 (vectorsOf d m (now (numbers .entry))) ⌝ }
+{
+    let mut b = [[0; 4]; 4];
+    for i in 0..d {
+        b[i] = vector(numbers, i * m, m);
+    }
+    b
+}
