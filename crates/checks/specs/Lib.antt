@@ -1,2 +1,3 @@
 -- The checks of an input, refusals 1 to 5, and its basis as an array.
+pub mod Any
 pub mod Padded

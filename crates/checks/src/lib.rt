@@ -2,8 +2,14 @@
 ghost use mathlib.Core.Path.{_≡_};
 ghost use Prim.Native.Nat.{ℕ, _+_, _*_, _<_, _≤_};
 ghost use lib.ListN.{length, take, drop, getD};
-ghost use Rattle.lattices.specs.Refusal.{vectorsOf};
+ghost use Rattle.lattices.specs.Refusal.{vectorsOf, any, tooLong};
 ghost use Rattle.lattices.specs.Answer.{padded, table};
+ghost use Rattle.checks.specs.Any.{beyond};
+
+// The limits of a coordinate and of a squared length.
+const MOST_SIZE: i64 = 20000;
+
+const MOST_SQUARE: i64 = 400000000;
 
 // The m numbers from `at` on as a vector of the array: zeros follow.
 pub fn vector(numbers: &[i64], at: usize, m: usize) -> [i64; 4]
@@ -30,4 +36,30 @@ pub fn basis(numbers: &[i64], d: usize, m: usize) -> [[i64; 4]; 4]
         b[i] = vector(numbers, i * m, m);
     }
     b
+}
+
+// Whether a coordinate is beyond the limit of either sign.
+fn beyond(x: i64) -> bool
+    ensures { λ r. ⌜ r ≡ beyond x ⌝ }
+{
+    x < -MOST_SIZE || MOST_SIZE < x
+}
+
+// Whether some coordinate is beyond the limit.
+fn any_beyond(v: [i64; 4]) -> bool
+    ensures { λ r. ⌜ r ≡ any beyond v ⌝ }
+{
+    for j in 0..4 {
+        if beyond(v[j]) {
+            return true;
+        }
+    }
+    false
+}
+
+// Whether a vector or a target is too long. The limit of each coordinate comes first, so that the square cannot overflow.
+pub fn long(v: [i64; 4]) -> bool
+    ensures { λ r. ⌜ r ≡ tooLong v ⌝ }
+{
+    any_beyond(v) || MOST_SQUARE < rows::dot(v, v)
 }

@@ -1,1 +1,4 @@
 -- Rows of numbers: what the engine's vectors and tables are made of.
+pub mod Dot
+pub mod Front
+pub mod Minus
