@@ -1,3 +1,4 @@
 -- The checks of an input, refusals 1 to 5, and its basis as an array.
 pub mod Any
+pub mod Minors
 pub mod Padded

@@ -2,9 +2,12 @@
 ghost use mathlib.Core.Path.{_≡_};
 ghost use Prim.Native.Nat.{ℕ, _+_, _*_, _<_, _≤_};
 ghost use lib.ListN.{length, take, drop, getD};
+ghost use Rattle.integers.specs.Size.{Within};
+ghost use Rattle.lattices.specs.Vector.{nth};
 ghost use Rattle.lattices.specs.Refusal.{vectorsOf, any, tooLong};
 ghost use Rattle.lattices.specs.Answer.{padded, table};
 ghost use Rattle.checks.specs.Any.{beyond};
+ghost use Rattle.checks.specs.Minors.{wedged};
 
 // The limits of a coordinate and of a squared length.
 const MOST_SIZE: i64 = 20000;
@@ -62,4 +65,37 @@ pub fn long(v: [i64; 4]) -> bool
     ensures { λ r. ⌜ r ≡ tooLong v ⌝ }
 {
     any_beyond(v) || MOST_SQUARE < rows::dot(v, v)
+}
+
+// The entry at place s of the exterior product of a vector and a form: over the coordinates taken, from the last on.
+fn entry(a: [i64; 4], w: [i64; 16], s: usize) -> i64
+    requires { ⌜ ((i : ℕ) → Within 20000 (nth a i)) ⌝ }
+    requires { ⌜ ((i : ℕ) → Within 8000000000000 (nth w i)) ⌝ }
+    requires { ⌜ s < 16 ⌝ }
+    ensures { λ r. ⌜ r ≡ nth (wedged a w) s ⌝ }
+{
+    let mut sum = 0;
+    let mut rest = s;
+    let mut bit = 1;
+    for k in 0..4 {
+        if rest % 2 == 1 {
+            sum = a[3 - k] * w[s - bit] - sum;
+        }
+        rest = rest / 2;
+        bit = bit * 2;
+    }
+    sum
+}
+
+// The exterior product of a vector and a form.
+fn wedge(a: [i64; 4], w: [i64; 16]) -> [i64; 16]
+    requires { ⌜ ((i : ℕ) → Within 20000 (nth a i)) ⌝ }
+    requires { ⌜ ((i : ℕ) → Within 8000000000000 (nth w i)) ⌝ }
+    ensures { λ r. ⌜ r ≡ wedged a w ⌝ }
+{
+    let mut r = [0; 16];
+    for s in 0..16 {
+        r[s] = entry(a, w, s);
+    }
+    r
 }
