@@ -2,3 +2,4 @@
 pub mod Any
 pub mod Minors
 pub mod Padded
+pub mod Volumes

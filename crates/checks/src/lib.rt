@@ -3,11 +3,16 @@ ghost use mathlib.Core.Path.{_≡_};
 ghost use Prim.Native.Nat.{ℕ, _+_, _*_, _<_, _≤_};
 ghost use lib.ListN.{length, take, drop, getD};
 ghost use Rattle.integers.specs.Size.{Within};
-ghost use Rattle.lattices.specs.Vector.{nth};
+ghost use lib.IntN.{pos};
+ghost use lib.Signed.{_≤ℤ_};
+ghost use mathlib.Core.List.{[]};
+ghost use Rattle.lattices.specs.Vector.{N, nth};
+ghost use Rattle.lattices.specs.Volume.{isDependent};
 ghost use Rattle.lattices.specs.Refusal.{vectorsOf, any, tooLong};
 ghost use Rattle.lattices.specs.Answer.{padded, table};
 ghost use Rattle.checks.specs.Any.{beyond};
 ghost use Rattle.checks.specs.Minors.{wedged};
+ghost use Rattle.checks.specs.Volumes.{minors, nonzero};
 
 // The limits of a coordinate and of a squared length.
 const MOST_SIZE: i64 = 20000;
@@ -98,4 +103,41 @@ fn wedge(a: [i64; 4], w: [i64; 16]) -> [i64; 16]
         r[s] = entry(a, w, s);
     }
     r
+}
+
+// The volume of the first d vectors, from the last on: the minors of vectors within the length limit are small.
+fn volume(b: [[i64; 4]; 4], d: usize) -> [i64; 16]
+    requires { ⌜ d ≤ 4 ⌝ }
+    requires { ⌜ ((i : ℕ) → i < d → N (getD b i []) ≤ℤ pos 400000000) ⌝ }
+    ensures { λ r. ⌜ r ≡ minors (take d b) ⌝ }
+{
+    let mut w = [0; 16];
+    w[0] = 1;
+    let mut i = d;
+    while 0 < i {
+        i -= 1;
+        w = wedge(b[i], w);
+    }
+    w
+}
+
+// Whether some entry of a form is not zero.
+fn any_nonzero(w: [i64; 16]) -> bool
+    ensures { λ r. ⌜ r ≡ any nonzero w ⌝ }
+{
+    for s in 0..16 {
+        if w[s] != 0 {
+            return true;
+        }
+    }
+    false
+}
+
+// Whether the first d vectors, within the length limit, are dependent: their volume is zero.
+pub fn dependent(b: [[i64; 4]; 4], d: usize) -> bool
+    requires { ⌜ d ≤ 4 ⌝ }
+    requires { ⌜ ((i : ℕ) → i < d → N (getD b i []) ≤ℤ pos 400000000) ⌝ }
+    ensures { λ r. ⌜ r ≡ isDependent 4 (take d b) ⌝ }
+{
+    !any_nonzero(volume(b, d))
 }
