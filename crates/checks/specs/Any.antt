@@ -27,7 +27,7 @@ pub any-end : {A : Type 0} (f : A → Bool) (l : List A) (i : ℕ) → length l 
 any-end f l i h = ap (any f) (drop-of-length-le l h)
 
 -- where none is, no entry is one; the default stands beyond the end
-neither : (s t : Bool) → (s || t) ≡ false → (s ≡ false) × (t ≡ false)
+pub neither : (s t : Bool) → (s || t) ≡ false → (s ≡ false) × (t ≡ false)
 neither true t e = absurd (let z : _≡_ {A = ℕ} 0 1 = cc in omega arith)
 neither false t e = (refl, e)
 

@@ -8,13 +8,17 @@ ghost use lib.Signed.{_≤ℤ_};
 ghost use mathlib.Core.List.{[]};
 ghost use Rattle.lattices.specs.Vector.{N, nth};
 ghost use Rattle.lattices.specs.Volume.{isDependent};
-ghost use Rattle.lattices.specs.Refusal.{vectorsOf, any, tooLong};
+ghost use Rattle.lattices.specs.Refusal.{vectorsOf, any, tooLong, oneTo, firstOf, vectorChecks};
 ghost use Rattle.lattices.specs.Answer.{padded, table};
 ghost use Rattle.checks.specs.Any.{beyond};
 ghost use Rattle.checks.specs.Minors.{wedged};
 ghost use Rattle.checks.specs.Volumes.{minors, nonzero};
 
-// The limits of a coordinate and of a squared length.
+// How many vectors and coordinates are allowed, and the limits of a coordinate and of a squared length.
+const MOST_VECTORS: usize = 4;
+
+const MOST_COORDINATES: usize = 4;
+
 const MOST_SIZE: i64 = 20000;
 
 const MOST_SQUARE: i64 = 400000000;
@@ -140,4 +144,47 @@ pub fn dependent(b: [[i64; 4]; 4], d: usize) -> bool
     ensures { λ r. ⌜ r ≡ isDependent 4 (take d b) ⌝ }
 {
     !any_nonzero(volume(b, d))
+}
+
+// Whether one of the first d vectors is too long.
+fn any_long(b: [[i64; 4]; 4], d: usize) -> bool
+    requires { ⌜ d ≤ 4 ⌝ }
+    ensures { λ r. ⌜ r ≡ any tooLong (take d b) ⌝ }
+{
+    for i in 0..d {
+        if long(b[i]) {
+            return true;
+        }
+    }
+    false
+}
+
+// Whether a count is from 1 to the most that is allowed.
+fn one_to(most: usize, n: usize) -> bool
+    ensures { λ r. ⌜ r ≡ oneTo most n ⌝ }
+{
+    1 <= n && n <= most
+}
+
+// The first refusal that applies to d vectors of m coordinates, and 0 for none. The counts come first: then d * m cannot overflow.
+pub fn refusal(numbers: &[i64], d: usize, m: usize) -> u64
+    ensures { λ r. ⌜ r ≡ firstOf vectorChecks (record { numbers = now (numbers .entry); d = d; m = m; target = [] }) ⌝ }
+{
+    if !one_to(MOST_VECTORS, d) {
+        return 1;
+    }
+    if !one_to(MOST_COORDINATES, m) {
+        return 2;
+    }
+    if numbers.len() != d * m {
+        return 3;
+    }
+    let b = basis(numbers, d, m);
+    if any_long(b, d) {
+        return 4;
+    }
+    if dependent(b, d) {
+        return 5;
+    }
+    0
 }
