@@ -1,27 +1,29 @@
 -- Forms over four coordinates as lists of sixteen numbers, one for each choice of coordinates, and how code computes an exterior product:
 -- the terms of an entry from the last coordinate on, each less the sum so far. The first coordinate is the highest bit of a place.
-use mathlib.Core.Path.{_≡_, refl, sym, ap, ap₂, _∙_}
+use mathlib.Core.Path.{_≡_, refl, sym, ap, _∙_}
 use mathlib.Core.Bool.{Bool, true, false, cond}
 use mathlib.Core.List.{List, [], _∷_, _++_}
 use Prim.Native.Nat.{ℕ, zero, suc, _+_, _*_, _-_, _^_, _/_, _%_, _≤_, _<_}
 use native.Mathlib.Nat.{not-suc-le-zero, le-of-suc-le-suc, pow-suc, div-mul-le-self, mul-le-mul-right}
 use native.Mathlib.Numerals.{add-one}
 use native.Mathlib.Omega.{arith}
-use borrow.Author.Tests.{eq-eqb, ne-eqb}
 use lib.Dec.{eqb}
 use lib.IntN.{ℤ, pos, _-ℤ_, _*ℤ_}
-use lib.ListN.{length, getD}
+use lib.ListN.{length}
 use mir.Syntax.{w64}
 use mir.Val.{SFits}
+use borrow.Author.Tests.{eq-eqb, ne-eqb}
 use Rattle.integers.specs.Size.{Within, within-sub, within-mul, within-le, fits-within}
 use Rattle.lattices.specs.Vector.{Vec, nth}
 use Rattle.lattices.specs.Volume.{Index, Form, wedge}
 use Rattle.volumes.specs.Forms.{half}
 
+-- the entries of a form over n coordinates
 abbrev pub entries : ℕ → Form → List ℤ
 entries zero ω = ω [] ∷ []
 entries (suc n) ω = entries n (half false ω) ++ entries n (half true ω)
 
+-- the place of a choice among them
 abbrev pub place : Index → ℕ
 place [] = 0
 place (false ∷ s) = place s
@@ -46,6 +48,7 @@ abbrev pub halves : ℕ → ℕ → ℕ
 halves zero s = s
 halves (suc k) s = halves k s / 2
 
+-- the entry at place s by its last k coordinates, each either taken or not
 unfoldable pub expansion : Vec → List ℤ → ℕ → ℕ → ℤ
 expansion a w s zero = pos 0
 expansion a w s (suc k) = cond (eqb (halves k s % 2) 1) (nth a (3 - k) *ℤ nth w (s - 2 ^ k) -ℤ expansion a w s k) (expansion a w s k)
@@ -60,6 +63,7 @@ nth-tabulate zero f i h = absurd (not-suc-le-zero h)
 nth-tabulate (suc n) f zero h = refl
 nth-tabulate (suc n) f (suc i) h = nth-tabulate n (λ i. f (suc i)) i (le-of-suc-le-suc h)
 
+-- at all sixteen places the two sides compute to the same sums
 sixteen : (x y z t : ℤ) (w : List ℤ)
     → tabulate 16 (λ s. expansion (x ∷ y ∷ z ∷ t ∷ []) w s 4) ≡ wedged (x ∷ y ∷ z ∷ t ∷ []) w
 unfolding tabulate expansion wedged
@@ -88,6 +92,7 @@ halves-≤ zero s = omega arith
 halves-≤ (suc k) s =
     omega (arith, halves-≤ k s, ap (λ n. halves k s / 2 * n) (pow-suc 2 k), mul-le-mul-right (2 ^ k) (div-mul-le-self (halves k s) 2))
 
+-- a bit that is set can be taken away
 pub bit-≤ : (k s : ℕ) → halves k s % 2 ≡ 1 → 2 ^ k ≤ s
 bit-≤ k s e =
     let h : 1 ≤ halves k s = omega arith in

@@ -5,16 +5,16 @@ use mathlib.Core.Logic.{_↔_}
 use mathlib.Core.Bool.{Bool, true, false, _||_}
 use mathlib.Core.List.{List, [], _∷_, map}
 use Prim.Native.Nat.{ℕ, zero, suc, _+_, _*_, _≤_, _<_, zero-le}
-use native.Mathlib.Nat.{le-of-suc-le-suc, not-suc-le-zero, le-refl, le-trans}
+use native.Mathlib.Nat.{le-of-suc-le-suc, not-suc-le-zero, le-trans}
 use native.Mathlib.Omega.{arith}
-use lib.IntN.{ℤ, pos, natAbs}
-use lib.ListN.{length, getD, set, take, drop, length-take, length-drop, length-map}
-use lib.Seq.{drop-drop, getD-drop}
 use native.Mathlib.Numerals.{add-one}
+use lib.IntN.{ℤ, pos, natAbs}
+use lib.ListN.{length, set, take, drop, length-take, length-drop, length-map}
+use lib.Seq.{take-all, drop-drop, getD-drop}
 use lib.Dec.{ltb}
 use lib.Signed.{ltZ}
-use Rattle.lattices.specs.Vector.{Vec, N, nth, dot, comb, Zero, Dependent, _⊕_, _⊙_}
-use Rattle.lattices.specs.VectorLaws.{_≈_, ≈-refl, ≈-sym, ≈-trans, ≈-⊕, ≈-⊙, ≈-N, ≈-nth, nth-≈, comb-cons, comb-none, comb-nil}
+use Rattle.lattices.specs.Vector.{Vec, nth, comb, Dependent}
+use Rattle.lattices.specs.VectorLaws.{_≈_, ≈-refl, ≈-⊕, ≈-⊙, ≈-N, ≈-nth, nth-≈}
 use Rattle.lattices.specs.Volume.{isDependent}
 use Rattle.lattices.specs.Refusal.{vectorsOf, any, tooLong, mostSize, mostSquare}
 use Rattle.lattices.specs.Answer.{padded, table}
@@ -98,6 +98,12 @@ any-padded f e (suc n) (x ∷ v) h = ap (λ t. f x || t) (any-padded f e n v (le
 pub tooLong-padded : (n : ℕ) (v : Vec) → length v ≤ n → tooLong (padded n v) ≡ tooLong v
 tooLong-padded n v h =
     ap₂ (λ t z. t || ltZ (pos mostSquare) z) (any-padded (λ x. ltb mostSize (natAbs x)) refl n v h) (≈-N (padded-≈ n v h))
+
+-- a target, read from place 0 on
+pub tooLong-target : (n m : ℕ) (t : Vec) → length t ≡ m → m ≤ n → tooLong (padded n (take m (drop 0 t))) ≡ tooLong t
+tooLong-target n m t e h =
+    let short : length t ≤ m = omega arith in
+    ap (λ v. tooLong (padded n v)) (take-all m t short) ∙ tooLong-padded n t (le-trans short h)
 
 pub any-long-padded : (n : ℕ) (bs : List Vec) → Fit n bs → any tooLong (map (padded n) bs) ≡ any tooLong bs
 any-long-padded n [] h = refl

@@ -7,12 +7,12 @@ use Prim.Native.Nat.{ℕ, zero, suc, _+_, _*_, _≤_, _<_}
 use native.Mathlib.Decide.{decLt}
 use native.Mathlib.Numerals.{add-one}
 use native.Mathlib.Omega.{arith}
-use borrow.Author.Tests.{lt-leb}
 use lib.Dec.{leb}
 use lib.IntN.{ℤ, pos, negsuc, _+ℤ_, _*ℤ_}
 use lib.ListN.{length, getD, take, drop, replicate, length-take, drop-of-length-le, List·getD-eq-default}
 use lib.Seq.{drop-cons, getD-take, getD-drop}
 use lib.Signed.{leZ, _≤ℤ_, leZ-yes}
+use borrow.Author.Tests.{lt-leb}
 use Rattle.integers.specs.Order.{≤ℤ-trans, pos-nonneg}
 use Rattle.integers.specs.Certificate.{NN}
 use Rattle.integers.specs.Size.{Within, root-within}
@@ -26,6 +26,7 @@ use Rattle.volumes.specs.Hadamard.{head-≤, rest-≤, minor}
 use Rattle.volumes.specs.Sizes.{Short, product-≤}
 use Rattle.checks.specs.Minors.{entries, wedged}
 
+-- the entries of the volume
 unfoldable pub minors : List Vec → List ℤ
 minors bs = entries 4 (volume bs)
 

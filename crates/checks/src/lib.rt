@@ -1,11 +1,11 @@
 // An input as an array of vectors, and its refusals 1 to 5: comparisons first, so that no number of the input makes arithmetic overflow.
 ghost use mathlib.Core.Path.{_≡_};
-ghost use Prim.Native.Nat.{ℕ, _+_, _*_, _<_, _≤_};
-ghost use lib.ListN.{length, take, drop, getD};
-ghost use Rattle.integers.specs.Size.{Within};
-ghost use lib.IntN.{pos};
-ghost use lib.Signed.{_≤ℤ_};
 ghost use mathlib.Core.List.{[]};
+ghost use Prim.Native.Nat.{ℕ, _+_, _*_, _<_, _≤_};
+ghost use lib.IntN.{pos};
+ghost use lib.ListN.{length, take, drop, getD};
+ghost use lib.Signed.{_≤ℤ_};
+ghost use Rattle.integers.specs.Size.{Within};
 ghost use Rattle.lattices.specs.Vector.{N, nth};
 ghost use Rattle.lattices.specs.Volume.{isDependent};
 ghost use Rattle.lattices.specs.Refusal.{vectorsOf, any, tooLong, oneTo, firstOf, vectorChecks};
@@ -14,11 +14,12 @@ ghost use Rattle.checks.specs.Any.{beyond};
 ghost use Rattle.checks.specs.Minors.{wedged};
 ghost use Rattle.checks.specs.Volumes.{minors, nonzero};
 
-// How many vectors and coordinates are allowed, and the limits of a coordinate and of a squared length.
+// How many vectors and coordinates an input may have.
 const MOST_VECTORS: usize = 4;
 
 const MOST_COORDINATES: usize = 4;
 
+// The limits of a coordinate's size and of a squared length.
 const MOST_SIZE: i64 = 20000;
 
 const MOST_SQUARE: i64 = 400000000;
@@ -74,6 +75,19 @@ pub fn long(v: [i64; 4]) -> bool
     ensures { λ r. ⌜ r ≡ tooLong v ⌝ }
 {
     any_beyond(v) || MOST_SQUARE < rows::dot(v, v)
+}
+
+// Whether one of the first d vectors is too long.
+fn any_long(b: [[i64; 4]; 4], d: usize) -> bool
+    requires { ⌜ d ≤ 4 ⌝ }
+    ensures { λ r. ⌜ r ≡ any tooLong (take d b) ⌝ }
+{
+    for i in 0..d {
+        if long(b[i]) {
+            return true;
+        }
+    }
+    false
 }
 
 // The entry at place s of the exterior product of a vector and a form: over the coordinates taken, from the last on.
@@ -144,19 +158,6 @@ pub fn dependent(b: [[i64; 4]; 4], d: usize) -> bool
     ensures { λ r. ⌜ r ≡ isDependent 4 (take d b) ⌝ }
 {
     !any_nonzero(volume(b, d))
-}
-
-// Whether one of the first d vectors is too long.
-fn any_long(b: [[i64; 4]; 4], d: usize) -> bool
-    requires { ⌜ d ≤ 4 ⌝ }
-    ensures { λ r. ⌜ r ≡ any tooLong (take d b) ⌝ }
-{
-    for i in 0..d {
-        if long(b[i]) {
-            return true;
-        }
-    }
-    false
 }
 
 // Whether a count is from 1 to the most that is allowed.

@@ -1,6 +1,5 @@
 -- None of the first i vectors is too long, so the rest decides.
-use mathlib.Core.List.{List}
-use mathlib.Core.List.{[]}
+use mathlib.Core.List.{List, []}
 use mathlib.Core.Path.{_≡_, sym, ap, _∙_}
 use Prim.Native.Nat.{_-_, _<_}
 use native.Mathlib.Omega.{arith}

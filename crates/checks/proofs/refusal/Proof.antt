@@ -1,18 +1,15 @@
 -- Each check in turn: what was passed and what was found, as a proof of the first check that applies.
 use mathlib.Core.List.{[]}
-use mathlib.Core.Bool.{not}
+use mathlib.Core.Bool.{not, false}
 use mathlib.Core.Path.{_≡_, sym, ap, _∙_}
-use mathlib.Core.Bool.{false}
-use Prim.Native.Nat.{ℕ}
-use Prim.Native.Nat.{_≤_}
+use Prim.Native.Nat.{ℕ, _≤_}
 use native.Mathlib.Nat.{mul-le-mul}
 use native.Mathlib.Omega.{arith}
 use lib.ListN.{drop}
 use borrow.Author.Needs.{needs}
 use borrow.Author.Tests.{not-false, eq-eqb, ne-eqb}
-use Rattle.lattices.specs.Refusal.{Input, basis, vectorChecks}
+use Rattle.lattices.specs.Refusal.{Input, basis, vectorChecks, any, tooLong, oneTo, mostVectors, mostCoordinates}
 use Rattle.lattices.specs.Volume.{isDependent}
-use Rattle.lattices.specs.Refusal.{any, tooLong, oneTo, mostVectors, mostCoordinates}
 use Rattle.checks.specs.First.{First, found, none, here, later}
 use Rattle.checks.specs.Rows.{one-to-≤, short, long-rows, dependent-rows}
 use Rattle.checks.proofs.refusal.Statement.{statement}

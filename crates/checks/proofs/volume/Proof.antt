@@ -3,8 +3,7 @@ use mathlib.Core.List.{[]}
 use mathlib.Core.Path.{_≡_, sym, ap, _∙_, subst}
 use Prim.Native.Nat.{_≤_, _-_, _+_}
 use native.Mathlib.Omega.{arith}
-use lib.ListN.{getD}
-use lib.ListN.{take, drop, length-take, length-drop}
+use lib.ListN.{getD, take, drop, length-take, length-drop}
 use borrow.Author.Needs.{needs}
 use Rattle.integers.specs.Size.{Within}
 use Rattle.lattices.specs.Vector.{nth}

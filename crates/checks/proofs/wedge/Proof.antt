@@ -5,16 +5,14 @@ use Prim.Native.Nat.{_≤_, _-_}
 use native.Mathlib.Numerals.{add-one}
 use native.Mathlib.Omega.{arith}
 use lib.Seq.{take-suc, take-suc-set, take-all}
-use lib.ListN.{take}
+use lib.ListN.{take, length, set, length-set}
 use lib.IntN.{pos}
-use lib.ListN.{length, set, length-set}
 use mir.Val.{ofZ, toZ}
 use mir.Facts.{toZ-ofZ}
 use mir.Syntax.{w64}
 use borrow.Author.Needs.{needs}
 use Rattle.lattices.specs.Vector.{nth}
-use Rattle.checks.specs.Minors.{length-wedged}
-use Rattle.checks.specs.Minors.{wedged}
+use Rattle.checks.specs.Minors.{length-wedged, wedged}
 use Rattle.checks.proofs.wedge.Statement.{statement}
 use Rattle.checks.proofs.wedge.Tie as tie
 
