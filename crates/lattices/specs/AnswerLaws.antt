@@ -4,9 +4,10 @@ use mathlib.Core.List.{List, [], _∷_, map}
 use Prim.Native.Nat.{ℕ, zero, suc, _≤_}
 use native.Mathlib.Omega.{arith}
 use lib.IntN.{ℤ, pos}
-use lib.ListN.{length, take}
+use lib.ListN.{length, take, drop}
 use Rattle.lattices.specs.Vector.{Vec, nth}
 use Rattle.lattices.specs.VectorLaws.{_≈_, nth-≈}
+use Rattle.lattices.specs.Refusal.{vectorsOf}
 use Rattle.lattices.specs.Answer.{padded, table}
 
 pub length-padded : (n : ℕ) (l : List ℤ) → length (padded n l) ≡ n
@@ -46,3 +47,7 @@ pub table-rows : (h w : ℕ) (rows : List Vec) → length rows ≤ h → take (l
 table-rows h w [] k = refl
 table-rows zero w (r ∷ rows) k = absurd (omega arith)
 table-rows (suc h) w (r ∷ rows) k = ap (λ l. padded w r ∷ l) (table-rows h w rows (omega arith))
+
+pub length-vectorsOf : (d m : ℕ) (l : List ℤ) → length (vectorsOf d m l) ≡ d
+length-vectorsOf zero m l = refl
+length-vectorsOf (suc d) m l = ap suc (length-vectorsOf d m (drop m l))

@@ -64,10 +64,6 @@ all-short [] e = tt
 all-short (v ∷ vs) e = (short v (or-left (tooLong v) (any tooLong vs) e), all-short vs (or-right (tooLong v) (any tooLong vs) e))
 
 -- ---- the vectors of an input
-pub length-vectorsOf : (d m : ℕ) (l : List ℤ) → length (vectorsOf d m l) ≡ d
-length-vectorsOf zero m l = refl
-length-vectorsOf (suc d) m l = ap suc (length-vectorsOf d m (drop m l))
-
 pub vectorsOf-full : (d m : ℕ) (l : List ℤ) → length l ≡ d * m → Coordinates m (vectorsOf d m l)
 vectorsOf-full zero m l e = tt
 vectorsOf-full (suc d) m l e = (length-take m l ∙ omega arith, vectorsOf-full d m (drop m l) (length-drop m l ∙ omega arith))

@@ -14,7 +14,7 @@ use Rattle.lattices.specs.Nearest.{nearest}
 use Rattle.lattices.specs.Greedy.{Row, Counted, vectors, units, reduction}
 use Rattle.lattices.specs.Refusal.{Input, Check, basis, firstOf, vectorChecks, targetChecks, mostVectors, mostCoordinates}
 use Rattle.lattices.specs.Answer.{padded, table, rowsOfV, Reduction, Nearest, reductionGiven, noReduction, reductionOf, nearestGiven, noNearest, nearestOf}
-use Rattle.lattices.specs.AnswerLaws.{take-padded}
+use Rattle.lattices.specs.AnswerLaws.{take-padded, length-vectorsOf}
 use Rattle.minima.specs.NearestLaws.{nearest-least, nearest-count}
 use Rattle.minima.specs.Minima.{All, Some, successive}
 use Rattle.reductions.specs.Moves.{length-vectors}
@@ -22,7 +22,7 @@ use Rattle.reductions.specs.Start.{Coordinates, sized-vectors, sized-us}
 use Rattle.reductions.specs.Exactness.{comb-full, reduction-length, reduction-sized, reduction-u, reduction-v, reduction-vu}
 use Rattle.reductions.specs.Output.{least-N}
 use Rattle.reductions.specs.Lattice.{rows-of-v, length-rows-of-v, reduction-lattice, reduction-reduced, reduction-uv}
-use Rattle.reductions.specs.Accepted.{Accepted, accepted, passed, length-vectorsOf}
+use Rattle.reductions.specs.Accepted.{Accepted, accepted, passed}
 
 -- ---- an answer without its unused places
 -- the first h rows of a table, each with its first w numbers

@@ -15,7 +15,7 @@ use Rattle.lattices.specs.Nearest.{nearest}
 use Rattle.lattices.specs.Greedy.{Row, vectors, units, start, reduction}
 use Rattle.lattices.specs.Refusal.{Input, basis, firstOf, vectorChecks, targetChecks, mostSquare}
 use Rattle.lattices.specs.Answer.{padded, table, rowOfV, rowsOfV, reductionGiven, reductionOf, nearestGiven, noNearest, Nearest, nearestOf}
-use Rattle.lattices.specs.AnswerLaws.{padded-same}
+use Rattle.lattices.specs.AnswerLaws.{padded-same, length-vectorsOf}
 use Rattle.minima.specs.Minima.{All}
 use Rattle.minima.specs.NearestLaws.{nearest-count, nearest-shorter}
 use Rattle.volumes.specs.Sizes.{Short, near-le}
@@ -25,7 +25,7 @@ use Rattle.reductions.specs.Lengths.{NoLonger}
 use Rattle.reductions.specs.Every.{Every}
 use Rattle.reductions.specs.Exactness.{length-begin, begin, moved}
 use Rattle.reductions.specs.Start.{Coordinates, units-coordinates}
-use Rattle.reductions.specs.Accepted.{Accepted, accepted, passed, short as short-vector, length-vectorsOf}
+use Rattle.reductions.specs.Accepted.{Accepted, accepted, passed, short as short-vector}
 use Rattle.reductions.specs.Demand.{accepted-reduction, accepted-nearest, first-append}
 use Rattle.reductions.specs.Sizes.{Basis, first-rows, narrow-length, most, entry, short-of, way-count, way-short, way-volume, u-size, v-size}
 

@@ -7,7 +7,7 @@ use lib.IntN.{ℤ, negsuc, natAbs, _*ℤ_, +ℤ-assoc, *ℤ-zero, zero-*ℤ}
 use lib.ListN.{length, getD, set, take}
 use lib.Seq.{set-getD}
 use Rattle.integers.specs.Ring.{*ℤ-+ℤ, negsuc-zero-*ℤ}
-use Rattle.integers.specs.Size.{size-add, size-sub}
+use Rattle.integers.specs.Size.{load, size-add, size-sub}
 use Rattle.integers.specs.Lists.{entries}
 use Rattle.lattices.specs.Vector.{nth, comb, _⊕_, _⊙_, _⊖_}
 
@@ -45,12 +45,6 @@ comb-suc (suc j) (y ∷ x) (r ∷ t) h k =
 ⊖-⊕ a u v = ap (λ s. a ⊕ s) (⊙-⊕ (negsuc 0) u v) ∙ sym (⊕-assoc a (negsuc 0 ⊙ u) (negsuc 0 ⊙ v))
 
 -- ---- sizes
-
--- the sizes of the multiples at place i of a combination, added up
-unfoldable pub load : List ℤ → List (List ℤ) → ℕ → ℕ
-load [] t i = 0
-load (x ∷ xs) [] i = 0
-load (x ∷ xs) (r ∷ t) i = natAbs (x *ℤ nth r i) + load xs t i
 
 size-comb : (x : List ℤ) (t : List (List ℤ)) (i : ℕ) → natAbs (nth (comb x t) i) ≤ load x t i
 unfolding comb load

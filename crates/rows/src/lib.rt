@@ -6,13 +6,12 @@ ghost use Prim.Native.Nat.{ℕ, _+_, suc, _-_, _≤_, _<_};
 ghost use lib.ListN.{getD, set, take, drop};
 ghost use lib.IntN.{_*ℤ_, natAbs};
 ghost use Rattle.integers.specs.Lists.{nth};
-ghost use Rattle.integers.specs.Size.{Within};
+ghost use Rattle.integers.specs.Size.{Within, load};
 ghost use Rattle.lattices.specs.Vector.{dot, N, comb, _⊖_, _⊙_};
 ghost use Rattle.lattices.specs.Greedy.{order};
 ghost use Rattle.rows.specs.Rows.{rowsOf, workOf, gained, vectorRow, tableRow, firstFour};
 ghost use Rattle.rows.specs.Places.{Places, insertAt, orderedFrom};
 ghost use Rattle.rows.specs.Minus.{room};
-ghost use Rattle.rows.specs.Loss.{load};
 
 // One vector. Its width is the only place that knows how many coordinates there may be.
 pub struct VectorRow {
