@@ -1,0 +1,5 @@
+-- The engine: its steps on the work as definitions, and what keeps every number within 64 bits.
+pub mod State
+pub mod Fine
+pub mod Room
+pub mod Pass
