@@ -1,1 +1,2 @@
 -- Rows of numbers: what the engine's vectors and tables are made of.
+pub mod Dot

@@ -1,1 +1,5 @@
 -- The search for the nearest vector among at most three reduced ones.
+pub mod Numbers
+pub mod Fits
+pub mod Signs
+pub mod Filled
