@@ -3,3 +3,5 @@ pub mod Numbers
 pub mod Fits
 pub mod Signs
 pub mod Filled
+pub mod Steps
+pub mod Found

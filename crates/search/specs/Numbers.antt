@@ -25,7 +25,7 @@ abbrev pub negative : List ℤ → Bool
 negative e = below e (zeros e)
 
 -- does the step e lead to a smaller value?
-abbrev pub improvesOf : List (List ℤ) → List ℤ → List ℤ → Bool
+unfoldable pub improvesOf : List (List ℤ) → List ℤ → List ℤ → Bool
 improvesOf g c e = negative (gainOf g c e ∷ e)
 
 -- ---- sizes: squared lengths up to 400,000,000, of residuals up to nine times as much, and multiples of a vector in a step

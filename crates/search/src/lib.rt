@@ -1,12 +1,16 @@
 // The nearest vector in the lattice of at most three reduced vectors. The loop works on numbers: g is the Gram matrix of the vectors,
 // c holds their inner products with what is left of the target.
 ghost use mathlib.Core.Path.{_≡_};
-ghost use Prim.Native.Nat.{ℕ};
-ghost use lib.IntN.{_*ℤ_};
+ghost use Prim.Native.Nat.{ℕ, _≤_, _<_};
+ghost use lib.IntN.{pos, _*ℤ_};
+ghost use lib.ListN.{getD};
+ghost use lib.Signed.{_<ℤ_};
 ghost use Rattle.integers.specs.Size.{Within};
 ghost use Rattle.lattices.specs.Vector.{nth, dot};
 ghost use Rattle.minima.specs.Digits.{Bounded};
 ghost use Rattle.search.specs.Numbers.{moved, gainOf, negative, improvesOf, Sized};
+ghost use Rattle.search.specs.Found.{Better, Found, Decided};
+ghost use Rattle.search.specs.Steps.{steps, count};
 
 // The inner product of two lists of coefficients.
 fn dot3(a: [i64; 3], b: [i64; 3]) -> i64
@@ -71,4 +75,64 @@ fn improves(g: [[i64; 3]; 3], c: [i64; 3], e: [i64; 3]) -> bool
         return false;
     }
     negative(e)
+}
+
+// The lists with entries −1, 0, 1, not all 0: the first COUNTS[k] are those of k vectors.
+const LISTS: [[i64; 3]; 26] = [
+    [1, 0, 0],
+    [-1, 0, 0],
+    [0, 1, 0],
+    [1, 1, 0],
+    [-1, 1, 0],
+    [0, -1, 0],
+    [1, -1, 0],
+    [-1, -1, 0],
+    [0, 0, 1],
+    [1, 0, 1],
+    [-1, 0, 1],
+    [0, 1, 1],
+    [1, 1, 1],
+    [-1, 1, 1],
+    [0, -1, 1],
+    [1, -1, 1],
+    [-1, -1, 1],
+    [0, 0, -1],
+    [1, 0, -1],
+    [-1, 0, -1],
+    [0, 1, -1],
+    [1, 1, -1],
+    [-1, 1, -1],
+    [0, -1, -1],
+    [1, -1, -1],
+    [-1, -1, -1],
+];
+
+const COUNTS: [usize; 4] = [0, 2, 8, 26];
+
+// The coefficients to add, if there is a step to a smaller value.
+struct Step {
+    list: [i64; 3],
+    better: bool,
+}
+
+// The first list of the table that improves.
+fn walk(g: [[i64; 3]; 3], c: [i64; 3], k: usize) -> Step
+    requires { ⌜ k ≤ 3 ⌝ }
+    requires { ⌜ Sized g c ⌝ }
+    ensures { λ r. ⌜ Decided k g c r ⌝ }
+{
+    let n = COUNTS[k];
+    for i in 0..n {
+        let e = LISTS[i];
+        if improves(g, c, e) {
+            return Step {
+                list: e,
+                better: true,
+            };
+        }
+    }
+    Step {
+        list: [0; 3],
+        better: false,
+    }
 }
