@@ -1,5 +1,5 @@
 -- What the functions that look for a step give: a step that improves, or word that no list of the table does.
-use mathlib.Core.Path.{_≡_, sym, subst}
+use mathlib.Core.Path.{_≡_, sym, _∙_, subst}
 use mathlib.Core.Bool.{true, false}
 use mathlib.Core.List.{List, []}
 use Prim.Native.Nat.{ℕ, _≤_, _<_}
@@ -44,3 +44,9 @@ module _ (k : ℕ) (short : k ≤ 3) (g : List (List ℤ)) (c : List ℤ) where
 
   pub decided-none : (l : List ℤ) → None (count k) g c → Decided k g c (record { list = l; better = false })
   decided-none l n = record { found = λ e. no-such (sym e); none = λ e. n }
+
+pub found-not : (k : ℕ) (g : List (List ℤ)) (c l : List ℤ) → Found k g c (record { list = l; better = false })
+found-not k g c l = record { found = λ e. no-such (sym e) }
+
+pub decided-found : (k : ℕ) (g : List (List ℤ)) (c : List ℤ) (s : Step) → s .better ≡ true → Found k g c s → Decided k g c s
+decided-found k g c s e f = record { found = f .found; none = λ n. no-such (sym e ∙ n) }

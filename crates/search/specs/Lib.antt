@@ -5,3 +5,4 @@ pub mod Signs
 pub mod Filled
 pub mod Steps
 pub mod Found
+pub mod Multiples

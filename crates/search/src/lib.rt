@@ -1,6 +1,7 @@
 // The nearest vector in the lattice of at most three reduced vectors. The loop works on numbers: g is the Gram matrix of the vectors,
 // c holds their inner products with what is left of the target.
 ghost use mathlib.Core.Path.{_≡_};
+ghost use mathlib.Core.List.{[]};
 ghost use Prim.Native.Nat.{ℕ, _≤_, _<_};
 ghost use lib.IntN.{pos, _*ℤ_};
 ghost use lib.ListN.{getD};
@@ -9,8 +10,8 @@ ghost use Rattle.integers.specs.Size.{Within};
 ghost use Rattle.lattices.specs.Vector.{nth, dot};
 ghost use Rattle.minima.specs.Digits.{Bounded};
 ghost use Rattle.search.specs.Numbers.{moved, gainOf, negative, improvesOf, Sized};
-ghost use Rattle.search.specs.Found.{Better, Found, Decided};
-ghost use Rattle.search.specs.Steps.{steps, count};
+ghost use Rattle.search.specs.Found.{Found, Decided};
+ghost use Rattle.search.specs.Multiples.{Multiple};
 
 // The inner product of two lists of coefficients.
 fn dot3(a: [i64; 3], b: [i64; 3]) -> i64
@@ -135,4 +136,73 @@ fn walk(g: [[i64; 3]; 3], c: [i64; 3], k: usize) -> Step
         list: [0; 3],
         better: false,
     }
+}
+
+// The quotient p / n, rounded to the nearest whole number.
+fn rounded(p: i64, n: i64) -> i64
+    requires { ⌜ Within 2000000000 p ⌝ }
+    requires { ⌜ Within 400000000 n ⌝ }
+    requires { ⌜ pos 0 <ℤ n ⌝ }
+    ensures { λ r. ⌜ Within 4400000000 r ⌝ }
+{
+    let half = if p < 0 { -n } else { n };
+    (2 * p + half) / (2 * n)
+}
+
+// The multiple of a vector to take away: n is its squared length, p its inner product with what is left. 0 if that does not shorten.
+fn multiple(n: i64, p: i64) -> i64
+    requires { ⌜ Within 400000000 n ⌝ }
+    requires { ⌜ pos 0 <ℤ n ⌝ }
+    requires { ⌜ Within 2000000000 p ⌝ }
+    ensures { λ r. ⌜ Multiple n p r ⌝ }
+{
+    let q = rounded(p, n);
+    let d = q * n - 2 * p;
+    if q < 0 && 0 < d {
+        return q;
+    }
+    if 0 < q && d < 0 {
+        return q;
+    }
+    0
+}
+
+// A step along one vector, from the last on.
+fn along(g: [[i64; 3]; 3], c: [i64; 3], k: usize) -> Step
+    requires { ⌜ k ≤ 3 ⌝ }
+    requires { ⌜ Sized g c ⌝ }
+    requires { ⌜ ((i : ℕ) → i < k → pos 0 <ℤ nth (getD g i []) i) ⌝ }
+    ensures { λ r. ⌜ Found k g c r ⌝ }
+{
+    let mut i = k;
+    while 0 < i {
+        i -= 1;
+        let q = multiple(g[i][i], c[i]);
+        if q != 0 {
+            let mut e = [0; 3];
+            e[i] = q;
+            return Step {
+                list: e,
+                better: true,
+            };
+        }
+    }
+    Step {
+        list: [0; 3],
+        better: false,
+    }
+}
+
+// A step to a smaller value, along one vector if that does it.
+fn next_step(g: [[i64; 3]; 3], c: [i64; 3], k: usize) -> Step
+    requires { ⌜ k ≤ 3 ⌝ }
+    requires { ⌜ Sized g c ⌝ }
+    requires { ⌜ ((i : ℕ) → i < k → pos 0 <ℤ nth (getD g i []) i) ⌝ }
+    ensures { λ r. ⌜ Decided k g c r ⌝ }
+{
+    let s = along(g, c, k);
+    if s.better {
+        return s;
+    }
+    walk(g, c, k)
 }
