@@ -10,8 +10,8 @@ use mir.Syntax.{w64}
 use mir.Val.{SFits}
 use Rattle.integers.specs.Ring.{negsuc-zero-*ℤ}
 use Rattle.integers.specs.Size.{Within, within-add, within-sub, within-mul, within-le, fits-within}
-use Rattle.integers.specs.Lists.{entries, length-⊖-same}
-use Rattle.lattices.specs.Vector.{Vec, nth, dot, _⊖_}
+use Rattle.integers.specs.Lists.{entries, nth-⊕, length-⊕-same, length-⊖-same}
+use Rattle.lattices.specs.Vector.{Vec, nth, dot, _⊕_, _⊖_}
 use Rattle.lattices.specs.VectorLaws.{against, dot-comm}
 use Rattle.rows.specs.Dot.{dot-suc}
 use Rattle.minima.specs.Digits.{Bounded}
@@ -46,6 +46,12 @@ dot-within n (x ∷ a) [] h f = record { within = omega arith }
 dot-within zero (x ∷ a) (y ∷ b) h f = absurd (omega arith)
 dot-within {P} (suc n) (x ∷ a) (y ∷ b) h f = within-le (omega arith) (within-add (f 0) (dot-within n a b (omega arith) (λ k. f (suc k))))
 
+-- ---- the sum of two lists of coefficients
+
+pub sum-filled : (x e : List ℤ) (i : ℕ) (r : List ℤ) → length x ≡ 3 → length e ≡ 3 → 3 ≤ i
+    → Filled (pos 0) (pos 0) (λ j s. s ≡ nth x j +ℤ nth e j) 3 i r → r ≡ x ⊕ e
+sum-filled x e n r h k m p = ext-getD (pos 0) r (x ⊕ e) (p .size ∙ sym (length-⊕-same x e (h ∙ sym k) ∙ h)) (λ i l. p .done i (omega (arith, p .size)) ∙ sym (nth-⊕ x e i))
+
 -- ---- the inner products after a step
 
 pub nth-against : (bs : List Vec) (w : Vec) (i : ℕ) → nth (against bs w) i ≡ dot (getD bs i []) w
@@ -66,7 +72,7 @@ pub nth-moved : (g : List (List ℤ)) (c e : List ℤ) (i : ℕ) → nth (moved 
 nth-moved g c e i = simp (entries, nth-against, negsuc-zero-*ℤ)
 
 pub moved-filled : (g : List (List ℤ)) (c e : List ℤ) (i : ℕ) (r : List ℤ) → length g ≡ 3 → length c ≡ 3 → 3 ≤ i
-    → Filled (pos 0) (pos 0) (movedAt g c e) 3 i r → r ≡ moved g c e
+    → Filled (pos 0) (pos 0) (λ j x. x ≡ movedAt g c e j) 3 i r → r ≡ moved g c e
 moved-filled g c e n r h k m p = ext-getD (pos 0) r (moved g c e)
     (p .size ∙ sym (length-⊖-same c (against g e) (k ∙ sym h ∙ sym (length-against g e)) ∙ k))
     (λ i l. p .done i (omega (arith, p .size)) ∙ sym (nth-moved g c e i))

@@ -6,3 +6,4 @@ pub mod Filled
 pub mod Steps
 pub mod Found
 pub mod Multiples
+pub mod Gram

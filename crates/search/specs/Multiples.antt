@@ -19,6 +19,7 @@ use Rattle.lattices.specs.Vector.{nth, dot}
 use Rattle.lattices.specs.VectorLaws.{dot-comm, zero-dot}
 use Rattle.minima.specs.Digits.{Bounded, zeros}
 use Rattle.search.specs.Numbers.{moved, gainOf, improvesOf}
+use Rattle.search.specs.Filled.{zero-row}
 use Rattle.search.specs.Fits.{nth-moved}
 use Rattle.search.specs.Found.{Better}
 
@@ -49,11 +50,6 @@ product-right {a} {b} h k = by-lt (a ∷ b ∷ []) (lt h ⊠ lt k ⊞ lt h ⊞ l
 
 abbrev pub single : ℕ → ℤ → List ℤ
 single i q = set (replicate 3 (pos 0)) i q
-
-zero-row : (n i : ℕ) → nth (replicate n (pos 0)) i ≡ pos 0
-zero-row zero i = refl
-zero-row (suc n) zero = refl
-zero-row (suc n) (suc i) = zero-row n i
 
 dot-single : (n i : ℕ) (q : ℤ) (v : List ℤ) → i < n → dot (set (replicate n (pos 0)) i q) v ≡ q *ℤ nth v i
 unfolding dot

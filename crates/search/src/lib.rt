@@ -4,14 +4,15 @@ ghost use mathlib.Core.Path.{_≡_};
 ghost use mathlib.Core.List.{[]};
 ghost use Prim.Native.Nat.{ℕ, _≤_, _<_};
 ghost use lib.IntN.{pos, _*ℤ_};
-ghost use lib.ListN.{getD};
+ghost use lib.ListN.{getD, take};
 ghost use lib.Signed.{_<ℤ_};
 ghost use Rattle.integers.specs.Size.{Within};
-ghost use Rattle.lattices.specs.Vector.{nth, dot};
+ghost use Rattle.lattices.specs.Vector.{nth, dot, _⊕_};
 ghost use Rattle.minima.specs.Digits.{Bounded};
 ghost use Rattle.search.specs.Numbers.{moved, gainOf, negative, improvesOf, Sized};
 ghost use Rattle.search.specs.Found.{Found, Decided};
 ghost use Rattle.search.specs.Multiples.{Multiple};
+ghost use Rattle.search.specs.Gram.{Products, Gram};
 
 // The inner product of two lists of coefficients.
 fn dot3(a: [i64; 3], b: [i64; 3]) -> i64
@@ -205,4 +206,44 @@ fn next_step(g: [[i64; 3]; 3], c: [i64; 3], k: usize) -> Step
         return s;
     }
     walk(g, c, k)
+}
+
+// The inner products of the first k vectors with v, zeros behind.
+fn products(b: [[i64; 4]; 4], k: usize, v: [i64; 4]) -> [i64; 3]
+    requires { ⌜ k ≤ 3 ⌝ }
+    requires { ⌜ ((i : ℕ) → i < k → Bounded 100000 (getD b i [])) ⌝ }
+    requires { ⌜ Bounded 100000 v ⌝ }
+    ensures { λ r. ⌜ Products (take k b) v r ⌝ }
+{
+    let mut r = [0; 3];
+    for i in 0..k {
+        r[i] = rows::dot(b[i], v);
+    }
+    r
+}
+
+// The Gram matrix of the first k vectors, zeros behind.
+fn gram(b: [[i64; 4]; 4], k: usize) -> [[i64; 3]; 3]
+    requires { ⌜ k ≤ 3 ⌝ }
+    requires { ⌜ ((i : ℕ) → i < k → Bounded 100000 (getD b i [])) ⌝ }
+    ensures { λ r. ⌜ Gram (take k b) r ⌝ }
+{
+    let mut g = [[0; 3]; 3];
+    for i in 0..k {
+        g[i] = products(b, k, b[i]);
+    }
+    g
+}
+
+// Coefficients after a step.
+fn added(x: [i64; 3], e: [i64; 3]) -> [i64; 3]
+    requires { ⌜ Bounded 960000000000000000 x ⌝ }
+    requires { ⌜ Bounded 4400000000 e ⌝ }
+    ensures { λ r. ⌜ r ≡ x ⊕ e ⌝ }
+{
+    let mut r = [0; 3];
+    for i in 0..3 {
+        r[i] = x[i] + e[i];
+    }
+    r
 }

@@ -16,7 +16,7 @@ use Rattle.search.proofs.moved.Lts as lts
 use Rattle.search.proofs.dot3.Reads as dot3-reads
 
 abbrev Inv-loop : tie.InvT-loop
-Inv-loop e g c r₀ i₀ r i = (i ≤ 3) × Filled (pos 0) (pos 0) (movedAt g c e) 3 i r
+Inv-loop e g c r₀ i₀ r i = (i ≤ 3) × Filled (pos 0) (pos 0) (λ j x. x ≡ movedAt g c e j) 3 i r
 
 abbrev μ-loop : tie.MeasureT-loop
 μ-loop e g c r₀ i₀ r i = 3 - i
@@ -67,7 +67,7 @@ loop-less c = search needs
 loop-again : tie.Need-loop-again Inv-loop μ-loop
 loop-again c =
     let f = here c in
-    (search needs, filled-put (search needs) (simp (toZ-ofZ, f .entry, f .product, f .fits) (f .is)) (c .before .before .before .before .loop .inv .1))
+    (search needs, filled-put _ (c .before .before .before .before .loop .inv .1) (search needs) (simp (toZ-ofZ, f .entry, f .product, f .fits) (f .is)))
 
 returns : tie.Need-returns Inv-loop μ-loop
 returns c =
