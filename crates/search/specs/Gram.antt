@@ -37,19 +37,20 @@ module _ (bs : List Vec) where
         left i = simp (bilinear, dot-comm (comb e bs) (getD bs i []))
             (by-ring (dot (getD bs i []) r ∷ dot (getD bs i []) (comb e bs) ∷ []) (search reads depth 8) (search reads depth 8) tt)
 
-    gain-is : gainOf g c e ≡ gain r (comb e bs)
+    -- so is the change of the squared length
+    pub gain-of : gainOf g c e ≡ gain r (comb e bs)
     unfolding gainOf gain
-    gain-is = ap₂ (λ a b. negℤ (a +ℤ b)) (products-dot r c e p) (products-dot (r ⊖ comb e bs) (moved g c e) e products-moved)
+    gain-of = ap₂ (λ a b. negℤ (a +ℤ b)) (products-dot r c e p) (products-dot (r ⊖ comb e bs) (moved g c e) e products-moved)
         ∙ simp bilinear (by-ring (dot (comb e bs) r ∷ N (comb e bs) ∷ []) (search reads depth 8) (search reads depth 8) tt)
 
     -- the test in numbers is the test in vectors
     pub improves-is : improvesOf g c e ≡ improves r bs e
     unfolding improvesOf
-    improves-is = ap (λ n. negative (n ∷ e)) gain-is
+    improves-is = ap (λ n. negative (n ∷ e)) gain-of
 
 -- ---- as the loops fill them
 
-behind : (k j : ℕ) (b : List Vec) → k ≤ j → getD (take k b) j [] ≡ []
+pub behind : (k j : ℕ) (b : List Vec) → k ≤ j → getD (take k b) j [] ≡ []
 behind k j b h = List·getD-eq-default (take k b) [] (le-trans (omega (arith, length-take k b)) h)
 
 module _ (k : ℕ) (short : k ≤ 3) (b : List Vec) where

@@ -7,3 +7,5 @@ pub mod Steps
 pub mod Found
 pub mod Multiples
 pub mod Gram
+pub mod Searchable
+pub mod State

@@ -8,11 +8,14 @@ ghost use lib.ListN.{getD, take};
 ghost use lib.Signed.{_<ℤ_};
 ghost use Rattle.integers.specs.Size.{Within};
 ghost use Rattle.lattices.specs.Vector.{nth, dot, _⊕_};
+ghost use Rattle.lattices.specs.Nearest.{nearest};
+ghost use Rattle.lattices.specs.Answer.{padded};
 ghost use Rattle.minima.specs.Digits.{Bounded};
 ghost use Rattle.search.specs.Numbers.{moved, gainOf, negative, improvesOf, Sized};
 ghost use Rattle.search.specs.Found.{Found, Decided};
 ghost use Rattle.search.specs.Multiples.{Multiple};
 ghost use Rattle.search.specs.Gram.{Products, Gram};
+ghost use Rattle.search.specs.Searchable.{Searchable};
 
 // The inner product of two lists of coefficients.
 fn dot3(a: [i64; 3], b: [i64; 3]) -> i64
@@ -246,4 +249,26 @@ fn added(x: [i64; 3], e: [i64; 3]) -> [i64; 3]
         r[i] = x[i] + e[i];
     }
     r
+}
+
+// The coefficients of the vector nearest to t in the lattice of the first k vectors: steps to a smaller value until there is none.
+pub fn search(b: [[i64; 4]; 4], k: usize, t: [i64; 4]) -> [i64; 3]
+    requires { ⌜ k ≤ 3 ⌝ }
+    requires { ⌜ Searchable k b t ⌝ }
+    ensures { λ r. ⌜ r ≡ padded 3 (nearest (take k b) t) ⌝ }
+{
+    let g = gram(b, k);
+    let mut c = products(b, k, t);
+    let mut x = [0; 3];
+    loop {
+        let s = next_step(g, c, k);
+        if !s.better {
+            break x;
+        }
+        let e = s.list;
+        let y = added(x, e);
+        let d = moved(g, c, e);
+        x = y;
+        c = d;
+    }
 }
