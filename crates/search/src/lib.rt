@@ -1,0 +1,274 @@
+// The nearest vector in the lattice of at most three reduced vectors. The loop works on numbers: g is the Gram matrix of the vectors,
+// c holds their inner products with what is left of the target.
+ghost use mathlib.Core.Path.{_≡_};
+ghost use mathlib.Core.List.{[]};
+ghost use Prim.Native.Nat.{ℕ, _≤_, _<_};
+ghost use lib.IntN.{pos, _*ℤ_};
+ghost use lib.ListN.{getD, take};
+ghost use lib.Signed.{_<ℤ_};
+ghost use Rattle.integers.specs.Size.{Within};
+ghost use Rattle.lattices.specs.Vector.{nth, dot, _⊕_};
+ghost use Rattle.lattices.specs.Nearest.{nearest};
+ghost use Rattle.lattices.specs.Answer.{padded};
+ghost use Rattle.minima.specs.Digits.{Bounded};
+ghost use Rattle.search.specs.Numbers.{moved, gainOf, negative, improvesOf, Sized};
+ghost use Rattle.search.specs.Found.{Found, Decided};
+ghost use Rattle.search.specs.Multiples.{Multiple};
+ghost use Rattle.search.specs.Gram.{Products, Gram};
+ghost use Rattle.search.specs.Searchable.{Searchable};
+
+// The inner product of two lists of coefficients.
+fn dot3(a: [i64; 3], b: [i64; 3]) -> i64
+    requires { ⌜ ((i : ℕ) → Within 3000000000000000000 (nth a i *ℤ nth b i)) ⌝ }
+    ensures { λ r. ⌜ r ≡ dot a b ⌝ }
+{
+    let mut sum = 0;
+    for i in 0..3 {
+        sum += a[i] * b[i];
+    }
+    sum
+}
+
+// The inner products after the step e.
+fn moved(g: [[i64; 3]; 3], c: [i64; 3], e: [i64; 3]) -> [i64; 3]
+    requires { ⌜ Sized g c ⌝ }
+    requires { ⌜ Bounded 4400000000 e ⌝ }
+    ensures { λ r. ⌜ r ≡ moved g c e ⌝ }
+{
+    let mut r = [0; 3];
+    for i in 0..3 {
+        r[i] = c[i] - dot3(g[i], e);
+    }
+    r
+}
+
+// What the step e changes the squared length by.
+fn gain(g: [[i64; 3]; 3], c: [i64; 3], e: [i64; 3]) -> i64
+    requires { ⌜ Sized g c ⌝ }
+    requires { ⌜ Bounded 1 e ⌝ }
+    ensures { λ r. ⌜ r ≡ gainOf g c e ⌝ }
+{
+    -(dot3(e, c) + dot3(e, moved(g, c, e)))
+}
+
+// Is e below the list of zeros?
+fn negative(e: [i64; 3]) -> bool
+    ensures { λ r. ⌜ r ≡ negative e ⌝ }
+{
+    for i in 0..3 {
+        if e[i] < 0 {
+            return true;
+        }
+        if 0 < e[i] {
+            return false;
+        }
+    }
+    false
+}
+
+// Does the step e lead to a smaller value?
+fn improves(g: [[i64; 3]; 3], c: [i64; 3], e: [i64; 3]) -> bool
+    requires { ⌜ Sized g c ⌝ }
+    requires { ⌜ Bounded 1 e ⌝ }
+    ensures { λ r. ⌜ r ≡ improvesOf g c e ⌝ }
+{
+    let v = gain(g, c, e);
+    if v < 0 {
+        return true;
+    }
+    if 0 < v {
+        return false;
+    }
+    negative(e)
+}
+
+// The lists with entries −1, 0, 1, not all 0: the first COUNTS[k] are those of k vectors.
+const LISTS: [[i64; 3]; 26] = [
+    [1, 0, 0],
+    [-1, 0, 0],
+    [0, 1, 0],
+    [1, 1, 0],
+    [-1, 1, 0],
+    [0, -1, 0],
+    [1, -1, 0],
+    [-1, -1, 0],
+    [0, 0, 1],
+    [1, 0, 1],
+    [-1, 0, 1],
+    [0, 1, 1],
+    [1, 1, 1],
+    [-1, 1, 1],
+    [0, -1, 1],
+    [1, -1, 1],
+    [-1, -1, 1],
+    [0, 0, -1],
+    [1, 0, -1],
+    [-1, 0, -1],
+    [0, 1, -1],
+    [1, 1, -1],
+    [-1, 1, -1],
+    [0, -1, -1],
+    [1, -1, -1],
+    [-1, -1, -1],
+];
+
+const COUNTS: [usize; 4] = [0, 2, 8, 26];
+
+// The coefficients to add, if there is a step to a smaller value.
+struct Step {
+    list: [i64; 3],
+    better: bool,
+}
+
+// The first list of the table that improves.
+fn walk(g: [[i64; 3]; 3], c: [i64; 3], k: usize) -> Step
+    requires { ⌜ k ≤ 3 ⌝ }
+    requires { ⌜ Sized g c ⌝ }
+    ensures { λ r. ⌜ Decided k g c r ⌝ }
+{
+    let n = COUNTS[k];
+    for i in 0..n {
+        let e = LISTS[i];
+        if improves(g, c, e) {
+            return Step {
+                list: e,
+                better: true,
+            };
+        }
+    }
+    Step {
+        list: [0; 3],
+        better: false,
+    }
+}
+
+// The quotient p / n, rounded to the nearest whole number.
+fn rounded(p: i64, n: i64) -> i64
+    requires { ⌜ Within 2000000000 p ⌝ }
+    requires { ⌜ Within 400000000 n ⌝ }
+    requires { ⌜ pos 0 <ℤ n ⌝ }
+    ensures { λ r. ⌜ Within 4400000000 r ⌝ }
+{
+    let half = if p < 0 { -n } else { n };
+    (2 * p + half) / (2 * n)
+}
+
+// The multiple of a vector to take away: n is its squared length, p its inner product with what is left. 0 if that does not shorten.
+fn multiple(n: i64, p: i64) -> i64
+    requires { ⌜ Within 400000000 n ⌝ }
+    requires { ⌜ pos 0 <ℤ n ⌝ }
+    requires { ⌜ Within 2000000000 p ⌝ }
+    ensures { λ r. ⌜ Multiple n p r ⌝ }
+{
+    let q = rounded(p, n);
+    let d = q * n - 2 * p;
+    if q < 0 && 0 < d {
+        return q;
+    }
+    if 0 < q && d < 0 {
+        return q;
+    }
+    0
+}
+
+// A step along one vector, from the last on.
+fn along(g: [[i64; 3]; 3], c: [i64; 3], k: usize) -> Step
+    requires { ⌜ k ≤ 3 ⌝ }
+    requires { ⌜ Sized g c ⌝ }
+    requires { ⌜ ((i : ℕ) → i < k → pos 0 <ℤ nth (getD g i []) i) ⌝ }
+    ensures { λ r. ⌜ Found k g c r ⌝ }
+{
+    let mut i = k;
+    while 0 < i {
+        i -= 1;
+        let q = multiple(g[i][i], c[i]);
+        if q != 0 {
+            let mut e = [0; 3];
+            e[i] = q;
+            return Step {
+                list: e,
+                better: true,
+            };
+        }
+    }
+    Step {
+        list: [0; 3],
+        better: false,
+    }
+}
+
+// A step to a smaller value, along one vector if that does it.
+fn next_step(g: [[i64; 3]; 3], c: [i64; 3], k: usize) -> Step
+    requires { ⌜ k ≤ 3 ⌝ }
+    requires { ⌜ Sized g c ⌝ }
+    requires { ⌜ ((i : ℕ) → i < k → pos 0 <ℤ nth (getD g i []) i) ⌝ }
+    ensures { λ r. ⌜ Decided k g c r ⌝ }
+{
+    let s = along(g, c, k);
+    if s.better {
+        return s;
+    }
+    walk(g, c, k)
+}
+
+// The inner products of the first k vectors with v, zeros behind.
+fn products(b: [[i64; 4]; 4], k: usize, v: [i64; 4]) -> [i64; 3]
+    requires { ⌜ k ≤ 3 ⌝ }
+    requires { ⌜ ((i : ℕ) → i < k → Bounded 100000 (getD b i [])) ⌝ }
+    requires { ⌜ Bounded 100000 v ⌝ }
+    ensures { λ r. ⌜ Products (take k b) v r ⌝ }
+{
+    let mut r = [0; 3];
+    for i in 0..k {
+        r[i] = rows::dot(b[i], v);
+    }
+    r
+}
+
+// The Gram matrix of the first k vectors, zeros behind.
+fn gram(b: [[i64; 4]; 4], k: usize) -> [[i64; 3]; 3]
+    requires { ⌜ k ≤ 3 ⌝ }
+    requires { ⌜ ((i : ℕ) → i < k → Bounded 100000 (getD b i [])) ⌝ }
+    ensures { λ r. ⌜ Gram (take k b) r ⌝ }
+{
+    let mut g = [[0; 3]; 3];
+    for i in 0..k {
+        g[i] = products(b, k, b[i]);
+    }
+    g
+}
+
+// Coefficients after a step.
+fn added(x: [i64; 3], e: [i64; 3]) -> [i64; 3]
+    requires { ⌜ Bounded 960000000000000000 x ⌝ }
+    requires { ⌜ Bounded 4400000000 e ⌝ }
+    ensures { λ r. ⌜ r ≡ x ⊕ e ⌝ }
+{
+    let mut r = [0; 3];
+    for i in 0..3 {
+        r[i] = x[i] + e[i];
+    }
+    r
+}
+
+// The coefficients of the vector nearest to t in the lattice of the first k vectors: steps to a smaller value until there is none.
+pub fn search(b: [[i64; 4]; 4], k: usize, t: [i64; 4]) -> [i64; 3]
+    requires { ⌜ k ≤ 3 ⌝ }
+    requires { ⌜ Searchable k b t ⌝ }
+    ensures { λ r. ⌜ r ≡ padded 3 (nearest (take k b) t) ⌝ }
+{
+    let g = gram(b, k);
+    let mut c = products(b, k, t);
+    let mut x = [0; 3];
+    loop {
+        let s = next_step(g, c, k);
+        if !s.better {
+            break x;
+        }
+        let e = s.list;
+        let y = added(x, e);
+        let d = moved(g, c, e);
+        x = y;
+        c = d;
+    }
+}

@@ -1,0 +1,73 @@
+-- `gram` fills in a row of inner products a turn.
+use mathlib.Core.Path.{_≡_, _∙_}
+use mathlib.Core.List.{[]}
+use Prim.Native.Nat.{_≤_, _-_}
+use borrow.Author.Needs.{needs}
+use native.Mathlib.Omega.{arith}
+use lib.IntN.{pos}
+use lib.ListN.{getD, take, replicate}
+use Rattle.search.specs.Filled.{Filled, filled-none, filled-put}
+use Rattle.search.specs.Gram.{Products, gram-filled}
+use Rattle.search.proofs.gram.Statement.{statement}
+use Rattle.search.proofs.gram.Tie as tie
+use Rattle.search.proofs.gram.Reads as reads
+use Rattle.search.proofs.gram.Lts as lts
+use Rattle.search.proofs.products.Reads as products-reads
+
+abbrev Inv-loop : tie.InvT-loop
+Inv-loop k b g₀ i₀ g i = (i ≤ k) × Filled [] (replicate 3 (pos 0)) (λ j r. Products (take k b) (getD b j []) r) 3 i g
+
+abbrev μ-loop : tie.MeasureT-loop
+μ-loop k b g₀ i₀ g i = k - i
+
+loop-holds : tie.Need-loop-holds Inv-loop μ-loop
+loop-holds c = (search needs, filled-none [] (replicate 3 (pos 0)) _ 3)
+
+mul-products : tie.Need-mul-products Inv-loop μ-loop
+mul-products c = search needs
+
+array-copy-out-products : tie.Need-array-copy-out-products Inv-loop μ-loop
+array-copy-out-products c = search needs
+
+products-requires : tie.Need-products-requires Inv-loop μ-loop
+products-requires c κs =
+    let b = c .before .before in
+    (b .before .pre .0, (b .before .pre .1, b .before .pre .1 (b .loop .i) (search needs)))
+
+mul-g : tie.Need-mul-g Inv-loop μ-loop
+mul-g c = search needs
+
+array-set-from-g : tie.Need-array-set-from-g Inv-loop μ-loop
+array-set-from-g c = search needs
+
+add-i : tie.Need-add-i Inv-loop μ-loop
+add-i c = search needs
+
+loop-less : tie.Need-loop-less Inv-loop μ-loop
+loop-less c = search needs
+
+loop-again : tie.Need-loop-again Inv-loop μ-loop
+loop-again c = (search needs, filled-put _ (c .before .before .before .loop .inv .1) (search needs) (c .products .ensures))
+
+returns : tie.Need-returns Inv-loop μ-loop
+returns c =
+    let s = c .before .before in
+    let e : c .before .loop .i ≡ s .args .k = omega arith in
+    gram-filled (s .args .k) (s .pre .0) (s .args .t1) (c .before .loop .g) (rw e at (c .before .loop .inv .1))
+
+pub gram-spec : {M : Type 1} → statement M
+gram-spec =
+    tie.close
+    (tie.spec
+    Inv-loop
+    μ-loop
+    loop-holds
+    mul-products
+    array-copy-out-products
+    products-requires
+    mul-g
+    array-set-from-g
+    add-i
+    loop-less
+    loop-again
+    returns)

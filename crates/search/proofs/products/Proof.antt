@@ -1,0 +1,79 @@
+-- `products` fills in an inner product a turn.
+use mathlib.Core.Path.{_≡_, _∙_}
+use mathlib.Core.List.{[]}
+use Prim.Native.Nat.{_≤_, _-_}
+use borrow.Author.Needs.{needs}
+use native.Mathlib.Omega.{arith}
+use lib.IntN.{pos}
+use lib.ListN.{getD}
+use mir.Syntax.{w64}
+use mir.Val.{SFits}
+use mir.Facts.{toZ-ofZ}
+use Rattle.lattices.specs.Vector.{dot}
+use Rattle.search.specs.Filled.{Filled, filled-none, filled-put}
+use Rattle.search.specs.Gram.{products-filled}
+use Rattle.search.proofs.products.Statement.{statement}
+use Rattle.search.proofs.products.Tie as tie
+use Rattle.search.proofs.products.Reads as reads
+use Rattle.search.proofs.products.Lts as lts
+use Rattle.rows.proofs.dot.Reads as dot-reads
+
+abbrev Inv-loop : tie.InvT-loop
+Inv-loop k v b r₀ i₀ r i = (i ≤ k) × Filled (pos 0) (pos 0) (λ j x. x ≡ dot (getD b j []) v) 3 i r
+
+abbrev μ-loop : tie.MeasureT-loop
+μ-loop k v b r₀ i₀ r i = k - i
+
+loop-holds : tie.Need-loop-holds Inv-loop μ-loop
+loop-holds c = (search needs, filled-none (pos 0) (pos 0) _ 3)
+
+mul-dot : tie.Need-mul-dot Inv-loop μ-loop
+mul-dot c = search needs
+
+array-copy-out-dot : tie.Need-array-copy-out-dot Inv-loop μ-loop
+array-copy-out-dot c = search needs
+
+dot-requires : tie.Need-dot-requires Inv-loop μ-loop
+dot-requires c κs =
+    let b = c .before .before in
+    (b .before .pre .1 .0 (b .loop .i) (search needs), b .before .pre .1 .1)
+
+mul-r : tie.Need-mul-r Inv-loop μ-loop
+mul-r c = search needs
+
+array-set-from-r : tie.Need-array-set-from-r Inv-loop μ-loop
+array-set-from-r c = search needs
+
+add-i : tie.Need-add-i Inv-loop μ-loop
+add-i c = search needs
+
+loop-less : tie.Need-loop-less Inv-loop μ-loop
+loop-less c = search needs
+
+loop-again : tie.Need-loop-again Inv-loop μ-loop
+loop-again c =
+    let f : SFits w64 (c .dot .result) = record { sfits = c .dot .ok } in
+    (search needs, filled-put _ (c .before .before .before .loop .inv .1) (search needs) (simp (toZ-ofZ, f) (c .dot .ensures)))
+
+returns : tie.Need-returns Inv-loop μ-loop
+returns c =
+    let s = c .before .before in
+    let e : c .before .loop .i ≡ s .args .k = omega arith in
+    products-filled (s .args .k) (s .pre .0) (s .args .t1) (s .args .v) (c .before .loop .r) (rw e at (c .before .loop .inv .1))
+
+pub products-spec : {M : Type 1} → statement M
+products-spec =
+    tie.close
+    (tie.spec
+    Inv-loop
+    μ-loop
+    loop-holds
+    mul-dot
+    array-copy-out-dot
+    dot-requires
+    mul-r
+    array-set-from-r
+    add-i
+    loop-less
+    loop-again
+    returns)
