@@ -2,11 +2,11 @@
 use mathlib.Core.Path.{_≡_, refl, sym, ap, _∙_, subst}
 use mathlib.Core.List.{List, [], _∷_, _++_, map, append-assoc}
 use Prim.Native.Nat.{ℕ, zero, suc, _+_, _*_, _≤_, _<_}
-use native.Mathlib.Nat.{le-trans}
+use native.Mathlib.Nat.{le-refl, le-trans}
 use native.Mathlib.Omega.{arith}
 use lib.IntN.{ℤ, pos, natAbs, _*ℤ_}
 use lib.Signed.{_≤ℤ_, _<ℤ_}
-use lib.ListN.{length, getD, take, drop, length-append, take-append-drop}
+use lib.ListN.{length, getD, take, drop, length-append, length-drop, take-append-drop}
 use lib.Seq.{take-append-le, drop-append-le, length-take-le, split-at}
 use Rattle.integers.specs.Size.{Within, load}
 use Rattle.lattices.specs.Vector.{Vec, N, nth, comb}
@@ -37,14 +37,18 @@ pub record Fine (n : ℕ) (rows : List Row) : Type 0 where
   pub count : n ≤ length active
 
 module _ {n : ℕ} {rows : List Row} (f : Fine n rows) where
-  fine-take : take n rows ≡ take n (f .active)
-  fine-take = ap (take n) (f .is) ∙ take-append-le n (f .active) (f .unused) (f .count)
+  -- the first k rows, for every k up to n
+  fine-take : (k : ℕ) → k ≤ n → take k rows ≡ take k (f .active)
+  fine-take k h = ap (take k) (f .is) ∙ take-append-le k (f .active) (f .unused) (le-trans h (f .count))
 
-  fine-drop : drop n rows ≡ drop n (f .active) ++ f .unused
-  fine-drop = ap (drop n) (f .is) ∙ drop-append-le n (f .active) (f .unused) (f .count)
+  fine-drop : (k : ℕ) → k ≤ n → drop k rows ≡ drop k (f .active) ++ f .unused
+  fine-drop k h = ap (drop k) (f .is) ∙ drop-append-le k (f .active) (f .unused) (le-trans h (f .count))
+
+  pub fine-count : (k : ℕ) → k ≤ n → length (take k rows) ≡ k
+  fine-count k h = ap length (fine-take k h) ∙ length-take-le k (f .active) (le-trans h (f .count))
 
   pub fine-length : length (take n rows) ≡ n
-  fine-length = ap length fine-take ∙ length-take-le n (f .active) (f .count)
+  fine-length = fine-count n (le-refl n)
 
   -- no vector is over the length limit, so coordinates are small
   pub fine-short : NoLonger (pos 400000000) rows
@@ -54,25 +58,25 @@ module _ {n : ℕ} {rows : List Row} (f : Fine n rows) where
   pub fine-volume : pos 0 <ℤ squaredVolume 4 (vectors (take n rows))
   fine-volume = positive-left 4 (vectors (take n rows)) (vectors (drop n (f .active)))
       (subst (λ l. pos 0 <ℤ squaredVolume 4 l)
-      (ap vectors (sym (take-append-drop n (f .active)) ∙ ap (λ l. l ++ drop n (f .active)) (sym fine-take)) ∙ vectors-append (take n rows) (drop n (f .active)))
+      (ap vectors (sym (take-append-drop n (f .active)) ∙ ap (λ l. l ++ drop n (f .active)) (sym (fine-take n (le-refl n)))) ∙ vectors-append (take n rows) (drop n (f .active)))
       (way-volume 4 4 (f .ins) (f .basis) (f .basis .four) (f .active) (f .moved)))
 
-  -- moves of the first n rows
-  pub fine-moves : (to : List Row) → Moves (take n rows) to → Fine n (to ++ drop n rows)
-  fine-moves to m = record {
+  -- moves of the first k rows
+  pub fine-moves : (k : ℕ) → k ≤ n → (to : List Row) → Moves (take k rows) to → Fine n (to ++ drop k rows)
+  fine-moves k h to m = record {
     ins = f .ins;
     basis = f .basis;
-    active = to ++ drop n (f .active);
-    moved = after (f .moved) (subst (λ l. Moves l (to ++ drop n (f .active))) (take-append-drop n (f .active)) (moves-append (subst (λ l. Moves l to) fine-take m) (drop n (f .active))));
+    active = to ++ drop k (f .active);
+    moved = after (f .moved) (subst (λ l. Moves l (to ++ drop k (f .active))) (take-append-drop k (f .active)) (moves-append (subst (λ l. Moves l to) (fine-take k h) m) (drop k (f .active))));
     unused = f .unused;
-    is = ap (λ l. to ++ l) fine-drop ∙ sym (append-assoc to (drop n (f .active)) (f .unused));
+    is = ap (λ l. to ++ l) (fine-drop k h) ∙ sym (append-assoc to (drop k (f .active)) (f .unused));
     short = f .short;
-    sized = every-append (Sized 4 4) to (drop n rows) (moves-sized 4 4 m (every-left (Sized 4 4) (take n rows) (drop n rows) whole)) (every-right (Sized 4 4) (take n rows) (drop n rows) whole);
-    count = omega (arith, length-append to (drop n (f .active)), moves-length m, fine-length);
+    sized = every-append (Sized 4 4) to (drop k rows) (moves-sized 4 4 m (every-left (Sized 4 4) (take k rows) (drop k rows) whole)) (every-right (Sized 4 4) (take k rows) (drop k rows) whole);
+    count = omega (arith, length-append to (drop k (f .active)), moves-length m, fine-count k h, length-drop k (f .active), f .count);
   }
     where
-      whole : Every (Sized 4 4) (take n rows ++ drop n rows)
-      whole = subst (Every (Sized 4 4)) (sym (take-append-drop n rows)) (f .sized)
+      whole : Every (Sized 4 4) (take k rows ++ drop k rows)
+      whole = subst (Every (Sized 4 4)) (sym (take-append-drop k rows)) (f .sized)
 
 pub fine-fewer : {n k : ℕ} {rows : List Row} → k ≤ n → Fine n rows → Fine k rows
 fine-fewer h f = record {
@@ -89,11 +93,11 @@ fine-fewer h f = record {
 
 -- step 2
 pub fine-order : {n : ℕ} {rows : List Row} → Fine n rows → Fine n (order (take n rows) ++ drop n rows)
-fine-order {n} {rows} f = fine-moves f (order (take n rows)) (exchange (order-perm (take n rows)))
+fine-order {n} {rows} f = fine-moves f n (le-refl n) (order (take n rows)) (exchange (order-perm (take n rows)))
 
 -- step 3, and its outcome
-pub fine-greedy : {n : ℕ} {rows : List Row} → Fine n rows → Fine n (greedy n (take n rows) .rows ++ drop n rows)
-fine-greedy {n} {rows} f = fine-moves f (greedy n (take n rows) .rows) (greedy-moves n (take n rows) (fine-length f))
+pub fine-greedy : {n : ℕ} {rows : List Row} → Fine n rows → (k : ℕ) → k ≤ n → Fine n (greedy k (take k rows) .rows ++ drop k rows)
+fine-greedy {n} {rows} f k h = fine-moves f k h (greedy k (take k rows) .rows) (greedy-moves k (take k rows) (fine-count f k h))
 
 pub fine-reduced : {n : ℕ} {rows : List Row} → n ≤ 4 → Fine n rows → Reduced (vectors (greedy n (take n rows) .rows))
 fine-reduced {n} {rows} h f = greedy-reduced 4 n h (take n rows) (fine-length f) (fine-volume f)

@@ -3,3 +3,4 @@ pub mod State
 pub mod Fine
 pub mod Room
 pub mod Pass
+pub mod Turn

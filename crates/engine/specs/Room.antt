@@ -102,3 +102,8 @@ short-rows {n} {rows} f i = short-of (pos 400000000) (pos-nonneg 400000000) rows
 
 pub small-rows : {n : ℕ} {rows : List Row} → Fine n rows → (i j : ℕ) → Within 100000 (nth (getD (map (λ r. r .vector) rows) i []) j)
 small-rows {n} {rows} f i j = record { within = omega (arith, coordinate 1 (getD (map (λ r. r .vector) rows) i []) (short-rows f i) j) }
+
+-- ready for a pass: the rows before row k are reduced
+pub record Ready (k : ℕ) (rows : List Row) : Type 0 where
+  pub fine : Fine (suc k) rows
+  pub reduced : Reduced (vectors (take k rows))

@@ -2,7 +2,7 @@
 use mathlib.Core.List.{List, [], _++_, map}
 use Prim.Native.Nat.{ℕ, suc, _+_}
 use lib.ListN.{take, drop, getD}
-use Rattle.lattices.specs.Greedy.{Row, Pass, pass, joined, greedy}
+use Rattle.lattices.specs.Greedy.{Row, order, pass, joined, greedy}
 use Rattle.rows.specs.declared.Work.{Work}
 use Rattle.rows.specs.Rows.{rowsOf, workOf}
 
@@ -13,13 +13,28 @@ rowsIn w = rowsOf (map (λ r. r .at) (w .vectors)) (map (λ r. r .at) (w .u)) (m
 abbrev pub blank : Row
 blank = record { vector = []; u = []; v = [] }
 
--- one pass for row k: steps 4 and 5, where the rows before it are reduced
-abbrev pub passAt : ℕ → Work → Pass
-passAt k w = pass (record { rows = take k (rowsIn w); passes = w .passes }) (getD (rowsIn w) k blank)
+-- ---- the steps on rows
+-- step 2 for the first n rows
+abbrev pub orderRows : ℕ → List Row → List Row
+orderRows n rows = order (take n rows) ++ drop n rows
+
+-- steps 4 and 5 for row k, where the rows before it are reduced
+abbrev pub passRows : ℕ → List Row → List Row
+passRows k rows = joined (pass (record { rows = take k rows; passes = 0 }) (getD rows k blank)) ++ drop (suc k) rows
+
+-- steps 1 to 6 for the first n rows, and how many passes they take
+abbrev pub greedyRows : ℕ → List Row → List Row
+greedyRows n rows = greedy n (take n rows) .rows ++ drop n rows
+
+abbrev pub greedyPasses : ℕ → List Row → ℕ
+greedyPasses n rows = greedy n (take n rows) .passes
+
+-- ---- the same on a work
+unfoldable pub ordered : ℕ → Work → Work
+ordered n w = workOf (orderRows n (rowsIn w)) (w .passes)
 
 unfoldable pub passed : ℕ → Work → Work
-passed k w = workOf (joined (passAt k w) ++ drop (suc k) (rowsIn w)) (passAt k w .passes)
+passed k w = workOf (passRows k (rowsIn w)) (suc (w .passes))
 
--- steps 1 to 6 for the first n rows
 unfoldable pub reduced : ℕ → Work → Work
-reduced n w = workOf (greedy n (take n (rowsIn w)) .rows ++ drop n (rowsIn w)) (w .passes + greedy n (take n (rowsIn w)) .passes)
+reduced n w = workOf (greedyRows n (rowsIn w)) (w .passes + greedyPasses n (rowsIn w))
