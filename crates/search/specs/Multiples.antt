@@ -28,6 +28,9 @@ pub record Multiple (n p q : ℤ) : Type 0 where
   pub bounded : Within 4400000000 q
   pub shorter : (q ≡ pos 0) ⊎ ((q *ℤ (q *ℤ n -ℤ pos 2 *ℤ p)) <ℤ pos 0)
 
+pub none : (n p : ℤ) → Multiple n p (pos 0)
+none n p = record { bounded = record { within = omega arith }; shorter = inl refl }
+
 -- ---- quotients and signs
 
 pub within-twice : {B : ℕ} {z : ℤ} → Within B z → Within (2 * B) (pos 2 *ℤ z)

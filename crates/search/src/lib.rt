@@ -160,8 +160,12 @@ fn multiple(n: i64, p: i64) -> i64
     requires { ⌜ Within 2000000000 p ⌝ }
     ensures { λ r. ⌜ Multiple n p r ⌝ }
 {
+    let twice = 2 * p;
+    if -n <= twice && twice <= n {
+        return 0;
+    }
     let q = rounded(p, n);
-    let d = q * n - 2 * p;
+    let d = q * n - twice;
     if q < 0 && 0 < d {
         return q;
     }
