@@ -1,20 +1,15 @@
 -- `multiple` tests the sign of q·(q·n − 2p) by those of its factors.
 use borrow.Author.Needs.{needs}
-use mathlib.Core.Path.{refl}
-use mathlib.Core.Logic.{inl, inr}
-use native.Mathlib.Omega.{arith}
+use mathlib.Core.Logic.{inr}
 use lib.IntN.{pos, _-ℤ_, _*ℤ_, +ℤ-idl}
 use mir.Syntax.{w64}
 use mir.Val.{SFits}
 use mir.Facts.{toZ-ofZ}
 use Rattle.integers.specs.Order.{ltZ-true}
 use Rattle.integers.specs.Size.{within-neg, fits-within}
-use Rattle.search.specs.Multiples.{Multiple, none, within-twice, Tested, tested, product-left, product-right}
+use Rattle.search.specs.Multiples.{none, within-twice, Tested, tested, product-left, product-right}
 use Rattle.search.proofs.multiple.Statement.{statement}
 use Rattle.search.proofs.multiple.Tie as tie
-use Rattle.search.proofs.multiple.Reads as reads
-use Rattle.search.proofs.multiple.Lts as lts
-use Rattle.search.proofs.rounded.Reads as rounded-reads
 
 mul-twice : tie.Need-mul-twice
 mul-twice c =
