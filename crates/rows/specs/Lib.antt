@@ -1,2 +1,9 @@
 -- Rows of numbers: what the engine's vectors and tables are made of.
+pub mod Rows
 pub mod Dot
+pub mod Front
+pub mod Minus
+pub mod Loss
+pub mod Gain
+pub mod Places
+pub mod Order
