@@ -88,12 +88,12 @@ gain-residual : {r s : Vec} (u : Vec) → r ≈ s → gain r u ≡ gain s u
 unfolding gain
 gain-residual u e = ap (λ p. N u -ℤ pos 2 *ℤ p) (≈-dot (≈-refl {u = u}) e)
 
-length-padded : (n : ℕ) (l : List ℤ) → length (padded n l) ≡ n
+pub length-padded : (n : ℕ) (l : List ℤ) → length (padded n l) ≡ n
 length-padded zero l = refl
 length-padded (suc n) [] = ap suc (length-padded n [])
 length-padded (suc n) (x ∷ l) = ap suc (length-padded n l)
 
-nth-padded : (n : ℕ) (l : List ℤ) → length l ≤ n → (i : ℕ) → nth (padded n l) i ≡ nth l i
+pub nth-padded : (n : ℕ) (l : List ℤ) → length l ≤ n → (i : ℕ) → nth (padded n l) i ≡ nth l i
 nth-padded zero [] h i = refl
 nth-padded zero (x ∷ l) h i = absurd (omega arith)
 nth-padded (suc n) [] h zero = refl
