@@ -4,3 +4,5 @@ pub mod Fine
 pub mod Room
 pub mod Pass
 pub mod Turn
+pub mod Begin
+pub mod Finish

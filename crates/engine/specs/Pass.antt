@@ -16,7 +16,7 @@ map-append : {A B : Type 0} (f : A → B) (k l : List A) → map f (k ++ l) ≡ 
 map-append f [] l = refl
 map-append f (x ∷ k) l = ap (λ r. f x ∷ r) (map-append f k l)
 
-rowsOf-append : (bs us vs cs ws xs : List (List ℤ)) → length us ≡ length bs → length vs ≡ length bs → rowsOf (bs ++ cs) (us ++ ws) (vs ++ xs) ≡ rowsOf bs us vs ++ rowsOf cs ws xs
+pub rowsOf-append : (bs us vs cs ws xs : List (List ℤ)) → length us ≡ length bs → length vs ≡ length bs → rowsOf (bs ++ cs) (us ++ ws) (vs ++ xs) ≡ rowsOf bs us vs ++ rowsOf cs ws xs
 unfolding rowsOf
 rowsOf-append [] [] [] cs ws xs e f = refl
 rowsOf-append [] (u ∷ us) vs cs ws xs e f = absurd (omega arith)

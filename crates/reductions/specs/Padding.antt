@@ -36,10 +36,10 @@ padded-⊙ n q v h = same
 pub padded-⊖ : (n : ℕ) (u v : Vec) → length u ≤ n → length v ≤ n → padded n (u ⊖ v) ≡ padded n u ⊖ padded n v
 padded-⊖ n u v h k = padded-⊕ n u (negsuc 0 ⊙ v) h (omega (arith, length-⊙ (negsuc 0) v)) ∙ ap (λ l. padded n u ⊕ l) (padded-⊙ n (negsuc 0) v k)
 
-padded-N : (n : ℕ) (v : Vec) → length v ≤ n → N (padded n v) ≡ N v
+pub padded-N : (n : ℕ) (v : Vec) → length v ≤ n → N (padded n v) ≡ N v
 padded-N n v h = ≈-N (padded-≈ n v h)
 
-padded-coordinates : (n : ℕ) (bs : List Vec) → Coordinates n (map (padded n) bs)
+pub padded-coordinates : (n : ℕ) (bs : List Vec) → Coordinates n (map (padded n) bs)
 padded-coordinates n [] = tt
 padded-coordinates n (b ∷ bs) = (length-padded n b, padded-coordinates n bs)
 

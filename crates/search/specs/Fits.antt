@@ -1,17 +1,17 @@
 -- What fits in 64 bits on the way to an inner product of three places, and to the inner products after a step.
 use mathlib.Core.Path.{_≡_, refl, sym, ap, _∙_, subst}
 use mathlib.Core.List.{List, [], _∷_}
-use Prim.Native.Nat.{ℕ, zero, suc, _*_, _≤_, _<_}
+use Prim.Native.Nat.{ℕ, zero, suc, _*_, _≤_}
 use native.Mathlib.Omega.{arith}
-use lib.IntN.{ℤ, pos, negsuc, _+ℤ_, _-ℤ_, _*ℤ_, *ℤ-comm}
+use lib.IntN.{ℤ, pos, _+ℤ_, _-ℤ_, _*ℤ_}
 use lib.ListN.{length, getD, take}
-use lib.Seq.{take-all, ext-getD}
+use lib.Seq.{ext-getD}
 use mir.Syntax.{w64}
 use mir.Val.{SFits}
 use Rattle.integers.specs.Ring.{negsuc-zero-*ℤ}
 use Rattle.integers.specs.Size.{Within, within-add, within-sub, within-mul, within-le, fits-within}
 use Rattle.integers.specs.Lists.{entries, nth-⊕, length-⊕-same, length-⊖-same}
-use Rattle.lattices.specs.Vector.{Vec, nth, dot, _⊕_, _⊖_}
+use Rattle.lattices.specs.Vector.{Vec, nth, dot, _⊕_}
 use Rattle.lattices.specs.VectorLaws.{against, dot-comm}
 use Rattle.rows.specs.Dot.{dot-suc}
 use Rattle.minima.specs.Digits.{Bounded}
@@ -83,7 +83,7 @@ pub record Turned (g : List (List ℤ)) (c e : List ℤ) (i : ℕ) (d : ℤ) : T
   pub is : nth c i -ℤ d ≡ movedAt g c e i
   pub fits : SFits w64 (nth c i -ℤ d)
 
-module _ (g : List (List ℤ)) (c e : List ℤ) (s : Sized g c) where
+module _ (g : List (List ℤ)) (c e : List ℤ) (s : Sized 4000000000 g c) where
   pub step-product : Bounded 4400000000 e → (i j : ℕ) → Within 3000000000000000000 (nth (getD g i []) j *ℤ nth e j)
   step-product h i j = within-le (omega arith) (within-mul (s .gram i j) (h j))
 
@@ -96,13 +96,19 @@ module _ (g : List (List ℤ)) (c e : List ℤ) (s : Sized g c) where
 
   -- for a step with entries −1, 0, 1
   module _ (l : length e ≡ 3) (h : Bounded 1 e) where
-    pub unit-product : (i : ℕ) → Within 2000000000 (nth e i *ℤ nth c i)
-    unit-product i = within-mul (h i) (s .products i)
+    pub unit-moved : (i : ℕ) → Within 5200000000 (nth (moved g c e) i *ℤ nth e i)
+    unit-moved i = within-mul {B = 1} entry (h i)
+      where
+        entry : Within 5200000000 (nth (moved g c e) i)
+        entry = rw (nth-moved g c e i) (within-sub (s .products i) (dot-within {P = 400000000} 3 (getD g i []) e (omega arith) (λ j. within-mul (s .gram i j) (h j))))
 
-    pub unit-moved : (i : ℕ) → Within 3200000000 (nth e i *ℤ nth (moved g c e) i)
-    unit-moved i = within-mul {A = 1} {B = 3200000000} (h i) (rw (nth-moved g c e i)
-        (within-sub (s .products i) (dot-within {P = 400000000} 3 (getD g i []) e (omega arith) (λ j. within-mul (s .gram i j) (h j)))))
+    pub gain-within : Within 15600000000 (dot e (moved g c e))
+    gain-within = rw (dot-comm e (moved g c e)) (dot-within {P = 5200000000} 3 (moved g c e) e (omega arith) unit-moved)
 
-    pub gain-within : length c ≡ 3 → Within 15600000000 (dot e c +ℤ dot e (moved g c e))
-    gain-within k = within-add {A = 6000000000} {B = 9600000000} (dot-within {P = 2000000000} 3 e c (omega arith) unit-product)
-        (rw (dot-comm e (moved g c e)) (dot-within {P = 3200000000} 3 (moved g c e) e (omega arith) (λ i. rw (*ℤ-comm (nth (moved g c e) i) (nth e i)) (unit-moved i))))
+-- ---- inner products twice
+
+pub sized-wide : {g : List (List ℤ)} {c : List ℤ} → Sized 2000000000 g c → Sized 4000000000 g c
+sized-wide s = record { gram = s .gram; products = λ i. within-le (omega arith) (s .products i) }
+
+pub sized-twice : {g : List (List ℤ)} {c : List ℤ} → Sized 2000000000 g c → Sized 4000000000 g (c ⊕ c)
+sized-twice {c} s = record { gram = s .gram; products = λ i. rw (nth-⊕ c c i) (within-add (s .products i) (s .products i)) }

@@ -1,16 +1,16 @@
 -- The numbers that the search keeps, as inner products of vectors: beyond the last vector they are 0. A step changes them as it changes the residual.
-use mathlib.Core.Path.{_≡_, refl, sym, ap, ap₂, _∙_, subst}
+use mathlib.Core.Path.{_≡_, sym, ap, ap₂, _∙_, subst}
 use mathlib.Core.List.{List, [], _∷_}
 use Prim.Native.Nat.{ℕ, _≤_, _<_}
 use native.Mathlib.Nat.{le-trans}
 use native.Mathlib.Omega.{arith}
 use native.Mathlib.Decide.{decLt}
-use lib.IntN.{ℤ, pos, negsuc, negℤ, _+ℤ_, _-ℤ_, _*ℤ_}
-use lib.ListN.{length, getD, take, replicate, length-take, List·getD-eq-default}
+use lib.IntN.{ℤ, pos, negℤ, _+ℤ_, _-ℤ_}
+use lib.ListN.{getD, take, replicate, length-take, List·getD-eq-default}
 use lib.Seq.{getD-take}
 use Rattle.integers.specs.Identity.{by-ring, reads}
-use Rattle.lattices.specs.Vector.{Vec, N, nth, dot, comb, _⊖_}
-use Rattle.lattices.specs.VectorLaws.{_≈_, ≈-refl, ≈-dot, nth-≈, bilinear, dot-comm, dot-nil, nil-dot, comb-dot, against}
+use Rattle.lattices.specs.Vector.{Vec, N, nth, dot, comb, _⊕_, _⊖_}
+use Rattle.lattices.specs.VectorLaws.{≈-refl, ≈-dot, nth-≈, bilinear, dot-comm, dot-nil, nil-dot, comb-dot, against}
 use Rattle.minima.specs.Values.{gain}
 use Rattle.minima.specs.Table.{improves}
 use Rattle.search.specs.Numbers.{moved, gainOf, negative, improvesOf}
@@ -38,13 +38,16 @@ module _ (bs : List Vec) where
             (by-ring (dot (getD bs i []) r ∷ dot (getD bs i []) (comb e bs) ∷ []) (search reads depth 8) (search reads depth 8) tt)
 
     -- so is the change of the squared length
-    pub gain-of : gainOf g c e ≡ gain r (comb e bs)
+    pub gain-of : gainOf g (c ⊕ c) e ≡ gain r (comb e bs)
     unfolding gainOf gain
-    gain-of = ap₂ (λ a b. negℤ (a +ℤ b)) (products-dot r c e p) (products-dot (r ⊖ comb e bs) (moved g c e) e products-moved)
+    gain-of = ap negℤ twice ∙ ap₂ (λ a b. negℤ (a +ℤ b)) (products-dot r c e p) (products-dot (r ⊖ comb e bs) (moved g c e) e products-moved)
         ∙ simp bilinear (by-ring (dot (comb e bs) r ∷ N (comb e bs) ∷ []) (search reads depth 8) (search reads depth 8) tt)
+      where
+        twice : dot e (moved g (c ⊕ c) e) ≡ dot e c +ℤ dot e (moved g c e)
+        twice = simp bilinear (by-ring (dot e c ∷ dot e (against g e) ∷ []) (search reads depth 8) (search reads depth 8) tt)
 
     -- the test in numbers is the test in vectors
-    pub improves-is : improvesOf g c e ≡ improves r bs e
+    pub improves-is : improvesOf g (c ⊕ c) e ≡ improves r bs e
     unfolding improvesOf
     improves-is = ap (λ n. negative (n ∷ e)) gain-of
 

@@ -1,23 +1,23 @@
 -- Steps along one vector: a multiple q of vector i, where n is its squared length and p its inner product with the residual.
 use mathlib.Core.Path.{_≡_, refl, sym, ap, ap₂, _∙_, subst}
-use mathlib.Core.Logic.{_⊎_, inl, inr}
-use mathlib.Core.Bool.{true}
+use mathlib.Core.Logic.{_⊎_, inl}
 use mathlib.Core.List.{List, [], _∷_}
 use Prim.Native.Nat.{ℕ, zero, suc, _*_, _/_, _≤_, _<_}
 use native.Mathlib.Nat.{le-refl, le-trans, div-le-self}
 use native.Mathlib.Omega.{arith}
-use lib.IntN.{ℤ, pos, negsuc, negℤ, natAbs, _+ℤ_, _-ℤ_, _*ℤ_, *ℤ-zero}
-use lib.ListN.{length, getD, set, replicate}
+use lib.IntN.{ℤ, pos, negsuc, negℤ, _+ℤ_, _-ℤ_, _*ℤ_, *ℤ-zero}
+use lib.ListN.{getD, set, replicate}
 use lib.Signed.{quotZ, _<ℤ_}
 use mir.Syntax.{w64}
 use mir.Val.{ofZ, SFits}
 use Rattle.integers.specs.Identity.{by-ring, reads}
 use Rattle.integers.specs.Certificate.{_⊞_, _⊠_, lt, by-lt, nn-pos}
 use Rattle.integers.specs.Size.{Within, within-mul, within-sub, fits-within, size-neg}
+use Rattle.integers.specs.Lists.{nth-⊕}
 use Rattle.integers.specs.Lex.{below-<}
-use Rattle.lattices.specs.Vector.{nth, dot}
+use Rattle.lattices.specs.Vector.{nth, dot, _⊕_}
 use Rattle.lattices.specs.VectorLaws.{dot-comm, zero-dot}
-use Rattle.minima.specs.Digits.{Bounded, zeros}
+use Rattle.minima.specs.Digits.{zeros}
 use Rattle.search.specs.Numbers.{moved, gainOf, improvesOf}
 use Rattle.search.specs.Filled.{zero-row}
 use Rattle.search.specs.Fits.{nth-moved}
@@ -27,6 +27,9 @@ use Rattle.search.specs.Found.{Better}
 pub record Multiple (n p q : ℤ) : Type 0 where
   pub bounded : Within 4400000000 q
   pub shorter : (q ≡ pos 0) ⊎ ((q *ℤ (q *ℤ n -ℤ pos 2 *ℤ p)) <ℤ pos 0)
+
+pub none : (n p : ℤ) → Multiple n p (pos 0)
+none n p = record { bounded = record { within = omega arith }; shorter = inl refl }
 
 -- ---- quotients and signs
 
@@ -67,22 +70,21 @@ nth-single P (suc n) (suc i) zero q z f = z
 nth-single P (suc n) (suc i) (suc j) q z f = nth-single P n i j q z (λ e. f (ap suc e))
 
 module _ (g : List (List ℤ)) (c : List ℤ) (i : ℕ) (short : i < 3) (q : ℤ) where
-  gain-single : gainOf g c (single i q) ≡ q *ℤ (q *ℤ nth (getD g i []) i -ℤ pos 2 *ℤ nth c i)
+  gain-single : gainOf g (c ⊕ c) (single i q) ≡ q *ℤ (q *ℤ nth (getD g i []) i -ℤ pos 2 *ℤ nth c i)
   unfolding gainOf
-  gain-single = ap₂ (λ a b. negℤ (a +ℤ b)) (dot-single 3 i q c short)
-      (dot-single 3 i q (moved g c (single i q)) short ∙ ap (λ m. q *ℤ m) (nth-moved g c (single i q) i
-      ∙ ap (λ m. nth c i -ℤ m) (dot-comm (getD g i []) (single i q) ∙ dot-single 3 i q (getD g i []) short)))
+  gain-single = ap negℤ (dot-single 3 i q (moved g (c ⊕ c) (single i q)) short ∙ ap (λ m. q *ℤ m) (nth-moved g (c ⊕ c) (single i q) i
+      ∙ ap₂ (λ a b. a -ℤ b) (nth-⊕ c c i) (dot-comm (getD g i []) (single i q) ∙ dot-single 3 i q (getD g i []) short)))
       ∙ law (nth c i) (nth (getD g i []) i)
     where
-      law : (p n : ℤ) → negℤ (q *ℤ p +ℤ q *ℤ (p -ℤ q *ℤ n)) ≡ q *ℤ (q *ℤ n -ℤ pos 2 *ℤ p)
+      law : (p n : ℤ) → negℤ (q *ℤ (p +ℤ p -ℤ q *ℤ n)) ≡ q *ℤ (q *ℤ n -ℤ pos 2 *ℤ p)
       law p n = by-ring (q ∷ p ∷ n ∷ []) (search reads depth 20) (search reads depth 20) tt
 
-  pub single-better : (k : ℕ) → i < k → Within 4400000000 q → (q *ℤ (q *ℤ nth (getD g i []) i -ℤ pos 2 *ℤ nth c i)) <ℤ pos 0 → Better k g c (single i q)
+  pub single-better : (k : ℕ) → i < k → Within 4400000000 q → (q *ℤ (q *ℤ nth (getD g i []) i -ℤ pos 2 *ℤ nth c i)) <ℤ pos 0 → Better k g (c ⊕ c) (single i q)
   unfolding improvesOf
   single-better k h b s = record {
     bounded = λ j. nth-single (Within 4400000000) 3 i j q (record { within = omega arith }) (λ e. b);
     behind = λ j l. nth-single (λ x. x ≡ pos 0) 3 i j q refl (λ e. absurd (omega arith));
-    improves = below-< {x = gainOf g c (single i q)} {y = pos 0} (single i q) (zeros (single i q)) (subst (λ x. x <ℤ pos 0) (sym gain-single) s);
+    improves = below-< {x = gainOf g (c ⊕ c) (single i q)} {y = pos 0} (single i q) (zeros (single i q)) (subst (λ x. x <ℤ pos 0) (sym gain-single) s);
   }
 
 -- ---- bits

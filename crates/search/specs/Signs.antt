@@ -8,7 +8,7 @@ use native.Mathlib.Omega.{arith}
 use lib.IntN.{ℤ, pos}
 use lib.ListN.{length, drop}
 use lib.Seq.{drop-cons}
-use lib.Signed.{ltZ, _<ℤ_}
+use lib.Signed.{ltZ}
 use Rattle.integers.specs.Order.{ltZ-true, ltZ-false, ≤ℤ-antisymm}
 use Rattle.integers.specs.Lex.{below-<, below->, below-≡}
 use Rattle.lattices.specs.Vector.{nth}

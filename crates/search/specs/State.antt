@@ -16,10 +16,10 @@ use lib.Signed.{_≤ℤ_, _<ℤ_}
 use Rattle.integers.specs.Identity.{by-ring, reads}
 use Rattle.integers.specs.Order.{≤ℤ-trans, ≤ℤ-of-≡, ≤ℤ-or-<ℤ}
 use Rattle.integers.specs.Certificate.{NN, _⊞_, _⊠_, le, lt, eq, nn-pos, nn-ring, by-nn, by-lt}
-use Rattle.integers.specs.Size.{Within, within-le, within-add, within-mul, within-lower}
+use Rattle.integers.specs.Size.{Within, within-add, within-mul, within-lower}
 use Rattle.integers.specs.Lists.{same, nth-⊕, length-⊕-same}
-use Rattle.integers.specs.Lex.{Nonneg, below->, nonneg-ext}
-use Rattle.lattices.specs.Vector.{Vec, N, nth, dot, comb, _⊕_, _⊖_}
+use Rattle.integers.specs.Lex.{below->, nonneg-ext}
+use Rattle.lattices.specs.Vector.{Vec, N, nth, comb, _⊕_, _⊖_}
 use Rattle.lattices.specs.VectorLaws.{_≈_, ≈-refl, ≈-sym, ≈-dot, ≈-N, ≈-⊕, ≈-⊙, nth-≈, comb-≈, comb-zero, ⊖-zero, N-nonneg}
 use Rattle.lattices.specs.Nearest.{nearest, value}
 use Rattle.lattices.specs.Answer.{padded}
@@ -33,7 +33,7 @@ use Rattle.minima.specs.Table.{improves, table-least}
 use Rattle.minima.specs.NearestLaws.{nearest-only}
 use Rattle.search.specs.Numbers.{moved, gainOf, improvesOf, Sized}
 use Rattle.search.specs.Filled.{zero-row}
-use Rattle.search.specs.Steps.{steps, count, steps-cover}
+use Rattle.search.specs.Steps.{count, steps-cover}
 use Rattle.search.specs.Found.{Better, None}
 use Rattle.search.specs.Gram.{Products, Gram, products-moved, gain-of, improves-is}
 use Rattle.search.specs.Searchable.{Given, inner-within, reduced-positive, width, volume-positive}
@@ -67,7 +67,7 @@ abbrev lift : ℤ
 lift = pos 3600000000 *ℤ power base 3 +ℤ pos most
 
 pub measure : List (List ℤ) → List ℤ → List ℤ → ℕ
-measure g c₀ x = natAbs (number base (gainOf g c₀ x ∷ x) +ℤ lift)
+measure g c₀ x = natAbs (number base (gainOf g (c₀ ⊕ c₀) x ∷ x) +ℤ lift)
 
 number-lower : (x : List ℤ) → length x ≡ 3 → Bounded 960000000000000000 x → negℤ (pos most) ≤ℤ number base x
 number-lower (a ∷ b ∷ c ∷ []) e h = within-lower (within-add (term (4400000001 * (4400000001 * 1)) (h 0)) (within-add (term (4400000001 * 1) (h 1)) (within-add (term 1 (h 2)) (record { within = le-refl 0 }))))
@@ -88,12 +88,12 @@ gain-residual : {r s : Vec} (u : Vec) → r ≈ s → gain r u ≡ gain s u
 unfolding gain
 gain-residual u e = ap (λ p. N u -ℤ pos 2 *ℤ p) (≈-dot (≈-refl {u = u}) e)
 
-length-padded : (n : ℕ) (l : List ℤ) → length (padded n l) ≡ n
+pub length-padded : (n : ℕ) (l : List ℤ) → length (padded n l) ≡ n
 length-padded zero l = refl
 length-padded (suc n) [] = ap suc (length-padded n [])
 length-padded (suc n) (x ∷ l) = ap suc (length-padded n l)
 
-nth-padded : (n : ℕ) (l : List ℤ) → length l ≤ n → (i : ℕ) → nth (padded n l) i ≡ nth l i
+pub nth-padded : (n : ℕ) (l : List ℤ) → length l ≤ n → (i : ℕ) → nth (padded n l) i ≡ nth l i
 nth-padded zero [] h i = refl
 nth-padded zero (x ∷ l) h i = absurd (omega arith)
 nth-padded (suc n) [] h zero = refl
@@ -103,7 +103,7 @@ nth-padded (suc n) (x ∷ l) h (suc i) = nth-padded n l (omega arith) i
 
 module _ (k : ℕ) (bs : List Vec) (t : Vec) (v : Given k bs t) (g : List (List ℤ)) where
   -- ---- sizes
-  pub sized : (c x : List ℤ) → State k bs t g c x → Sized g c
+  pub sized : (c x : List ℤ) → State k bs t g c x → Sized 2000000000 g c
   sized c x s = record {
     gram = λ i j. subst (Within 400000000) (sym (s .gram .row i .at j)) (inner-within (getD bs j []) (getD bs i []) refl (v .short j) (v .short i));
     products = λ i. subst (Within 2000000000) (sym (s .products .at i)) (inner-within (getD bs i []) (t ⊖ comb x bs) refl (v .short i) (≤ℤ-trans (s .closer) (v .target)));
@@ -129,7 +129,7 @@ module _ (k : ℕ) (bs : List Vec) (t : Vec) (v : Given k bs t) (g : List (List 
       pick (no h) = subst (Within 960000000000000000) (sym (s .behind j (omega (arith, h)))) (record { within = omega arith })
 
   -- ---- a step
-  module _ (c x e : List ℤ) (s : State k bs t g c x) (l : length e ≡ 3) (b : Better k g c e) where
+  module _ (c x e : List ℤ) (s : State k bs t g c x) (l : length e ≡ 3) (b : Better k g (c ⊕ c) e) where
     lower : improves (t ⊖ comb x bs) bs e ≡ true
     lower = sym (improves-is bs g (s .gram) (t ⊖ comb x bs) c e (s .products)) ∙ b .improves
 
@@ -154,13 +154,13 @@ module _ (k : ℕ) (bs : List Vec) (t : Vec) (v : Given k bs t) (g : List (List 
 
     pub descends : (c₀ : List ℤ) → Products bs t c₀ → measure g c₀ (x ⊕ e) < measure g c₀ x
     unfolding measure
-    descends c₀ p = smaller (above (number base (gainOf g c₀ (x ⊕ e) ∷ (x ⊕ e))) lift high) (raised (number base (gainOf g c₀ (x ⊕ e) ∷ (x ⊕ e))) (number base (gainOf g c₀ x ∷ x)) lift lesser)
+    descends c₀ p = smaller (above (number base (gainOf g (c₀ ⊕ c₀) (x ⊕ e) ∷ (x ⊕ e))) lift high) (raised (number base (gainOf g (c₀ ⊕ c₀) (x ⊕ e) ∷ (x ⊕ e))) (number base (gainOf g (c₀ ⊕ c₀) x ∷ x)) lift lesser)
       where
         -- the value is N t more
-        value-is : (z : List ℤ) → length z ≡ 3 → number base (value bs t z) ≡ N t *ℤ power base 3 +ℤ number base (gainOf g c₀ z ∷ z)
+        value-is : (z : List ℤ) → length z ≡ 3 → number base (value bs t z) ≡ N t *ℤ power base 3 +ℤ number base (gainOf g (c₀ ⊕ c₀) z ∷ z)
         value-is z h = ap (λ n. n *ℤ power base (length z) +ℤ number base z) (gain-is t (comb z bs) ∙ ap (λ d. N t +ℤ d) (sym (gain-of bs g (s .gram) t c₀ z p)))
-            ∙ subst (λ m. (N t +ℤ gainOf g c₀ z) *ℤ power base m +ℤ number base z ≡ N t *ℤ power base 3 +ℤ (gainOf g c₀ z *ℤ power base m +ℤ number base z)) (sym h)
-            (law (N t) (gainOf g c₀ z) (power base 3) (number base z))
+            ∙ subst (λ m. (N t +ℤ gainOf g (c₀ ⊕ c₀) z) *ℤ power base m +ℤ number base z ≡ N t *ℤ power base 3 +ℤ (gainOf g (c₀ ⊕ c₀) z *ℤ power base m +ℤ number base z)) (sym h)
+            (law (N t) (gainOf g (c₀ ⊕ c₀) z) (power base 3) (number base z))
           where
             law : (n d q m : ℤ) → (n +ℤ d) *ℤ q +ℤ m ≡ n *ℤ q +ℤ (d *ℤ q +ℤ m)
             law n d q m = by-ring (n ∷ d ∷ q ∷ m ∷ []) (search reads depth 8) (search reads depth 8) tt
@@ -169,15 +169,15 @@ module _ (k : ℕ) (bs : List Vec) (t : Vec) (v : Given k bs t) (g : List (List 
         fewer = subst (λ n. number base (n ∷ (x ⊕ e)) <ℤ number base (value bs t x)) (sym (≈-N (residual-⊕ bs t x e)))
             (falls 4400000000 (t ⊖ comb x bs) bs x e (s .count ∙ sym l) (b .bounded) lower)
 
-        lesser : number base (gainOf g c₀ (x ⊕ e) ∷ (x ⊕ e)) <ℤ number base (gainOf g c₀ x ∷ x)
-        lesser = law (N t *ℤ power base 3) (number base (gainOf g c₀ (x ⊕ e) ∷ (x ⊕ e))) (number base (gainOf g c₀ x ∷ x))
+        lesser : number base (gainOf g (c₀ ⊕ c₀) (x ⊕ e) ∷ (x ⊕ e)) <ℤ number base (gainOf g (c₀ ⊕ c₀) x ∷ x)
+        lesser = law (N t *ℤ power base 3) (number base (gainOf g (c₀ ⊕ c₀) (x ⊕ e) ∷ (x ⊕ e))) (number base (gainOf g (c₀ ⊕ c₀) x ∷ x))
             (rw (value-is (x ⊕ e) (next .count), value-is x (s .count)) at fewer)
           where
             law : (n a d : ℤ) → (n +ℤ a) <ℤ (n +ℤ d) → a <ℤ d
             law n a d h = by-lt (n ∷ a ∷ d ∷ []) (lt h) (search reads depth 8) (search reads depth 8) tt
 
-        high : negℤ lift ≤ℤ number base (gainOf g c₀ (x ⊕ e) ∷ (x ⊕ e))
-        high = law (N t) (power base 3) (number base (gainOf g c₀ (x ⊕ e) ∷ (x ⊕ e))) (N (t ⊖ comb (x ⊕ e) bs)) (number base (x ⊕ e)) (pos 3600000000) (pos most)
+        high : negℤ lift ≤ℤ number base (gainOf g (c₀ ⊕ c₀) (x ⊕ e) ∷ (x ⊕ e))
+        high = law (N t) (power base 3) (number base (gainOf g (c₀ ⊕ c₀) (x ⊕ e) ∷ (x ⊕ e))) (N (t ⊖ comb (x ⊕ e) bs)) (number base (x ⊕ e)) (pos 3600000000) (pos most)
             (sym (value-is (x ⊕ e) (next .count)) ∙ ap (λ m. N (t ⊖ comb (x ⊕ e) bs) *ℤ power base m +ℤ number base (x ⊕ e)) (next .count))
             (N-nonneg (t ⊖ comb (x ⊕ e) bs)) (nn-pos 85184000058080000013200000001) (number-lower (x ⊕ e) (next .count) (small (moved g c e) (x ⊕ e) next)) (v .target)
           where
@@ -192,7 +192,7 @@ module _ (k : ℕ) (bs : List Vec) (t : Vec) (v : Given k bs t) (g : List (List 
         raised a b z h = by-lt (a ∷ b ∷ z ∷ []) (lt h) (search reads depth 8) (search reads depth 8) tt
 
   -- ---- the end
-  module _ (c x : List ℤ) (s : State k bs t g c x) (n : None (count k) g c) where
+  module _ (c x : List ℤ) (s : State k bs t g c x) (n : None (count k) g (c ⊕ c)) where
     y : List ℤ
     y = take k x
 
@@ -223,7 +223,7 @@ module _ (k : ℕ) (bs : List Vec) (t : Vec) (v : Given k bs t) (g : List (List 
         nonneg-not-below (change (t ⊖ comb y bs) bs l)
         (nonneg-ext (change (t ⊖ comb x bs) bs (padded 3 l)) (change (t ⊖ comb y bs) bs l) (same-change l (omega (arith, lists-are k i h .count, v .few)))
         (not-below-nonneg (change (t ⊖ comb x bs) bs (padded 3 l))
-        (sym (improves-is bs g (s .gram) (t ⊖ comb x bs) c (padded 3 l) (s .products)) ∙ steps-cover (λ e. improvesOf g c e ≡ false) k (v .few) n i h)))
+        (sym (improves-is bs g (s .gram) (t ⊖ comb x bs) c (padded 3 l) (s .products)) ∙ steps-cover (λ e. improvesOf g (c ⊕ c) e ≡ false) k (v .few) n i h)))
 
     least : Least bs t y
     least = table-least bs t y (omega (arith, v .count, v .few)) (pairs-reduced bs (v .reduced)) length-y
@@ -241,5 +241,5 @@ pub record Kept (k : ℕ) (g : List (List ℤ)) (c₀ c x : List ℤ) : Type 0 w
 pub kept-start : (k : ℕ) (g : List (List ℤ)) (c : List ℤ) → Kept k g c c (replicate 3 (pos 0))
 kept-start k g c = record { state = λ bs t v q p. start k bs t g c q p }
 
-pub kept-next : (k : ℕ) (g : List (List ℤ)) (c₀ c x e : List ℤ) → Kept k g c₀ c x → length e ≡ 3 → Better k g c e → Kept k g c₀ (moved g c e) (x ⊕ e)
+pub kept-next : (k : ℕ) (g : List (List ℤ)) (c₀ c x e : List ℤ) → Kept k g c₀ c x → length e ≡ 3 → Better k g (c ⊕ c) e → Kept k g c₀ (moved g c e) (x ⊕ e)
 kept-next k g c₀ c x e s l b = record { state = λ bs t v q p. next k bs t v g c x e (s .state bs t v q p) l b }

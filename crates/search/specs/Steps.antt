@@ -1,6 +1,6 @@
 -- The table of steps in the order of the walk: `lists 3` with each list reversed, so that the first 2, 8 and 26 lists are those of 1, 2 and 3
 -- vectors, zeros behind. What is claimed of the table is tested by computation.
-use mathlib.Core.Path.{_≡_, refl, sym, ap, subst}
+use mathlib.Core.Path.{_≡_, refl, subst}
 use mathlib.Core.Bool.{Bool, true, false, not, _&&_, _||_}
 use mathlib.Core.List.{List, [], _∷_, map, reverse}
 use Prim.Native.Nat.{ℕ, zero, suc, _+_, _-_, _≤_, _<_}
@@ -9,7 +9,6 @@ use lib.Dec.{T, eqb, leb, leb→le, eqb→eq}
 use lib.IntN.{ℤ, pos, negsuc, natAbs}
 use lib.ListN.{length, getD, take, drop, length-take}
 use lib.Seq.{getD-take, getD-drop}
-use Rattle.integers.specs.Size.{Within}
 use Rattle.integers.specs.Lex.{below, below-antisymm}
 use Rattle.lattices.specs.Vector.{nth}
 use Rattle.lattices.specs.Answer.{padded}

@@ -17,7 +17,7 @@ ghost use Rattle.search.specs.Multiples.{Multiple};
 ghost use Rattle.search.specs.Gram.{Products, Gram};
 ghost use Rattle.search.specs.Searchable.{Searchable};
 
-// The inner product of two lists of coefficients.
+// The inner product of two lists of three numbers.
 fn dot3(a: [i64; 3], b: [i64; 3]) -> i64
     requires { ⌜ ((i : ℕ) → Within 3000000000000000000 (nth a i *ℤ nth b i)) ⌝ }
     ensures { λ r. ⌜ r ≡ dot a b ⌝ }
@@ -29,9 +29,22 @@ fn dot3(a: [i64; 3], b: [i64; 3]) -> i64
     sum
 }
 
+// The sum of two lists of three numbers.
+fn added(x: [i64; 3], e: [i64; 3]) -> [i64; 3]
+    requires { ⌜ Bounded 960000000000000000 x ⌝ }
+    requires { ⌜ Bounded 4400000000 e ⌝ }
+    ensures { λ r. ⌜ r ≡ x ⊕ e ⌝ }
+{
+    let mut r = [0; 3];
+    for i in 0..3 {
+        r[i] = x[i] + e[i];
+    }
+    r
+}
+
 // The inner products after the step e.
 fn moved(g: [[i64; 3]; 3], c: [i64; 3], e: [i64; 3]) -> [i64; 3]
-    requires { ⌜ Sized g c ⌝ }
+    requires { ⌜ Sized 4000000000 g c ⌝ }
     requires { ⌜ Bounded 4400000000 e ⌝ }
     ensures { λ r. ⌜ r ≡ moved g c e ⌝ }
 {
@@ -42,13 +55,13 @@ fn moved(g: [[i64; 3]; 3], c: [i64; 3], e: [i64; 3]) -> [i64; 3]
     r
 }
 
-// What the step e changes the squared length by.
-fn gain(g: [[i64; 3]; 3], c: [i64; 3], e: [i64; 3]) -> i64
-    requires { ⌜ Sized g c ⌝ }
+// What the step e changes the squared length by. h holds the inner products twice.
+fn gain(g: [[i64; 3]; 3], h: [i64; 3], e: [i64; 3]) -> i64
+    requires { ⌜ Sized 4000000000 g h ⌝ }
     requires { ⌜ Bounded 1 e ⌝ }
-    ensures { λ r. ⌜ r ≡ gainOf g c e ⌝ }
+    ensures { λ r. ⌜ r ≡ gainOf g h e ⌝ }
 {
-    -(dot3(e, c) + dot3(e, moved(g, c, e)))
+    -dot3(e, moved(g, h, e))
 }
 
 // Is e below the list of zeros?
@@ -67,12 +80,12 @@ fn negative(e: [i64; 3]) -> bool
 }
 
 // Does the step e lead to a smaller value?
-fn improves(g: [[i64; 3]; 3], c: [i64; 3], e: [i64; 3]) -> bool
-    requires { ⌜ Sized g c ⌝ }
+fn improves(g: [[i64; 3]; 3], h: [i64; 3], e: [i64; 3]) -> bool
+    requires { ⌜ Sized 4000000000 g h ⌝ }
     requires { ⌜ Bounded 1 e ⌝ }
-    ensures { λ r. ⌜ r ≡ improvesOf g c e ⌝ }
+    ensures { λ r. ⌜ r ≡ improvesOf g h e ⌝ }
 {
-    let v = gain(g, c, e);
+    let v = gain(g, h, e);
     if v < 0 {
         return true;
     }
@@ -121,15 +134,15 @@ struct Step {
 }
 
 // The first list of the table that improves.
-fn walk(g: [[i64; 3]; 3], c: [i64; 3], k: usize) -> Step
+fn walk(g: [[i64; 3]; 3], h: [i64; 3], k: usize) -> Step
     requires { ⌜ k ≤ 3 ⌝ }
-    requires { ⌜ Sized g c ⌝ }
-    ensures { λ r. ⌜ Decided k g c r ⌝ }
+    requires { ⌜ Sized 4000000000 g h ⌝ }
+    ensures { λ r. ⌜ Decided k g h r ⌝ }
 {
     let n = COUNTS[k];
     for i in 0..n {
         let e = LISTS[i];
-        if improves(g, c, e) {
+        if improves(g, h, e) {
             return Step {
                 list: e,
                 better: true,
@@ -160,8 +173,12 @@ fn multiple(n: i64, p: i64) -> i64
     requires { ⌜ Within 2000000000 p ⌝ }
     ensures { λ r. ⌜ Multiple n p r ⌝ }
 {
+    let twice = 2 * p;
+    if -n <= twice && twice <= n {
+        return 0;
+    }
     let q = rounded(p, n);
-    let d = q * n - 2 * p;
+    let d = q * n - twice;
     if q < 0 && 0 < d {
         return q;
     }
@@ -174,9 +191,9 @@ fn multiple(n: i64, p: i64) -> i64
 // A step along one vector, from the last on.
 fn along(g: [[i64; 3]; 3], c: [i64; 3], k: usize) -> Step
     requires { ⌜ k ≤ 3 ⌝ }
-    requires { ⌜ Sized g c ⌝ }
+    requires { ⌜ Sized 2000000000 g c ⌝ }
     requires { ⌜ ((i : ℕ) → i < k → pos 0 <ℤ nth (getD g i []) i) ⌝ }
-    ensures { λ r. ⌜ Found k g c r ⌝ }
+    ensures { λ r. ⌜ Found k g (c ⊕ c) r ⌝ }
 {
     let mut i = k;
     while 0 < i {
@@ -200,15 +217,15 @@ fn along(g: [[i64; 3]; 3], c: [i64; 3], k: usize) -> Step
 // A step to a smaller value, along one vector if that does it.
 fn next_step(g: [[i64; 3]; 3], c: [i64; 3], k: usize) -> Step
     requires { ⌜ k ≤ 3 ⌝ }
-    requires { ⌜ Sized g c ⌝ }
+    requires { ⌜ Sized 2000000000 g c ⌝ }
     requires { ⌜ ((i : ℕ) → i < k → pos 0 <ℤ nth (getD g i []) i) ⌝ }
-    ensures { λ r. ⌜ Decided k g c r ⌝ }
+    ensures { λ r. ⌜ Decided k g (c ⊕ c) r ⌝ }
 {
     let s = along(g, c, k);
     if s.better {
         return s;
     }
-    walk(g, c, k)
+    walk(g, added(c, c), k)
 }
 
 // The inner products of the first k vectors with v, zeros behind.
@@ -236,19 +253,6 @@ fn gram(b: [[i64; 4]; 4], k: usize) -> [[i64; 3]; 3]
         g[i] = products(b, k, b[i]);
     }
     g
-}
-
-// Coefficients after a step.
-fn added(x: [i64; 3], e: [i64; 3]) -> [i64; 3]
-    requires { ⌜ Bounded 960000000000000000 x ⌝ }
-    requires { ⌜ Bounded 4400000000 e ⌝ }
-    ensures { λ r. ⌜ r ≡ x ⊕ e ⌝ }
-{
-    let mut r = [0; 3];
-    for i in 0..3 {
-        r[i] = x[i] + e[i];
-    }
-    r
 }
 
 // The coefficients of the vector nearest to t in the lattice of the first k vectors: steps to a smaller value until there is none.

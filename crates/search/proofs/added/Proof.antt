@@ -1,5 +1,5 @@
 -- `added` adds entry by entry.
-use mathlib.Core.Path.{_≡_, _∙_}
+use mathlib.Core.Path.{_≡_}
 use Prim.Native.Nat.{_≤_, _-_}
 use borrow.Author.Needs.{needs}
 use lib.IntN.{pos, _+ℤ_}
@@ -12,8 +12,6 @@ use Rattle.search.specs.Filled.{Filled, filled-none, filled-put}
 use Rattle.search.specs.Fits.{sum-filled}
 use Rattle.search.proofs.added.Statement.{statement}
 use Rattle.search.proofs.added.Tie as tie
-use Rattle.search.proofs.added.Reads as reads
-use Rattle.search.proofs.added.Lts as lts
 
 abbrev Inv-loop : tie.InvT-loop
 Inv-loop x e r₀ i₀ r i = (i ≤ 3) × Filled (pos 0) (pos 0) (λ j s. s ≡ nth x j +ℤ nth e j) 3 i r

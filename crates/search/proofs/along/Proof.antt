@@ -1,23 +1,18 @@
 -- `along` takes the first multiple of a vector that shortens, from the last vector on.
-use mathlib.Core.Path.{_≡_, refl, sym, ap, _∙_, subst}
+use mathlib.Core.Path.{ap}
 use mathlib.Core.Logic.{⊎-elim}
 use mathlib.Core.List.{[]}
 use Prim.Native.Nat.{_≤_, _-_}
-use native.Mathlib.Omega.{arith}
 use borrow.Author.Needs.{needs}
-use lib.IntN.{pos}
 use lib.ListN.{getD}
 use mir.Syntax.{w64}
-use mir.Val.{SFits, ofZ, toZ}
+use mir.Val.{SFits, ofZ}
 use mir.Facts.{toZ-ofZ}
-use Rattle.lattices.specs.Vector.{nth}
-use Rattle.search.specs.Found.{Found, found-not}
+use Rattle.lattices.specs.Vector.{nth, _⊕_}
+use Rattle.search.specs.Found.{found-not}
 use Rattle.search.specs.Multiples.{Multiple, single-better}
 use Rattle.search.proofs.along.Statement.{statement}
 use Rattle.search.proofs.along.Tie as tie
-use Rattle.search.proofs.along.Reads as reads
-use Rattle.search.proofs.along.Lts as lts
-use Rattle.search.proofs.multiple.Reads as multiple-reads
 
 abbrev Inv-loop : tie.InvT-loop
 Inv-loop k g c i₀ i = i ≤ k
@@ -83,7 +78,7 @@ loop-again : tie.Need-loop-again Inv-loop μ-loop
 loop-again c = search needs
 
 returns-2 : tie.Need-returns-2 Inv-loop μ-loop
-returns-2 c = let s = c .before .before .args in found-not (s .k) (s .t1) (s .t2) _
+returns-2 c = let s = c .before .before .args in found-not (s .k) (s .t1) (s .t2 ⊕ s .t2) _
 
 pub along-spec : {M : Type 1} → statement M
 along-spec =

@@ -15,8 +15,6 @@ use Rattle.rows.specs.Dot.{dot-suc}
 use Rattle.search.specs.Fits.{Turn, sum-within, turn-at}
 use Rattle.search.proofs.dot3.Statement.{statement}
 use Rattle.search.proofs.dot3.Tie as tie
-use Rattle.search.proofs.dot3.Reads as reads
-use Rattle.search.proofs.dot3.Lts as lts
 
 abbrev Inv-loop : tie.InvT-loop
 Inv-loop a b sum₀ i₀ sum i = (i ≤ 3) × (sum ≡ ofZ w64 (dot (take i a) (take i b)))

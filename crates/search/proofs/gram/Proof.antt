@@ -1,5 +1,5 @@
 -- `gram` fills in a row of inner products a turn.
-use mathlib.Core.Path.{_≡_, _∙_}
+use mathlib.Core.Path.{_≡_}
 use mathlib.Core.List.{[]}
 use Prim.Native.Nat.{_≤_, _-_}
 use borrow.Author.Needs.{needs}
@@ -10,9 +10,6 @@ use Rattle.search.specs.Filled.{Filled, filled-none, filled-put}
 use Rattle.search.specs.Gram.{Products, gram-filled}
 use Rattle.search.proofs.gram.Statement.{statement}
 use Rattle.search.proofs.gram.Tie as tie
-use Rattle.search.proofs.gram.Reads as reads
-use Rattle.search.proofs.gram.Lts as lts
-use Rattle.search.proofs.products.Reads as products-reads
 
 abbrev Inv-loop : tie.InvT-loop
 Inv-loop k b g₀ i₀ g i = (i ≤ k) × Filled [] (replicate 3 (pos 0)) (λ j r. Products (take k b) (getD b j []) r) 3 i g

@@ -1,19 +1,13 @@
 -- `moved` takes the inner product of row i with the step from entry i.
 use Prim.Native.Nat.{_≤_, _-_}
 use borrow.Author.Needs.{needs}
-use mathlib.Core.Path.{_≡_, refl, sym, ap, ap₂, _∙_}
-use lib.IntN.{pos, _-ℤ_}
-use lib.ListN.{length, getD}
-use mir.Syntax.{w64}
-use mir.Val.{SFits}
+use mathlib.Core.Path.{_≡_}
+use lib.IntN.{pos}
 use mir.Facts.{toZ-ofZ}
 use Rattle.search.specs.Filled.{Filled, filled-none, filled-put}
 use Rattle.search.specs.Fits.{movedAt, moved-filled, step-product, Turned, turned}
 use Rattle.search.proofs.moved.Statement.{statement}
 use Rattle.search.proofs.moved.Tie as tie
-use Rattle.search.proofs.moved.Reads as reads
-use Rattle.search.proofs.moved.Lts as lts
-use Rattle.search.proofs.dot3.Reads as dot3-reads
 
 abbrev Inv-loop : tie.InvT-loop
 Inv-loop e g c r₀ i₀ r i = (i ≤ 3) × Filled (pos 0) (pos 0) (λ j x. x ≡ movedAt g c e j) 3 i r

@@ -1,4 +1,5 @@
-use mathlib.Core.Path.{_≡_, refl, sym, ap, _∙_}
+-- `negative` looks for the first entry that is not 0.
+use mathlib.Core.Path.{_≡_, refl, sym, _∙_}
 use Prim.Native.Nat.{_≤_, _-_}
 use borrow.Author.Needs.{needs}
 use lib.ListN.{drop}
@@ -10,8 +11,6 @@ use Rattle.search.specs.Numbers.{negative}
 use Rattle.search.specs.Signs.{negative-end, negative-below, negative-above, negative-next}
 use Rattle.search.proofs.negative.Statement.{statement}
 use Rattle.search.proofs.negative.Tie as tie
-use Rattle.search.proofs.negative.Reads as reads
-use Rattle.search.proofs.negative.Lts as lts
 
 abbrev Inv-loop : tie.InvT-loop
 Inv-loop e i₀ i = (i ≤ 3) × (negative e ≡ negative (drop i e))

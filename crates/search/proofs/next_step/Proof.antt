@@ -1,12 +1,11 @@
 -- `next_step` gives what `along` finds, and else what the walk finds.
 use borrow.Author.Needs.{needs}
+use native.Mathlib.Omega.{arith}
+use Rattle.integers.specs.Size.{within-le}
+use Rattle.search.specs.Fits.{sized-twice}
 use Rattle.search.specs.Found.{decided-found}
 use Rattle.search.proofs.next_step.Statement.{statement}
 use Rattle.search.proofs.next_step.Tie as tie
-use Rattle.search.proofs.next_step.Reads as reads
-use Rattle.search.proofs.next_step.Lts as lts
-use Rattle.search.proofs.along.Reads as along-reads
-use Rattle.search.proofs.walk.Reads as walk-reads
 
 along-requires : tie.Need-along-requires
 along-requires c κs = search needs
@@ -14,11 +13,18 @@ along-requires c κs = search needs
 returns : tie.Need-returns
 returns c = decided-found (c .before .before .args .k) _ _ _ (c .if1 .taken) (c .before .along .ensures)
 
+added-requires : tie.Need-added-requires
+added-requires c κs =
+    let p = c .before .before .pre .1 .0 .products in
+    (λ i. within-le (omega arith) (p i), λ i. within-le (omega arith) (p i))
+
 walk-requires : tie.Need-walk-requires
-walk-requires c κs = search needs
+walk-requires c κs =
+    let s = c .before .before .before in
+    (s .pre .0, rw (c .added .ensures) (sized-twice (s .pre .1 .0)))
 
 returns-2 : tie.Need-returns-2
-returns-2 c = search needs
+returns-2 c = rw (c .before .added .ensures) at (c .walk .ensures)
 
 pub next-step-spec : {M : Type 1} → statement M
-next-step-spec = tie.close (tie.spec along-requires returns walk-requires returns-2)
+next-step-spec = tie.close (tie.spec along-requires returns added-requires walk-requires returns-2)

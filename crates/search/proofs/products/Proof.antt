@@ -1,5 +1,5 @@
 -- `products` fills in an inner product a turn.
-use mathlib.Core.Path.{_≡_, _∙_}
+use mathlib.Core.Path.{_≡_}
 use mathlib.Core.List.{[]}
 use Prim.Native.Nat.{_≤_, _-_}
 use borrow.Author.Needs.{needs}
@@ -14,9 +14,6 @@ use Rattle.search.specs.Filled.{Filled, filled-none, filled-put}
 use Rattle.search.specs.Gram.{products-filled}
 use Rattle.search.proofs.products.Statement.{statement}
 use Rattle.search.proofs.products.Tie as tie
-use Rattle.search.proofs.products.Reads as reads
-use Rattle.search.proofs.products.Lts as lts
-use Rattle.rows.proofs.dot.Reads as dot-reads
 
 abbrev Inv-loop : tie.InvT-loop
 Inv-loop k v b r₀ i₀ r i = (i ≤ k) × Filled (pos 0) (pos 0) (λ j x. x ≡ dot (getD b j []) v) 3 i r

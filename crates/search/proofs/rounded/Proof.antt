@@ -1,17 +1,15 @@
 -- `rounded` stays within the range of what is divided; that it rounds is no claim of the contract.
-use mathlib.Core.Path.{_≡_, sym, subst}
+use mathlib.Core.Path.{sym, subst}
 use mathlib.Core.Logic.{⊎-elim}
-use lib.IntN.{ℤ, pos, negℤ, _+ℤ_, _*ℤ_, +ℤ-idl}
+use lib.IntN.{pos, negℤ, _+ℤ_, _*ℤ_, +ℤ-idl}
 use lib.Signed.{quotZ}
 use mir.Syntax.{w64}
 use mir.Val.{SFits, toZ}
 use mir.Facts.{toZ-ofZ}
-use Rattle.integers.specs.Size.{Within, within-neg, within-add, within-mul, within-le, fits-within}
+use Rattle.integers.specs.Size.{Within, within-neg, within-add, fits-within}
 use Rattle.search.specs.Multiples.{within-twice, quot-within, positive-bits, twice-positive}
 use Rattle.search.proofs.rounded.Statement.{statement}
 use Rattle.search.proofs.rounded.Tie as tie
-use Rattle.search.proofs.rounded.Reads as reads
-use Rattle.search.proofs.rounded.Lts as lts
 
 sub-half : tie.Need-sub-half
 sub-half c =

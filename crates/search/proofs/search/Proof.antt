@@ -1,24 +1,15 @@
 -- `search` keeps the state of the search from the start to the list that no step improves.
-use mathlib.Core.Path.{_≡_, sym, ap, _∙_, subst}
-use mathlib.Core.List.{List}
 use borrow.Author.Needs.{needs}
 use borrow.Author.Tests.{not-true, not-false}
-use lib.IntN.{ℤ}
-use lib.ListN.{length, take}
-use Rattle.lattices.specs.Vector.{_⊕_}
+use lib.ListN.{take}
 use Rattle.search.specs.Numbers.{moved}
+use Rattle.lattices.specs.Vector.{_⊕_}
+use Rattle.search.specs.Fits.{sized-wide}
 use Rattle.search.specs.Found.{Better}
 use Rattle.search.specs.Searchable.{Given, given, coordinates, rows-bounded}
 use Rattle.search.specs.State.{State, Kept, kept-start, kept-next, sized, diagonal, small, measure, descends, nearest-is}
 use Rattle.search.proofs.search.Statement.{statement}
 use Rattle.search.proofs.search.Tie as tie
-use Rattle.search.proofs.search.Reads as reads
-use Rattle.search.proofs.search.Lts as lts
-use Rattle.search.proofs.added.Reads as added-reads
-use Rattle.search.proofs.gram.Reads as gram-reads
-use Rattle.search.proofs.moved.Reads as moved-reads
-use Rattle.search.proofs.next_step.Reads as next-step-reads
-use Rattle.search.proofs.products.Reads as products-reads
 
 abbrev Inv-loop : tie.InvT-loop
 Inv-loop k g c₀ x₀ c x = Kept k g c₀ c x
@@ -49,7 +40,7 @@ next-step-requires c κs =
 
 -- the step that was found
 found : (c : tie.Else1 Inv-loop μ-loop)
-    → let s = c .before .before .before in Better (s .before .before .before .args .k) (s .before .before .gram .result) (s .loop .c) (c .before .before .next-step .result .list)
+    → let s = c .before .before .before in Better (s .before .before .before .args .k) (s .before .before .gram .result) (s .loop .c ⊕ s .loop .c) (c .before .before .next-step .result .list)
 found c = c .before .before .next-step .ensures .found (not-false _ (c .if1 .left))
 
 added-requires : tie.Need-added-requires Inv-loop μ-loop
@@ -58,7 +49,7 @@ added-requires c κs = (small _ _ _ (vectors (c .before .before .before .before)
 moved-requires : tie.Need-moved-requires Inv-loop μ-loop
 moved-requires c κs =
     let s = c .before .before .before .before .before in
-    (sized _ _ _ (vectors s) _ _ _ (state s), found (c .before .before) .bounded)
+    (sized-wide (sized _ _ _ (vectors s) _ _ _ (state s)), found (c .before .before) .bounded)
 
 loop-less : tie.Need-loop-less Inv-loop μ-loop
 loop-less c =

@@ -1,9 +1,9 @@
 -- `walk` passes lists that do not improve until one does.
-use mathlib.Core.Path.{_≡_, refl, sym, ap, _∙_}
-use Prim.Native.Nat.{ℕ, _≤_, _<_, _-_}
+use mathlib.Core.Path.{_≡_, sym, _∙_}
+use Prim.Native.Nat.{_≤_, _-_}
 use native.Mathlib.Omega.{arith}
 use borrow.Author.Needs.{needs}
-use borrow.Author.Count.{below-none, below-more}
+use borrow.Author.Count.{below-more}
 use lib.ListN.{getD}
 use mathlib.Core.List.{[]}
 use Rattle.search.specs.Numbers.{improvesOf}
@@ -11,15 +11,12 @@ use Rattle.search.specs.Found.{None, decided-at, decided-none}
 use Rattle.search.specs.Steps.{steps, count, count-≤, steps-bounded}
 use Rattle.search.proofs.walk.Statement.{statement}
 use Rattle.search.proofs.walk.Tie as tie
-use Rattle.search.proofs.walk.Reads as reads
-use Rattle.search.proofs.walk.Lts as lts
-use Rattle.search.proofs.improves.Reads as improves-reads
 
 abbrev Inv-loop : tie.InvT-loop
-Inv-loop g c k n i₀ i = (i ≤ count k) × None i g c
+Inv-loop g h k n i₀ i = (i ≤ count k) × None i g h
 
 abbrev μ-loop : tie.MeasureT-loop
-μ-loop g c k n i₀ i = n - i
+μ-loop g h k n i₀ i = n - i
 
 mul-n : tie.Need-mul-n Inv-loop μ-loop
 mul-n c = search needs
@@ -42,7 +39,7 @@ improves-requires c κs = (c .before .before .before .pre .1, steps-bounded (c .
 
 -- the constant table is the table of steps
 tested : (c : tie.After-improves Inv-loop μ-loop)
-    → let s = c .before .before .before in improvesOf (s .before .args .g) (s .before .args .c) (getD steps (s .loop .i) []) ≡ c .improves .result
+    → let s = c .before .before .before in improvesOf (s .before .args .g) (s .before .args .h) (getD steps (s .loop .i) []) ≡ c .improves .result
 unfolding steps
 tested c = sym (c .improves .ensures)
 
@@ -50,7 +47,7 @@ returns : tie.Need-returns Inv-loop μ-loop
 unfolding steps
 returns c =
     let s = c .before .before .before .before in
-    decided-at (s .before .args .k) (s .before .pre .0) (s .before .args .g) (s .before .args .c) (s .loop .i) (search needs) (tested (c .before) ∙ c .if1 .taken)
+    decided-at (s .before .args .k) (s .before .pre .0) (s .before .args .g) (s .before .args .h) (s .loop .i) (search needs) (tested (c .before) ∙ c .if1 .taken)
 
 add-i : tie.Need-add-i Inv-loop μ-loop
 add-i c = omega (arith, count-≤ (c .before .before .before .before .before .args .k) (c .before .before .before .before .before .pre .0))
@@ -66,7 +63,7 @@ loop-again c =
 returns-2 : tie.Need-returns-2 Inv-loop μ-loop
 returns-2 c =
     let s = c .before in
-    decided-none (s .before .args .k) (s .before .pre .0) (s .before .args .g) (s .before .args .c) _ (λ i h. s .loop .inv .1 i (omega arith))
+    decided-none (s .before .args .k) (s .before .pre .0) (s .before .args .g) (s .before .args .h) _ (λ i h. s .loop .inv .1 i (omega arith))
 
 pub walk-spec : {M : Type 1} → statement M
 walk-spec =

@@ -1,0 +1,156 @@
+-- The rows with which the engine ends, as the definition's answer: the padded reduction, V written out by rows, squared lengths.
+use mathlib.Core.Path.{_≡_, refl, sym, ap, ap₂, _∙_, subst}
+use mathlib.Core.List.{List, [], _∷_, _++_, map}
+use Prim.Native.Nat.{ℕ, zero, suc, _+_, _-_, _≤_, _<_}
+use native.Mathlib.Omega.{arith}
+use lib.IntN.{ℤ, pos}
+use lib.ListN.{length, getD, take, drop, replicate, length-map}
+use lib.Seq.{take-append-seam, drop-append-seam}
+use Rattle.lattices.specs.Vector.{Vec, N, nth}
+use Rattle.lattices.specs.Greedy.{Row, Counted, vectors, units, start, greedy, reduction}
+use Rattle.lattices.specs.Refusal.{Input, basis, firstOf, vectorChecks}
+use Rattle.lattices.specs.Answer.{padded, table, rowOfV, rowsOfV, reductionGiven}
+use Rattle.lattices.specs.AnswerLaws.{nth-padded}
+use Rattle.reductions.specs.Every.{Every}
+use Rattle.reductions.specs.Start.{Sized, sized-start, length-units}
+use Rattle.reductions.specs.Exactness.{reduction-length, reduction-sized}
+use Rattle.reductions.specs.Padding.{pad, pad-counted, greedy-padded, padded-N}
+use Rattle.reductions.specs.Accepted.{Accepted, accepted}
+use Rattle.engine.specs.State.{greedyRows, greedyPasses}
+use Rattle.engine.specs.Begin.{table-is, zeroRow, length-start, first, first-is, unused, four-rows, bs-count, ok, wide-count, ins-count}
+
+-- padded rows begin as the padded start
+pad-start : (m d : ℕ) (a : m ≤ 4) (b : d ≤ 4) (bs : List Vec) (es : List (List ℤ)) → map (pad 4 4 m d a b) (start bs es) ≡ start (map (padded 4) bs) (map (padded 4) es)
+unfolding pad
+pad-start m d a b [] es = refl
+pad-start m d a b (c ∷ bs) [] = refl
+pad-start m d a b (c ∷ bs) (e ∷ es) = ap (λ l. record { vector = padded 4 c; u = padded 4 e; v = padded 4 e } ∷ l) (pad-start m d a b bs es)
+
+-- ---- lists filled up with zeros
+padded-append : (n k : ℕ) (l : List ℤ) → length l + k ≡ n → l ++ replicate k (pos 0) ≡ padded n l
+padded-append zero zero [] e = refl
+padded-append zero (suc k) [] e = absurd (omega arith)
+padded-append (suc n) zero [] e = absurd (omega arith)
+padded-append (suc n) (suc k) [] e = ap (λ l. pos 0 ∷ l) (padded-append n k [] (omega arith))
+padded-append zero k (x ∷ l) e = absurd (omega arith)
+padded-append (suc n) k (x ∷ l) e = ap (λ r. x ∷ r) (padded-append n k l (omega arith))
+
+map-append : {A B : Type 0} (f : A → B) (k l : List A) → map f (k ++ l) ≡ map f k ++ map f l
+map-append f [] l = refl
+map-append f (x ∷ k) l = ap (λ r. f x ∷ r) (map-append f k l)
+
+map-replicate : {A B : Type 0} (f : A → B) (n : ℕ) (x : A) → map f (replicate n x) ≡ replicate n (f x)
+map-replicate f zero x = refl
+map-replicate f (suc n) x = ap (λ r. f x ∷ r) (map-replicate f n x)
+
+map-every : {A : Type 0} {P : Row → Type 0} (f g : Row → A) → ((r : Row) → P r → f r ≡ g r) → (l : List Row) → Every P l → map f l ≡ map g l
+map-every f g h [] e = refl
+map-every f g h (r ∷ l) e = ap₂ _∷_ (h r (e .0)) (map-every f g h l (e .1))
+
+-- ---- V written out by rows
+-- the table whose row i holds entry i of every row
+unfoldable pub transposed : List (List ℤ) → List (List ℤ)
+transposed t = map (λ i. map (λ r. nth r i) t) (0 ∷ 1 ∷ 2 ∷ 3 ∷ [])
+
+from : ℕ → ℕ → List ℕ
+from i zero = []
+from i (suc h) = i ∷ from (suc i) h
+
+table-from : (rows : List Row) (h i n : ℕ) → n ≤ h → ((j : ℕ) → i + n ≤ j → padded 4 (rowOfV rows j) ≡ padded 4 []) → table h 4 (rowsOfV rows i n) ≡ map (λ j. padded 4 (rowOfV rows j)) (from i h)
+unfolding from
+table-from rows zero i zero k z = refl
+table-from rows zero i (suc n) k z = absurd (omega arith)
+table-from rows (suc h) i zero k z = ap₂ _∷_ (sym (z i (omega arith))) (table-from rows h (suc i) zero (omega arith) (λ j l. z j (omega arith)))
+table-from rows (suc h) i (suc n) k z = ap (λ t. padded 4 (rowOfV rows i) ∷ t) (table-from rows h (suc i) n (omega arith) (λ j l. z j (omega arith)))
+
+module _ (i : Input) (e : firstOf vectorChecks i ≡ 0) where
+  pub accept : Accepted i
+  accept = accepted i e
+
+  pub some : 1 ≤ length (basis i)
+  some = omega (arith, bs-count i e, accept .some)
+
+  pub high : length (basis i) ≤ 4
+  high = omega (arith, bs-count i e, accept .most)
+
+  abbrev pub widen : Row → Row
+  widen = pad 4 4 (i .m) (length (basis i)) (accept .few) high
+
+  abbrev pub R : List Row
+  R = reduction (basis i) .rows
+
+  pub R-count : length R ≡ i .d
+  R-count = reduction-length (i .m) (basis i) (accept .full) some ∙ bs-count i e
+
+  abbrev start-rows : List Row
+  start-rows = start (map (padded 4) (basis i)) (map (padded 4) (units (length (basis i))))
+
+  start-count : length start-rows ≡ i .d
+  start-count = length-start (map (padded 4) (basis i)) (map (padded 4) (units (length (basis i)))) (wide-count (basis i) (unused i e) (four-rows i e) ∙ sym (ins-count (basis i) (unused i e) (four-rows i e)))
+      ∙ ins-count (basis i) (unused i e) (four-rows i e) ∙ bs-count i e
+
+  first-taken : take (i .d) (first i e) ≡ map widen (start (basis i) (units (length (basis i))))
+  first-taken = ap (take (i .d)) (first-is i e) ∙ ap (λ n. take n (start-rows ++ replicate (unused i e) zeroRow)) (sym start-count) ∙ take-append-seam start-rows (replicate (unused i e) zeroRow)
+      ∙ sym (pad-start (i .m) (length (basis i)) (accept .few) high (basis i) (units (length (basis i))))
+
+  first-dropped : drop (i .d) (first i e) ≡ replicate (unused i e) zeroRow
+  first-dropped = ap (drop (i .d)) (first-is i e) ∙ ap (λ n. drop n (start-rows ++ replicate (unused i e) zeroRow)) (sym start-count) ∙ drop-append-seam start-rows (replicate (unused i e) zeroRow)
+
+  greedy-first : greedy (i .d) (take (i .d) (first i e)) ≡ pad-counted 4 4 (i .m) (length (basis i)) (accept .few) high (reduction (basis i))
+  greedy-first = ap₂ greedy (sym (bs-count i e)) first-taken
+      ∙ greedy-padded 4 4 (i .m) (length (basis i)) (accept .few) high (length (basis i)) (start (basis i) (units (length (basis i))))
+        (length-start (basis i) (units (length (basis i))) (length-units (length (basis i)))) (sized-start (i .m) (basis i) (accept .full))
+
+  -- the rows after the greedy steps, and their passes
+  pub last-rows : greedyRows (i .d) (first i e) ≡ map widen R ++ replicate (unused i e) zeroRow
+  unfolding pad-counted
+  last-rows = ap₂ (λ c t. c .rows ++ t) greedy-first first-dropped
+
+  pub last-passes : greedyPasses (i .d) (first i e) ≡ reduction (basis i) .passes
+  unfolding pad-counted
+  last-passes = ap (λ c. c .passes) greedy-first
+
+  n : ℕ
+  n = unused i e
+
+  full : length R + n ≡ 4
+  unfolding n
+  full = omega (arith, R-count, four-rows i e, bs-count i e)
+
+  -- a table of the rows: the vectors, U, the columns of V
+  table-of : (f : Row → List ℤ) → ((r : Row) → f (widen r) ≡ padded 4 (f r)) → f zeroRow ≡ padded 4 [] → map f (map widen R ++ replicate (unused i e) zeroRow) ≡ table 4 4 (map f R)
+  unfolding n
+  table-of f p z =
+      map-append f (map widen R) (replicate n zeroRow) ∙ ap₂ _++_ (both R) (map-replicate f n zeroRow ∙ ap (replicate n) z)
+      ∙ sym (table-is 4 4 n (map f R) (omega (arith, length-map R f, full)))
+    where
+      both : (l : List Row) → map f (map widen l) ≡ map (padded 4) (map f l)
+      both [] = refl
+      both (r ∷ l) = ap₂ _∷_ (p r) (both l)
+
+  pub last-vectors : map (λ r. r .vector) (greedyRows (i .d) (first i e)) ≡ table 4 4 (vectors R)
+  unfolding pad
+  last-vectors = ap (map (λ r. r .vector)) last-rows ∙ table-of (λ r. r .vector) (λ r. refl) refl
+
+  pub last-u : map (λ r. r .u) (greedyRows (i .d) (first i e)) ≡ table 4 4 (map (λ r. r .u) R)
+  unfolding pad
+  last-u = ap (map (λ r. r .u)) last-rows ∙ table-of (λ r. r .u) (λ r. refl) refl
+
+  columns : map (λ r. r .v) (greedyRows (i .d) (first i e)) ≡ table 4 4 (map (λ r. r .v) R)
+  unfolding pad
+  columns = ap (map (λ r. r .v)) last-rows ∙ table-of (λ r. r .v) (λ r. refl) refl
+
+  sized : Every (Sized (i .m) (length (basis i))) R
+  sized = reduction-sized (i .m) (basis i) (accept .full) some
+
+  -- row j of the columns is row j of V
+  row-of : (j : ℕ) → map (λ r. nth r j) (table 4 4 (map (λ r. r .v) R)) ≡ padded 4 (rowOfV R j)
+  row-of j =
+      ap (map (λ r. nth r j)) (table-is 4 4 n (map (λ r. r .v) R) (omega (arith, length-map R (λ r. r .v), full)))
+      ∙ map-append (λ r. nth r j) (map (padded 4) (map (λ r. r .v) R)) (replicate n (padded 4 []))
+      ∙ ap₂ _++_ (entries R sized) (map-replicate (λ r. nth r j) n (padded 4 []) ∙ ap (replicate n) (nth-padded 4 [] (omega arith) j))
+      ∙ padded-append 4 n (rowOfV R j) (omega (arith, length-map R (λ r. nth (r .v) j), full))
+    where
+      entries : (l : List Row) → Every (Sized (i .m) (length (basis i))) l → map (λ r. nth r j) (map (padded 4) (map (λ r. r .v) l)) ≡ rowOfV l j
+      entries [] s = refl
+      entries (r ∷ l) s = ap₂ _∷_ (nth-padded 4 (r .v) (omega (arith, s .0 .v, high)) j) (entries l (s .1))
