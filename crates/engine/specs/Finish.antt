@@ -4,13 +4,15 @@ use mathlib.Core.List.{List, [], _∷_, _++_, map}
 use Prim.Native.Nat.{ℕ, zero, suc, _+_, _-_, _≤_, _<_}
 use native.Mathlib.Omega.{arith}
 use lib.IntN.{ℤ, pos}
-use lib.ListN.{length, getD, take, drop, replicate, length-map}
+use lib.ListN.{length, getD, take, drop, replicate, length-map, List·getD-eq-default}
 use lib.Seq.{take-append-seam, drop-append-seam}
+use Rattle.integers.specs.Lists.{same}
 use Rattle.lattices.specs.Vector.{Vec, N, nth}
+use Rattle.lattices.specs.VectorLaws.{nil-dot}
 use Rattle.lattices.specs.Greedy.{Row, Counted, vectors, units, start, greedy, reduction}
 use Rattle.lattices.specs.Refusal.{Input, basis, firstOf, vectorChecks}
 use Rattle.lattices.specs.Answer.{padded, table, rowOfV, rowsOfV, reductionGiven}
-use Rattle.lattices.specs.AnswerLaws.{nth-padded}
+use Rattle.lattices.specs.AnswerLaws.{length-padded, nth-padded}
 use Rattle.reductions.specs.Every.{Every}
 use Rattle.reductions.specs.Start.{Sized, sized-start, length-units}
 use Rattle.reductions.specs.Exactness.{reduction-length, reduction-sized}
@@ -99,7 +101,7 @@ module _ (i : Input) (e : firstOf vectorChecks i ≡ 0) where
   greedy-first : greedy (i .d) (take (i .d) (first i e)) ≡ pad-counted 4 4 (i .m) (length (basis i)) (accept .few) high (reduction (basis i))
   greedy-first = ap₂ greedy (sym (bs-count i e)) first-taken
       ∙ greedy-padded 4 4 (i .m) (length (basis i)) (accept .few) high (length (basis i)) (start (basis i) (units (length (basis i))))
-        (length-start (basis i) (units (length (basis i))) (length-units (length (basis i)))) (sized-start (i .m) (basis i) (accept .full))
+      (length-start (basis i) (units (length (basis i))) (length-units (length (basis i)))) (sized-start (i .m) (basis i) (accept .full))
 
   -- the rows after the greedy steps, and their passes
   pub last-rows : greedyRows (i .d) (first i e) ≡ map widen R ++ replicate (unused i e) zeroRow
@@ -154,3 +156,29 @@ module _ (i : Input) (e : firstOf vectorChecks i ≡ 0) where
       entries : (l : List Row) → Every (Sized (i .m) (length (basis i))) l → map (λ r. nth r j) (map (padded 4) (map (λ r. r .v) l)) ≡ rowOfV l j
       entries [] s = refl
       entries (r ∷ l) s = ap₂ _∷_ (nth-padded 4 (r .v) (omega (arith, s .0 .v, high)) j) (entries l (s .1))
+
+  zero-entries : (j : ℕ) → length (basis i) ≤ j → (l : List Row) → Every (Sized (i .m) (length (basis i))) l → (k : ℕ) → nth (rowOfV l j) k ≡ pos 0
+  zero-entries j h [] s k = refl
+  zero-entries j h (r ∷ l) s zero = List·getD-eq-default (r .v) (pos 0) (omega (arith, s .0 .v))
+  zero-entries j h (r ∷ l) s (suc k) = zero-entries j h l (s .1) k
+
+  zero-row : (j : ℕ) → 0 + length R ≤ j → padded 4 (rowOfV R j) ≡ padded 4 []
+  zero-row j h = same (length-padded 4 (rowOfV R j) ∙ sym (length-padded 4 []))
+      (λ k. nth-padded 4 (rowOfV R j) (omega (arith, length-map R (λ r. nth (r .v) j), R-count, bs-count i e, high)) k
+      ∙ zero-entries j (omega (arith, R-count, bs-count i e)) R sized k ∙ sym (nth-padded 4 [] (omega arith) k))
+
+  pub last-v : transposed (map (λ r. r .v) (greedyRows (i .d) (first i e))) ≡ table 4 4 (rowsOfV R 0 (length R))
+  unfolding transposed from
+  last-v = ap transposed columns ∙ (λ k. row-of 0 k ∷ row-of 1 k ∷ row-of 2 k ∷ row-of 3 k ∷ [])
+      ∙ sym (table-from R 4 0 (length R) (omega (arith, R-count, bs-count i e, high)) zero-row)
+
+  pub last-squares : map N (map (λ r. r .vector) (greedyRows (i .d) (first i e))) ≡ padded 4 (map (λ r. N (r .vector)) R)
+  last-squares =
+      ap (map N) (last-vectors ∙ table-is 4 4 n (vectors R) (omega (arith, length-map R (λ r. r .vector), full)))
+      ∙ map-append N (map (padded 4) (vectors R)) (replicate n (padded 4 []))
+      ∙ ap₂ _++_ (squares R sized) (map-replicate N n (padded 4 []) ∙ ap (replicate n) (padded-N 4 [] (omega arith) ∙ nil-dot []))
+      ∙ padded-append 4 n (map (λ r. N (r .vector)) R) (omega (arith, length-map R (λ r. N (r .vector)), full))
+    where
+      squares : (l : List Row) → Every (Sized (i .m) (length (basis i))) l → map N (map (padded 4) (vectors l)) ≡ map (λ r. N (r .vector)) l
+      squares [] s = refl
+      squares (r ∷ l) s = ap₂ _∷_ (padded-N 4 (r .vector) (omega (arith, s .0 .vector, accept .few))) (squares l (s .1))
