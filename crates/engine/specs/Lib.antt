@@ -6,3 +6,4 @@ pub mod Pass
 pub mod Turn
 pub mod Begin
 pub mod Finish
+pub mod Few
