@@ -1,0 +1,1 @@
+-- The nearest vector among at most four reduced ones, by layers of the last.
