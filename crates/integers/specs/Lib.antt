@@ -6,6 +6,7 @@ pub mod Order
 pub mod Certificate
 pub mod Linear
 pub mod Division
+pub mod Sign
 pub mod Size
 pub mod Lists
 pub mod Lex

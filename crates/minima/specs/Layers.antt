@@ -19,7 +19,8 @@ use Rattle.minima.specs.Values.{gain, change}
 use Rattle.minima.specs.ValueLaws.{gain-≈, gain-shift}
 use Rattle.minima.specs.Rounding.{≤-up, loss, loss-bound, dent-third, Above, nonneg-≈, above-≈, round}
 use Rattle.minima.specs.Reduced.{Top}
-use Rattle.minima.specs.ReducedLaws.{Sign, by-sign, sign-⊙, rounded}
+use Rattle.integers.specs.Sign.{Sign, by-sign}
+use Rattle.minima.specs.ReducedLaws.{sign-⊙, rounded}
 use Rattle.minima.specs.Snoc.{snoc-≈, units, comb-units, fit, length-fit, comb-fit, fit-units}
 
 -- no list whose last coefficient is j has a value below

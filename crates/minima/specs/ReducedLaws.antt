@@ -7,29 +7,19 @@ use native.Mathlib.Omega.{arith}
 use lib.IntN.{ℤ, pos, negsuc, natAbs, _+ℤ_, _-ℤ_, _*ℤ_, zero-*ℤ}
 use lib.Signed.{_≤ℤ_, <ℤ-irrefl, ltZ-yes, <ℤ-≤ℤ-trans}
 use lib.ListN.{length, getD, length-reverse}
-use Rattle.integers.specs.Ring.{*ℤ-pos-one, pos-one-*ℤ, negsuc-zero-*ℤ}
+use Rattle.integers.specs.Ring.{*ℤ-pos-one}
 use Rattle.integers.specs.Identity.{by-ring, by-eq, reads}
 use Rattle.integers.specs.Order.{≤ℤ-trans, zero-or-not, *ℤ-cancel-≤}
 use Rattle.integers.specs.Certificate.{NN, _⊞_, _⊠_, nn-sq, nn-pos, le, eq, by-nn}
 use Rattle.integers.specs.Division.{up}
+use Rattle.integers.specs.Sign.{Sign, by-sign}
 use Rattle.lattices.specs.Vector.{Vec, N, Zero, Independent, nth, dot, comb, _⊕_, _⊙_}
 use Rattle.lattices.specs.VectorLaws.{dot-comm, nil-dot, bilinear, N-nonneg, comb-⊙, comb-cons, _≈_, ≈-refl, ≈-sym, ≈-trans, ≈-⊕, ≈-N, zero-dot, definite, Zero-≈, ≈-Zero, comb-reverse}
 use Rattle.minima.specs.Rounding.{≤-up, loss, loss-bound, dent-fourth, round-N}
 use Rattle.minima.specs.Snoc.{N-reverse, fit, length-fit, comb-fit}
 use Rattle.minima.specs.Reduced.{Under, Top, Descending, Reduced}
 
--- ---- signs: 1 and −1
-pub record Sign (s : ℤ) : Type 0 where
-  pub square : s *ℤ s ≡ pos 1
-  pub size : natAbs s ≡ 1
-
--- an integer is 0, or it is ±n with n ≥ 1
-pub by-sign : (P : ℤ → Type 0) → P (pos 0) → ((k : ℕ) (s x : ℤ) → Sign s → x ≡ s *ℤ up k → natAbs x ≡ suc k → P x) → (x : ℤ) → P x
-unfolding up
-by-sign P z f (pos zero) = z
-by-sign P z f (pos (suc k)) = f k (pos 1) (pos (suc k)) (record { square = refl; size = refl }) (sym (pos-one-*ℤ (pos (suc k)))) refl
-by-sign P z f (negsuc k) = f k (negsuc 0) (negsuc k) (record { square = refl; size = refl }) (sym (negsuc-zero-*ℤ (pos (suc k)))) refl
-
+-- ---- vectors with a sign
 pub sign-⊙ : (n s : ℤ) {x : ℤ} (b : Vec) → x ≡ s *ℤ n → n ⊙ (s ⊙ b) ≈ x ⊙ b
 sign-⊙ n s b e = record { on = λ w. rw e (simp bilinear (by-ring (n ∷ s ∷ dot b w ∷ []) (search reads) (search reads) tt)) }
 
