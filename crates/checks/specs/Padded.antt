@@ -14,11 +14,11 @@ use lib.Seq.{take-all, drop-drop, getD-drop}
 use lib.Dec.{ltb}
 use lib.Signed.{ltZ}
 use Rattle.lattices.specs.Vector.{Vec, nth, comb, Dependent}
-use Rattle.lattices.specs.VectorLaws.{_≈_, ≈-refl, ≈-⊕, ≈-⊙, ≈-N, ≈-nth, nth-≈}
+use Rattle.lattices.specs.VectorLaws.{_≈_, ≈-refl, ≈-⊕, ≈-⊙, ≈-N, ≈-nth}
 use Rattle.lattices.specs.Volume.{isDependent}
 use Rattle.lattices.specs.Refusal.{vectorsOf, any, tooLong, mostSize, mostSquare}
 use Rattle.lattices.specs.Answer.{padded, table}
-use Rattle.lattices.specs.AnswerLaws.{length-padded, nth-padded, padded-≈}
+use Rattle.lattices.specs.AnswerLaws.{length-padded, padded-≈}
 use Rattle.volumes.specs.Dependence.{Fit, dependent-exactly}
 
 -- ---- one coordinate more, one row more, as code stores them

@@ -1,7 +1,7 @@
 -- Vectors, length, combinations, the lattice of a list, dependence and distance, as document 01 uses the words ("What is sold").
 use mathlib.Core.Path.{_≡_}
 use mathlib.Core.List.{List, [], _∷_}
-use Prim.Native.Nat.{ℕ, zero, suc}
+use Prim.Native.Nat.{ℕ, zero}
 use lib.IntN.{ℤ, pos, _+ℤ_, _*ℤ_}
 use lib.ListN.{length}
 -- entries, sum, difference and multiple of lists of numbers

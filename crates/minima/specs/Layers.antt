@@ -14,7 +14,7 @@ use Rattle.integers.specs.Division.{up, up-pos}
 use Rattle.integers.specs.Lists.{length-⊖-same}
 use Rattle.integers.specs.Lex.{Nonneg, nonneg-⊕, nonneg-raise, nonneg-unscale}
 use Rattle.lattices.specs.Vector.{Vec, N, dot, comb, _⊕_, _⊙_, _⊖_}
-use Rattle.lattices.specs.VectorLaws.{dot-comm, bilinear, N-nonneg, comb-dot, unit, _≈_, ≈-refl, ≈-sym, ≈-trans, ≈-⊕, ≈-N, comb-snoc}
+use Rattle.lattices.specs.VectorLaws.{bilinear, N-nonneg, comb-dot, unit, _≈_, ≈-refl, ≈-sym, ≈-trans, ≈-⊕, ≈-N, comb-snoc}
 use Rattle.minima.specs.Values.{gain, change}
 use Rattle.minima.specs.ValueLaws.{gain-≈, gain-shift}
 use Rattle.minima.specs.Rounding.{≤-up, loss, loss-bound, dent-third, Above, nonneg-≈, above-≈, round}

@@ -10,11 +10,10 @@ use lib.IntN.{ℤ, pos}
 use lib.Signed.{_≤ℤ_, _<ℤ_, ≤ℤ-refl, <ℤ-irrefl}
 use lib.ListN.{length, getD, take, length-take, length-reverse, List·getD-eq-default, List·getD-append}
 use Rattle.integers.specs.Order.{≤ℤ-trans, ≤ℤ-or-<ℤ, ≤ℤ-<ℤ-trans, zero-or-not}
-use Rattle.integers.specs.Certificate.{NN}
 use Rattle.lattices.specs.Vector.{Vec, N, nth, comb, _⊙_, In, Dependent, Independent}
-use Rattle.lattices.specs.VectorLaws.{_≈_, ≈-refl, ≈-sym, ≈-trans, ≈-of-≡, ≈-⊕, ≈-⊙, ≈-N, ≈-Zero, Zero-≈, nth-≈, nil-dot, N-nonneg, comb-⊕, comb-⊙, comb-≈, comb-nil, comb-none, comb-reverse}
+use Rattle.lattices.specs.VectorLaws.{_≈_, ≈-refl, ≈-sym, ≈-trans, ≈-of-≡, ≈-⊕, ≈-⊙, ≈-N, ≈-Zero, Zero-≈, nth-≈, N-nonneg, comb-⊕, comb-⊙, comb-≈, comb-nil, comb-none, comb-reverse}
 use Rattle.volumes.specs.Dependence.{Fit, too-many}
-use Rattle.minima.specs.Reduced.{Under, Descending, Reduced}
+use Rattle.minima.specs.Reduced.{Descending, Reduced}
 use Rattle.minima.specs.ReducedLaws.{any, under}
 
 -- every element of a list has P

@@ -1,22 +1,22 @@
 -- The law of `nearest`: for a reduced list of at most four vectors no integer list has a smaller value, and no other list has as small a one.
 use mathlib.Core.Path.{_≡_, refl, sym, ap, _∙_, subst}
-use mathlib.Core.Logic.{_⊎_, inl, inr, ⊎-elim}
+use mathlib.Core.Logic.{⊎-elim}
 use mathlib.Core.Bool.{Bool, true, false, false≢true}
 use mathlib.Core.List.{List, [], _∷_, _++_, reverse, reverse-cons, reverse-reverse}
 use Prim.Native.Nat.{ℕ, zero, suc, _+_, _*_, _≤_, _<_, zero-le}
 use native.Mathlib.Nat.{mul-le-mul}
 use native.Mathlib.Omega.{arith}
 use native.Mathlib.Decide.{ℕ-discrete}
-use lib.IntN.{ℤ, pos, negsuc, negℤ, natAbs, _+ℤ_, _-ℤ_, _*ℤ_, zero-*ℤ}
-use lib.Signed.{leZ, _≤ℤ_, _<ℤ_, leZ-yes, ≤ℤ-refl, clashℤ}
+use lib.IntN.{ℤ, pos, negsuc, negℤ, natAbs, _+ℤ_, _*ℤ_, zero-*ℤ}
+use lib.Signed.{_≤ℤ_, _<ℤ_, leZ-yes, ≤ℤ-refl, clashℤ}
 use lib.Dec.{leb→le, le→leb}
 use lib.ListN.{length, length-append, length-reverse, replicate, length-replicate}
 use Rattle.integers.specs.Identity.{by-ring, reads}
 use Rattle.integers.specs.Order.{≤ℤ-or-<ℤ, ≤ℤ-trans, ≤ℤ-leZ, leZ-true, leZ-false}
 use Rattle.integers.specs.Certificate.{NN, nn-pos, _⊞_, _⊠_, le, lt, by-nn, nn-false}
-use Rattle.integers.specs.Lex.{below-irrefl, below-asymm, below-negtrans, below-antisymm, below-last, below-<, below->, below-≡}
-use Rattle.lattices.specs.Vector.{Vec, N, nth, dot, _⊕_, _⊙_, _⊖_, comb}
-use Rattle.lattices.specs.VectorLaws.{_≈_, ≈-trans, ≈-N, nil-dot, dot-⊙, bilinear, dot-comm, N-nonneg, comb-cons, comb-none, comb-zero, ⊖-zero, comb-snoc, comb-reverse}
+use Rattle.integers.specs.Lex.{below-irrefl, below-asymm, below-negtrans, below-last, below-<, below->, below-≡}
+use Rattle.lattices.specs.Vector.{Vec, N, nth, dot, _⊙_, _⊖_, comb}
+use Rattle.lattices.specs.VectorLaws.{_≈_, ≈-N, nil-dot, dot-⊙, bilinear, N-nonneg, comb-cons, comb-none, comb-zero, ⊖-zero, comb-snoc, comb-reverse}
 use Rattle.lattices.specs.Nearest.{value, below, lesser, outward, near, least, nearest}
 use Rattle.volumes.specs.Sizes.{near-le}
 use Rattle.minima.specs.Values.{Least}

@@ -1,6 +1,6 @@
 -- Interpolation and rounding: a lower bound on all points c + comb z bs holds at the points of the n times finer grid up to a `loss`.
 -- The bound is one of lists (`Nonneg`: a number, then the tie list), so the version for numbers alone is the one with an empty tie list.
-use mathlib.Core.Path.{_≡_, refl, sym, ap, ap₂, _∙_, subst}
+use mathlib.Core.Path.{_≡_, refl, sym, ap, _∙_, subst}
 use mathlib.Core.Logic.{⊎-elim, inr}
 use mathlib.Core.List.{List, [], _∷_, tail}
 use Prim.Native.Nat.{ℕ, zero, suc, _≤_}
@@ -10,13 +10,13 @@ use lib.IntN.{ℤ, pos, negℤ, _+ℤ_, _-ℤ_, _*ℤ_, *ℤ-zero, +ℤ-one, +�
 use lib.Signed.{_≤ℤ_, _<ℤ_, ltZ-yes, leZ-yes}
 use lib.ListN.{length, getD}
 use Rattle.integers.specs.Identity.{by-ring, by-eq, reads}
-use Rattle.integers.specs.Order.{≤ℤ-of-<ℤ, ≤ℤ-of-≡, ≤ℤ-antisymm, ≤ℤ-or-<ℤ, *ℤ-cancel-≤}
+use Rattle.integers.specs.Order.{≤ℤ-of-<ℤ, ≤ℤ-antisymm, ≤ℤ-or-<ℤ, *ℤ-cancel-≤}
 use Rattle.integers.specs.Certificate.{NN, _⊞_, _⊠_, nn-sq, nn-pos, nn-ring, le, lt, eq, by-nn}
 use Rattle.integers.specs.Division.{up, quot, rest, up-pos, quot-rest, rest-nonneg, rest-lt}
 use Rattle.integers.specs.Lists.{entries}
 use Rattle.integers.specs.Lex.{Nonneg, head-nonneg, nonneg-⊕, nonneg-⊙, nonneg-cancel, nonneg-ext, nonneg-scale, nonneg-raise, nonneg-zeros}
 use Rattle.lattices.specs.Vector.{Vec, N, nth, dot, comb, _⊕_, _⊙_}
-use Rattle.lattices.specs.VectorLaws.{dot-comm, dot-nil, nil-dot, dot-⊕, dot-⊙, dot-⊙ʳ, bilinear, N-nonneg, comb-dot, _≈_, ≈-refl, ≈-sym, ≈-trans, ≈-⊕, ≈-N, ≈-nth, ≈-Zero}
+use Rattle.lattices.specs.VectorLaws.{dot-comm, dot-nil, nil-dot, dot-⊕, dot-⊙, dot-⊙ʳ, bilinear, N-nonneg, comb-dot, _≈_, ≈-refl, ≈-sym, ≈-trans, ≈-⊕, ≈-nth, ≈-Zero}
 use Rattle.minima.specs.Values.{gain}
 use Rattle.minima.specs.ValueLaws.{gain-≈}
 use Rattle.minima.specs.Reduced.{Under}

@@ -1,19 +1,18 @@
 -- What an accepted input is: the checks of the table of refusals, read as facts.
-use mathlib.Core.Path.{_≡_, refl, sym, ap, _∙_, subst}
+use mathlib.Core.Path.{_≡_, refl, sym, _∙_, subst}
 use mathlib.Core.Logic.{_≢_}
 use mathlib.Core.Bool.{Bool, true, false, not, _&&_, _||_, false≢true, true≢false}
-use mathlib.Core.List.{List, [], _∷_, _++_}
-use Prim.Native.Nat.{ℕ, zero, suc, _+_, _*_, _-_, _≤_, _<_, min}
+use mathlib.Core.List.{List, [], _∷_}
+use Prim.Native.Nat.{ℕ, zero, suc, _*_, _≤_}
 use native.Mathlib.Omega.{arith}
 use lib.IntN.{ℤ, pos, natAbs}
-use lib.Signed.{ltZ, leZ, _≤ℤ_, _<ℤ_}
+use lib.Signed.{ltZ, _≤ℤ_, _<ℤ_}
 use lib.Dec.{T, leb, ltb, eqb, leb→le, eqb→eq}
-use lib.ListN.{length, take, drop, length-take, length-drop}
+use lib.ListN.{length, drop, length-take, length-drop}
 use Rattle.integers.specs.Order.{ltZ-false, leZ-false}
-use Rattle.lattices.specs.Vector.{Vec, N, Independent}
+use Rattle.lattices.specs.Vector.{Vec, N}
 use Rattle.lattices.specs.Volume.{squaredVolume, isDependent}
-use Rattle.lattices.specs.Refusal.{Input, vectorsOf, basis, oneTo, any, tooLong, Check, firstOf, vectorChecks, targetChecks, mostVectors, mostCoordinates, mostSquare, mostSize}
-use Rattle.volumes.specs.Dependence.{independent-of-positive}
+use Rattle.lattices.specs.Refusal.{Input, vectorsOf, basis, oneTo, any, tooLong, Check, firstOf, vectorChecks, mostVectors, mostCoordinates, mostSquare, mostSize}
 use Rattle.minima.specs.Minima.{All}
 use Rattle.reductions.specs.Start.{Coordinates}
 

@@ -2,18 +2,18 @@
 -- service is the last declaration, and the record before it says what holds.
 use mathlib.Core.Path.{_≡_, refl, sym, ap, ap₂, _∙_, subst}
 use mathlib.Core.Logic.{_≢_, _↔_}
-use mathlib.Core.Bool.{Bool, true, false, not}
+use mathlib.Core.Bool.{Bool, true, false}
 use mathlib.Core.List.{List, [], _∷_, _++_, map}
 use Prim.Native.Nat.{ℕ, zero, suc, _≤_, _<_}
 use native.Mathlib.Omega.{arith}
-use lib.IntN.{ℤ, pos}
+use lib.IntN.{ℤ}
 use lib.Signed.{_≤ℤ_}
 use lib.ListN.{length, getD, take, length-map}
 use Rattle.lattices.specs.Vector.{Vec, N, comb, distance, In, Independent}
 use Rattle.lattices.specs.Nearest.{nearest}
-use Rattle.lattices.specs.Greedy.{Row, Counted, vectors, units, reduction}
+use Rattle.lattices.specs.Greedy.{Row, vectors, units, reduction}
 use Rattle.lattices.specs.Refusal.{Input, Check, basis, firstOf, vectorChecks, targetChecks, mostVectors, mostCoordinates}
-use Rattle.lattices.specs.Answer.{padded, table, rowsOfV, Reduction, Nearest, reductionGiven, noReduction, reductionOf, nearestGiven, noNearest, nearestOf}
+use Rattle.lattices.specs.Answer.{table, rowsOfV, Reduction, Nearest, reductionGiven, noReduction, reductionOf, nearestGiven, noNearest, nearestOf}
 use Rattle.lattices.specs.AnswerLaws.{take-padded, length-vectorsOf}
 use Rattle.minima.specs.NearestLaws.{nearest-least, nearest-count}
 use Rattle.minima.specs.Minima.{All, Some, successive}
@@ -22,7 +22,7 @@ use Rattle.reductions.specs.Start.{Coordinates, sized-vectors, sized-us}
 use Rattle.reductions.specs.Exactness.{comb-full, reduction-length, reduction-sized, reduction-u, reduction-v, reduction-vu}
 use Rattle.reductions.specs.Output.{least-N}
 use Rattle.reductions.specs.Lattice.{rows-of-v, length-rows-of-v, reduction-lattice, reduction-reduced, reduction-uv}
-use Rattle.reductions.specs.Accepted.{Accepted, accepted, passed}
+use Rattle.reductions.specs.Accepted.{Accepted, accepted}
 
 -- ---- an answer without its unused places
 -- the first h rows of a table, each with its first w numbers

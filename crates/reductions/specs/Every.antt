@@ -1,9 +1,7 @@
 -- A property of every row, and what the moves must do to a row to keep it.
-use mathlib.Core.Path.{_≡_}
 use mathlib.Core.List.{List, [], _∷_, _++_}
 use lib.IntN.{ℤ}
 use lib.Signed.{_≤ℤ_}
-use lib.ListN.{length}
 use Rattle.lattices.specs.Vector.{N, _⊕_, _⊙_}
 use Rattle.lattices.specs.Permutation.{Perm, same, skip, swap, then}
 use Rattle.lattices.specs.Greedy.{Row, less, credited}

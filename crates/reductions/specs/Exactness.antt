@@ -3,13 +3,13 @@ use mathlib.Core.Path.{_≡_, refl, sym, ap, ap₂, _∙_, subst}
 use mathlib.Core.List.{List, [], _∷_, map}
 use Prim.Native.Nat.{ℕ, zero, suc, _+_, _≤_, _<_}
 use native.Mathlib.Omega.{arith}
-use lib.IntN.{ℤ, pos, _+ℤ_, _*ℤ_}
+use lib.IntN.{ℤ, _+ℤ_}
 use lib.ListN.{length, getD, drop, length-map, drop-of-length-le}
 use lib.Seq.{drop-cons}
 use Rattle.integers.specs.Lists.{length-⊕, length-⊙}
-use Rattle.lattices.specs.Vector.{Vec, nth, dot, _⊕_, _⊙_, comb}
-use Rattle.lattices.specs.VectorLaws.{_≈_, ≈-≡, nil-dot, dot-⊕, dot-⊙}
-use Rattle.lattices.specs.Greedy.{Row, Counted, vectors, units, start, greedy, reduction}
+use Rattle.lattices.specs.Vector.{Vec, nth, dot, _⊙_, comb}
+use Rattle.lattices.specs.VectorLaws.{≈-≡, nil-dot, dot-⊕, dot-⊙}
+use Rattle.lattices.specs.Greedy.{Row, vectors, units, start, greedy, reduction}
 use Rattle.lattices.specs.Answer.{rowOfV, rowsOfV}
 use Rattle.reductions.specs.Moves.{Moves, moves-length, greedy-moves, length-vectors}
 use Rattle.reductions.specs.Every.{Every}

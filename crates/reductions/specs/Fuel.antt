@@ -1,19 +1,19 @@
 -- The fuel of the greedy definition is always enough: the six steps hold as an equation without it.
 use mathlib.Core.Path.{_≡_, refl, sym, ap, _∙_, subst}
 use mathlib.Core.Bool.{Bool, true, false, cond, false≢true}
-use mathlib.Core.List.{List, [], _∷_, _++_}
-use Prim.Native.Nat.{ℕ, zero, suc, _+_, _≤_, _<_}
+use mathlib.Core.List.{List, [], _∷_}
+use Prim.Native.Nat.{ℕ, zero, suc, _+_, _<_}
 use native.Mathlib.Omega.{arith}
-use lib.IntN.{ℤ, pos, negsuc, natAbs, _+ℤ_, +ℤ-idr}
-use lib.Signed.{_≤ℤ_, _<ℤ_, <ℤ-≤ℤ-trans}
+use lib.IntN.{ℤ, pos, negsuc, natAbs, _+ℤ_}
+use lib.Signed.{_<ℤ_, <ℤ-≤ℤ-trans}
 use lib.Dec.{ltb→lt}
 use lib.ListN.{length}
-use Rattle.integers.specs.Identity.{by-ring, reads}
+use Rattle.integers.specs.Identity.{reads}
 use Rattle.integers.specs.Order.{ltZ-true}
 use Rattle.integers.specs.Certificate.{NN, _⊞_, le, lt, by-lt}
 use Rattle.lattices.specs.Vector.{N}
 use Rattle.lattices.specs.Permutation.{perm-length}
-use Rattle.lattices.specs.Greedy.{Row, vectors, order, lastOf, before, less, credited, Counted, Pass, pass, round, shorter, joined, repeat, total, greedy}
+use Rattle.lattices.specs.Greedy.{Row, vectors, order, lastOf, before, Counted, Pass, pass, round, shorter, joined, repeat, total, greedy}
 use Rattle.reductions.specs.Moves.{Moves, Moving, order-perm, before-last, length-before, moves-length, ordered-moves, greedy-moves}
 use Rattle.reductions.specs.Lengths.{NoLonger, moves-no-longer, no-longer-credited, last-no-longer, total-append, total-credited, total-nonneg, perm-total, moves-total, order-sorted, sorted-last, Sorted}
 

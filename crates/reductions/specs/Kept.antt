@@ -1,23 +1,23 @@
 -- The squared volume is kept by every move, so a list that is independent stays so.
 use mathlib.Core.Path.{_≡_, refl, sym, ap, ap₂, _∙_, subst}
 use mathlib.Core.Logic.{⊎-elim}
-use mathlib.Core.Bool.{Bool, true, false}
-use mathlib.Core.List.{List, [], _∷_, _++_, map, append-nil}
-use Prim.Native.Nat.{ℕ, zero, suc}
+use mathlib.Core.Bool.{true, false}
+use mathlib.Core.List.{List, [], _∷_, _++_, append-nil}
+use Prim.Native.Nat.{ℕ, suc}
 use native.Mathlib.Omega.{arith}
-use lib.IntN.{ℤ, pos, negsuc, _+ℤ_, _-ℤ_, _*ℤ_}
+use lib.IntN.{ℤ, pos, negsuc, _-ℤ_, _*ℤ_}
 use lib.Signed.{_≤ℤ_, _<ℤ_}
 use lib.ListN.{length}
 use Rattle.integers.specs.Identity.{by-ring, reads}
 use Rattle.integers.specs.Order.{≤ℤ-or-<ℤ}
-use Rattle.integers.specs.Certificate.{NN, _⊞_, _⊠_, le, lt, by-lt, nn-false}
+use Rattle.integers.specs.Certificate.{_⊞_, _⊠_, le, lt, by-lt, nn-false}
 use Rattle.lattices.specs.Vector.{Vec, N, nth, dot, _⊕_, _⊙_, _⊖_, comb}
 use Rattle.lattices.specs.VectorLaws.{_≈_, ≈-nth, N-nonneg, bilinear, comb-⊙, comb-cons}
 use Rattle.lattices.specs.Permutation.{Perm, same, skip, swap, then, perm-map, perm-last}
-use Rattle.lattices.specs.Volume.{Index, Form, head, rest, wedge, volume, inner, squaredVolume}
+use Rattle.lattices.specs.Volume.{Index, Form, head, rest, wedge, volume, squaredVolume}
 use Rattle.lattices.specs.Greedy.{Row, vectors, less, credited}
 use Rattle.volumes.specs.Forms.{inner-on, inner-comm}
-use Rattle.volumes.specs.Exterior.{wedge-bound, inner-nonneg}
+use Rattle.volumes.specs.Exterior.{wedge-bound}
 use Rattle.volumes.specs.Hadamard.{hadamard}
 use Rattle.volumes.specs.Cramer.{step-keeps, perm-keeps}
 use Rattle.reductions.specs.Moves.{Moves, none, after, exchange, subtract, vectors-credited, vectors-append, length-vectors}

@@ -1,24 +1,24 @@
 -- The reduction generates the lattice of its input and no other, and U·V is the unit table too.
-use mathlib.Core.Path.{_≡_, refl, sym, ap, ap₂, _∙_, subst}
+use mathlib.Core.Path.{_≡_, refl, sym, ap, _∙_, subst}
 use mathlib.Core.Logic.{_↔_}
 use mathlib.Core.List.{List, [], _∷_, map}
 use Prim.Native.Nat.{ℕ, zero, suc, _≤_, _<_}
 use native.Mathlib.Omega.{arith}
 use lib.IntN.{ℤ, pos, negsuc, _+ℤ_, _*ℤ_}
 use lib.Signed.{_<ℤ_}
-use lib.ListN.{length, getD, length-map, List·getD-map}
+use lib.ListN.{length, getD, length-map}
 use lib.Seq.{ext-getD}
 use Rattle.integers.specs.Ring.{ -ℤ-zero}
 use Rattle.integers.specs.Identity.{by-ring, reads}
-use Rattle.integers.specs.Lists.{same, nth-⊕, nth-⊙}
-use Rattle.lattices.specs.Vector.{Vec, nth, dot, _⊕_, _⊙_, _⊖_, comb, Zero, In}
-use Rattle.lattices.specs.VectorLaws.{_≈_, ≈-refl, ≈-sym, ≈-trans, ≈-of-≡, ≈-⊕, ≈-⊙, ≈-≡, ≈-Zero, nil-dot, bilinear, comb-⊕, comb-⊙}
+use Rattle.integers.specs.Lists.{nth-⊕, nth-⊙}
+use Rattle.lattices.specs.Vector.{Vec, nth, dot, _⊙_, _⊖_, comb, Zero, In}
+use Rattle.lattices.specs.VectorLaws.{_≈_, ≈-refl, ≈-sym, ≈-trans, ≈-of-≡, ≈-⊕, ≈-≡, ≈-Zero, nil-dot, bilinear, comb-⊕, comb-⊙}
 use Rattle.lattices.specs.Volume.{squaredVolume}
-use Rattle.lattices.specs.Greedy.{Row, vectors, units, start, reduction}
-use Rattle.lattices.specs.Answer.{rowsOfV, rowOfV}
+use Rattle.lattices.specs.Greedy.{Row, vectors, units, reduction}
+use Rattle.lattices.specs.Answer.{rowsOfV}
 use Rattle.volumes.specs.Dependence.{zero-coefficient}
 use Rattle.minima.specs.Reduced.{Reduced}
-use Rattle.reductions.specs.Moves.{Moves, length-vectors}
+use Rattle.reductions.specs.Moves.{length-vectors}
 use Rattle.reductions.specs.Start.{Coordinates, getD-map, unit-comb, start-vectors, length-units, units-coordinates, sized-vectors, sized-us}
 use Rattle.reductions.specs.Exactness.{comb-full, coordinates-at, begin, moved, length-begin, reduction-length, reduction-sized, reduction-u, reduction-v}
 use Rattle.reductions.specs.Kept.{moves-keep}

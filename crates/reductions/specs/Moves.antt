@@ -1,21 +1,16 @@
 -- The greedy steps as moves of a list: exchanges and passes. What every move keeps, the reduction keeps.
-use mathlib.Core.Path.{_≡_, refl, sym, ap, ap₂, _∙_, subst, subst₂}
-use mathlib.Core.Logic.{_⊎_, inl, inr, ⊎-elim}
+use mathlib.Core.Path.{_≡_, refl, sym, ap, _∙_, subst, subst₂}
 use mathlib.Core.Bool.{Bool, true, false}
-use mathlib.Core.List.{List, [], _∷_, _++_, map, append-assoc, append-nil}
-use Prim.Native.Nat.{ℕ, zero, suc, _+_, _≤_, _<_}
+use mathlib.Core.List.{List, [], _∷_, _++_, append-assoc}
+use Prim.Native.Nat.{ℕ, zero, suc, _+_}
 use native.Mathlib.Omega.{arith}
-use lib.IntN.{ℤ, pos, negsuc, natAbs, _+ℤ_, _-ℤ_, _*ℤ_, +ℤ-idr, +ℤ-idl}
-use lib.Signed.{ltZ, _≤ℤ_, _<ℤ_, ≤ℤ-refl}
+use lib.IntN.{ℤ, natAbs}
+use lib.Signed.{ltZ, _≤ℤ_}
 use lib.ListN.{length, length-append, length-map}
-use Rattle.integers.specs.Identity.{by-ring, reads}
-use Rattle.integers.specs.Order.{≤ℤ-trans, ≤ℤ-of-<ℤ, ≤ℤ-of-≡, ltZ-true, ltZ-false, +ℤ-mono}
-use Rattle.integers.specs.Certificate.{NN, _⊞_, le, by-nn}
-use Rattle.lattices.specs.Vector.{Vec, N, nth, dot, _⊕_, _⊙_, _⊖_, comb}
-use Rattle.lattices.specs.VectorLaws.{_≈_, N-nonneg, bilinear}
+use Rattle.lattices.specs.Vector.{N}
 use Rattle.lattices.specs.Permutation.{Perm, same, skip, swap, then, perm-append, perm-length}
 use Rattle.lattices.specs.Nearest.{nearest}
-use Rattle.lattices.specs.Greedy.{Row, vectors, insert, order, lastOf, before, less, credited, Counted, Pass, pass, round, shorter, joined, repeat, total, greedy}
+use Rattle.lattices.specs.Greedy.{Row, vectors, insert, order, lastOf, before, less, credited, Counted, pass, round, shorter, joined, repeat, total, greedy}
 use Rattle.minima.specs.NearestLaws.{nearest-count, nearest-shorter}
 
 pub data Moves : List Row → List Row → Type 0 where

@@ -2,24 +2,24 @@
 use mathlib.Core.Path.{_≡_, refl, sym, ap, _∙_, subst}
 use mathlib.Core.Logic.{⊎-elim}
 use mathlib.Core.Bool.{Bool, true, false, false≢true}
-use mathlib.Core.List.{List, [], _∷_, _++_, map, reverse, reverse-append, reverse-reverse}
-use Prim.Native.Nat.{ℕ, zero, suc, _+_, _≤_, _<_}
+use mathlib.Core.List.{List, [], _∷_, _++_, reverse, reverse-append, reverse-reverse}
+use Prim.Native.Nat.{ℕ, zero, suc, _≤_, _<_}
 use native.Mathlib.Omega.{arith}
-use lib.IntN.{ℤ, pos, negsuc, natAbs, _+ℤ_, _*ℤ_, +ℤ-idr}
-use lib.Signed.{_≤ℤ_, _<ℤ_, ≤ℤ-refl, <ℤ-≤ℤ-trans}
+use lib.IntN.{ℤ, pos, negsuc, natAbs, _+ℤ_, +ℤ-idr}
+use lib.Signed.{_≤ℤ_, _<ℤ_, <ℤ-≤ℤ-trans}
 use lib.ListN.{length, getD, length-reverse}
 use Rattle.integers.specs.Identity.{by-ring, reads}
 use Rattle.integers.specs.Order.{≤ℤ-or-<ℤ, ≤ℤ-trans, ≤ℤ-of-≡, ltZ-false}
 use Rattle.integers.specs.Lists.{length-⊖-same}
 use Rattle.integers.specs.Lex.{below-<}
 use Rattle.lattices.specs.Vector.{Vec, N, dot, _⊕_, _⊙_, _⊖_, comb}
-use Rattle.lattices.specs.VectorLaws.{_≈_, ≈-N, ≈-trans, ≈-sym, bilinear, comb-⊕, comb-⊙, comb-none, comb-reverse, nil-dot}
+use Rattle.lattices.specs.VectorLaws.{_≈_, ≈-N, ≈-trans, bilinear, comb-⊕, comb-⊙, comb-none, comb-reverse, nil-dot}
 use Rattle.lattices.specs.Permutation.{perm-length}
 use Rattle.lattices.specs.Volume.{squaredVolume}
 use Rattle.lattices.specs.Nearest.{nearest}
-use Rattle.lattices.specs.Greedy.{Row, vectors, order, lastOf, before, less, credited, Counted, Pass, pass, round, shorter, joined, repeat, total, greedy}
+use Rattle.lattices.specs.Greedy.{Row, vectors, order, lastOf, before, Counted, Pass, pass, round, shorter, joined, repeat, total, greedy}
 use Rattle.minima.specs.Values.{Least}
-use Rattle.minima.specs.Reduced.{Under, Top, Descending, Reduced}
+use Rattle.minima.specs.Reduced.{Under, Descending, Reduced}
 use Rattle.minima.specs.Snoc.{fit, length-fit, comb-fit}
 use Rattle.minima.specs.NearestLaws.{nearest-least, nearest-count}
 use Rattle.reductions.specs.Moves.{Moves, exchange, Moving, order-perm, before-last, length-before, length-vectors, vectors-credited, vectors-append, moves-length, ordered-moves, greedy-moves}

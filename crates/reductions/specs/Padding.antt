@@ -3,16 +3,16 @@
 use mathlib.Core.Path.{_≡_, refl, sym, ap, ap₂, _∙_, subst, fun-ext}
 use mathlib.Core.Bool.{Bool, true, false}
 use mathlib.Core.List.{List, [], _∷_, _++_, map, reverse, reverseAux, tail}
-use Prim.Native.Nat.{ℕ, zero, suc, _+_, _≤_, _<_, max}
+use Prim.Native.Nat.{ℕ, zero, suc, _≤_}
 use native.Mathlib.Omega.{arith}
 use lib.IntN.{ℤ, pos, negsuc, natAbs, _+ℤ_, _*ℤ_}
 use lib.Signed.{ltZ, leZ}
 use lib.ListN.{length}
 use Rattle.integers.specs.Lists.{same, nth-⊕, nth-⊙, length-⊕, length-⊙}
-use Rattle.lattices.specs.Vector.{Vec, N, nth, dot, _⊕_, _⊙_, _⊖_, comb}
+use Rattle.lattices.specs.Vector.{Vec, N, _⊕_, _⊙_, _⊖_, comb}
 use Rattle.lattices.specs.VectorLaws.{_≈_, ≈-refl, ≈-sym, ≈-trans, ≈-⊕, ≈-⊙, ≈-≡, ≈-N}
 use Rattle.lattices.specs.Permutation.{perm-length}
-use Rattle.lattices.specs.Nearest.{outward, near, least, nearest}
+use Rattle.lattices.specs.Nearest.{outward, least, nearest}
 use Rattle.lattices.specs.Greedy.{Row, vectors, insert, order, lastOf, before, less, credited, Counted, Pass, pass, round, shorter, joined, repeat, total, greedy}
 use Rattle.lattices.specs.Answer.{padded}
 use Rattle.lattices.specs.AnswerLaws.{length-padded, nth-padded, padded-≈}

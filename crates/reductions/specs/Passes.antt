@@ -6,14 +6,14 @@ use Prim.Native.Nat.{ℕ, zero, suc, _+_, _*_, _≤_, _<_}
 use native.Mathlib.Nat.{mul-le-mul, le-refl}
 use native.Mathlib.Omega.{arith}
 use lib.IntN.{ℤ, pos, negsuc, natAbs, _+ℤ_, +ℤ-idr}
-use lib.Signed.{_≤ℤ_, _<ℤ_}
+use lib.Signed.{_≤ℤ_}
 use lib.Dec.{leb→le}
 use lib.ListN.{length}
 use Rattle.integers.specs.Certificate.{NN}
 use Rattle.lattices.specs.Vector.{N}
 use Rattle.lattices.specs.VectorLaws.{N-nonneg}
 use Rattle.lattices.specs.Permutation.{perm-length}
-use Rattle.lattices.specs.Greedy.{Row, vectors, order, lastOf, before, less, credited, Counted, Pass, pass, round, shorter, joined, repeat, total, greedy}
+use Rattle.lattices.specs.Greedy.{Row, vectors, order, lastOf, before, Counted, Pass, pass, round, shorter, joined, repeat, total, greedy}
 use Rattle.minima.specs.NearestLaws.{nearest-shorter}
 use Rattle.reductions.specs.Moves.{Moves, Moving, order-perm, before-last, length-before, moves-length, ordered-moves, greedy-moves}
 use Rattle.reductions.specs.Lengths.{total-append, total-credited, total-nonneg, perm-total, moves-total}

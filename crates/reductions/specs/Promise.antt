@@ -1,20 +1,20 @@
 -- The two numbers that document 01 promises: no number in U or V passes 160,000,000,000,000,000 and no coefficient of a nearest
 -- vector 320,000,000,000,000,000, for every accepted input.
-use mathlib.Core.Path.{_≡_, refl, sym, ap, ap₂, _∙_, subst}
+use mathlib.Core.Path.{_≡_, refl, sym, ap₂, subst}
 use mathlib.Core.List.{List, [], _∷_, _++_, map}
 use Prim.Native.Nat.{ℕ, zero, suc, _*_, _≤_, zero-le}
 use native.Mathlib.Nat.{le-refl}
 use native.Mathlib.Omega.{arith}
 use lib.IntN.{ℤ, pos, natAbs}
 use lib.Signed.{_≤ℤ_, _<ℤ_}
-use lib.ListN.{length, getD, length-map}
+use lib.ListN.{length, getD}
 use Rattle.lattices.specs.Vector.{Vec, N, nth, comb}
 use Rattle.lattices.specs.VectorLaws.{nil-dot}
 use Rattle.lattices.specs.Volume.{squaredVolume}
 use Rattle.lattices.specs.Nearest.{nearest}
 use Rattle.lattices.specs.Greedy.{Row, vectors, units, start, reduction}
 use Rattle.lattices.specs.Refusal.{Input, basis, firstOf, vectorChecks, targetChecks, mostSquare}
-use Rattle.lattices.specs.Answer.{padded, table, rowOfV, rowsOfV, reductionGiven, reductionOf, nearestGiven, noNearest, Nearest, nearestOf}
+use Rattle.lattices.specs.Answer.{padded, table, rowOfV, rowsOfV, reductionOf, nearestOf}
 use Rattle.lattices.specs.AnswerLaws.{padded-same, length-vectorsOf}
 use Rattle.minima.specs.Minima.{All}
 use Rattle.minima.specs.NearestLaws.{nearest-count, nearest-shorter}
@@ -23,7 +23,7 @@ use Rattle.integers.specs.Order.{≤ℤ-trans, *ℤ-mono, pos-nonneg}
 use Rattle.reductions.specs.Moves.{Moves, length-vectors}
 use Rattle.reductions.specs.Lengths.{NoLonger}
 use Rattle.reductions.specs.Every.{Every}
-use Rattle.reductions.specs.Exactness.{length-begin, begin, moved}
+use Rattle.reductions.specs.Exactness.{begin, moved}
 use Rattle.reductions.specs.Start.{Coordinates, units-coordinates}
 use Rattle.reductions.specs.Accepted.{Accepted, accepted, passed, short as short-vector}
 use Rattle.reductions.specs.Demand.{accepted-reduction, accepted-nearest, first-append}

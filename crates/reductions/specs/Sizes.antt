@@ -1,31 +1,29 @@
 -- Sizes on the way of the greedy steps, for one to four vectors of squared length at most 400,000,000 with positive squared volume:
 -- no number in U or V passes 20,000⁴, and what a pass adds to a table fits 64 bits term by term.
-use mathlib.Core.Path.{_≡_, refl, sym, ap, ap₂, _∙_, subst, subst₂}
-use mathlib.Core.Logic.{⊎-elim}
-use mathlib.Core.List.{List, [], _∷_, _++_, map, reverse, reverse-append, reverse-reverse}
+use mathlib.Core.Path.{_≡_, refl, sym, ap, ap₂, _∙_, subst}
+use mathlib.Core.List.{List, [], _∷_, _++_, map}
 use Prim.Native.Nat.{ℕ, zero, suc, _+_, _*_, _≤_, _<_}
 use native.Mathlib.Omega.{arith}
 use native.Mathlib.Decide.{decLt}
 use lib.IntN.{ℤ, pos, negsuc, natAbs, _+ℤ_, _-ℤ_, _*ℤ_, *ℤ-zero}
-use lib.Signed.{_≤ℤ_, _<ℤ_, ≤ℤ-refl, ltZ-yes}
-use lib.ListN.{length, getD, length-append, length-map, length-reverse, List·getD-eq-default}
+use lib.Signed.{_≤ℤ_, _<ℤ_}
+use lib.ListN.{length, getD, length-map, List·getD-eq-default}
 use Rattle.integers.specs.Identity.{by-ring, reads}
-use Rattle.integers.specs.Order.{≤ℤ-trans, ≤ℤ-of-≡, *ℤ-mono, *ℤ-cancel-≤}
-use Rattle.integers.specs.Certificate.{NN, nn-pos, nn-sq, _⊞_, _⊠_, le, eq, by-nn}
+use Rattle.integers.specs.Order.{≤ℤ-trans, ≤ℤ-of-≡, *ℤ-mono}
+use Rattle.integers.specs.Certificate.{NN, nn-pos}
 use Rattle.integers.specs.Size.{load, size-sub, root}
-use Rattle.integers.specs.Lists.{nth-⊕, nth-⊙, length-⊙}
-use Rattle.lattices.specs.Vector.{Vec, N, nth, dot, _⊕_, _⊙_, _⊖_, comb}
-use Rattle.lattices.specs.VectorLaws.{_≈_, ≈-N, ≈-refl, ≈-sym, ≈-trans, ≈-⊕, ≈-⊙, bilinear, dot-comm, N-nonneg, square-≤, nil-dot, comb-≈, comb-⊙, comb-cons, comb-snoc, comb-reverse}
+use Rattle.integers.specs.Lists.{nth-⊕, nth-⊙}
+use Rattle.lattices.specs.Vector.{Vec, N, nth, dot, _⊕_, _⊙_, comb}
+use Rattle.lattices.specs.VectorLaws.{_≈_, ≈-N, ≈-trans, ≈-⊙, square-≤, nil-dot, comb-≈, comb-⊙}
 use Rattle.lattices.specs.Volume.{squaredVolume}
 use Rattle.lattices.specs.Nearest.{nearest}
-use Rattle.lattices.specs.Greedy.{Row, vectors, lastOf, before, less, credited, units, start}
+use Rattle.lattices.specs.Greedy.{Row, vectors, less, credited, units, start}
 use Rattle.lattices.specs.Answer.{padded, rowOfV}
 use Rattle.lattices.specs.AnswerLaws.{nth-padded, padded-≈}
 use Rattle.volumes.specs.Sizes.{Short, coefficient-≤, near-le}
-use Rattle.minima.specs.Reduced.{Top, Descending, Reduced}
-use Rattle.minima.specs.ReducedLaws.{pinned}
-use Rattle.minima.specs.NearestLaws.{nearest-count, nearest-shorter, Ended, ended}
-use Rattle.reductions.specs.Moves.{Moves, moves-length, after, subtract, before-last, length-before, length-vectors, vectors-append, vectors-credited}
+use Rattle.minima.specs.Reduced.{Reduced}
+use Rattle.minima.specs.NearestLaws.{nearest-count, nearest-shorter}
+use Rattle.reductions.specs.Moves.{Moves, moves-length, after, subtract, length-vectors, vectors-append}
 use Rattle.reductions.specs.Every.{Every, every-left, every-right, moves-every}
 use Rattle.reductions.specs.Lengths.{NoLonger, moves-no-longer}
 use Rattle.reductions.specs.Tables.{Exact, moves-exact, spread, moves-spread}

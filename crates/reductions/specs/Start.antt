@@ -1,15 +1,15 @@
 -- The tables at the start are unit tables, and every row keeps its numbers of places.
 use mathlib.Core.Path.{_≡_, refl, sym, ap, ap₂, _∙_, subst}
-use mathlib.Core.List.{List, [], _∷_, _++_, map}
-use Prim.Native.Nat.{ℕ, zero, suc, _+_, _≤_, _<_, max}
+use mathlib.Core.List.{List, [], _∷_, map}
+use Prim.Native.Nat.{ℕ, zero, suc, _≤_, _<_}
 use native.Mathlib.Omega.{arith}
 use lib.IntN.{ℤ, pos, negsuc, _+ℤ_, _*ℤ_, +ℤ-idl, +ℤ-idr, zero-*ℤ}
 use lib.ListN.{length, getD, replicate, length-replicate, length-map}
 use Rattle.integers.specs.Ring.{pos-one-*ℤ}
 use Rattle.integers.specs.Lists.{length-⊕, length-⊙}
-use Rattle.lattices.specs.Vector.{Vec, nth, dot, _⊕_, _⊙_, _⊖_, comb}
-use Rattle.lattices.specs.VectorLaws.{_≈_, ≈-trans, nil-dot, dot-⊕, dot-⊙, bilinear, comb-cons, comb-zero}
-use Rattle.lattices.specs.Greedy.{Row, vectors, less, units, start}
+use Rattle.lattices.specs.Vector.{Vec, nth, dot, _⊙_, _⊖_, comb}
+use Rattle.lattices.specs.VectorLaws.{_≈_, ≈-trans, nil-dot, dot-⊕, dot-⊙, comb-cons, comb-zero}
+use Rattle.lattices.specs.Greedy.{Row, vectors, units, start}
 use Rattle.reductions.specs.Moves.{Moves}
 use Rattle.reductions.specs.Every.{Every, moves-every}
 use Rattle.reductions.specs.Tables.{Exact, spread}

@@ -1,18 +1,18 @@
 -- The tables U and V along the moves: U·inputs = vectors and V·vectors = inputs hold throughout, and V·U is the unit table.
-use mathlib.Core.Path.{_≡_, refl, sym, ap, ap₂, _∙_, subst}
+use mathlib.Core.Path.{_≡_, refl, sym, ap, ap₂, _∙_}
 use mathlib.Core.List.{List, [], _∷_, _++_, map}
-use Prim.Native.Nat.{ℕ, zero, suc, _+_, _≤_, _<_, max}
+use Prim.Native.Nat.{ℕ}
 use native.Mathlib.Omega.{arith}
-use lib.IntN.{ℤ, pos, negsuc, _+ℤ_, _*ℤ_, +ℤ-idl, +ℤ-idr, +ℤ-assoc, zero-*ℤ, *ℤ-zero}
-use lib.ListN.{length, replicate, length-map}
-use Rattle.integers.specs.Ring.{+ℤ-left-comm, pos-one-*ℤ}
+use lib.IntN.{ℤ, pos, negsuc, _+ℤ_, _*ℤ_, +ℤ-idl, +ℤ-assoc, *ℤ-zero}
+use lib.ListN.{length}
+use Rattle.integers.specs.Ring.{+ℤ-left-comm}
 use Rattle.integers.specs.Identity.{by-ring, reads}
-use Rattle.integers.specs.Lists.{nth-⊕, nth-⊙, length-⊕, length-⊙}
+use Rattle.integers.specs.Lists.{nth-⊕, nth-⊙}
 use Rattle.lattices.specs.Vector.{Vec, nth, dot, _⊕_, _⊙_, _⊖_, comb}
-use Rattle.lattices.specs.VectorLaws.{_≈_, ≈-refl, ≈-sym, ≈-trans, ≈-⊕, ≈-⊙, nil-dot, bilinear, dot-⊕, dot-⊙, comb-⊕, comb-⊙, comb-cons, comb-none, comb-nil}
+use Rattle.lattices.specs.VectorLaws.{_≈_, ≈-refl, ≈-trans, ≈-⊕, ≈-⊙, nil-dot, dot-⊕, dot-⊙, comb-⊕, comb-⊙}
 use Rattle.lattices.specs.Permutation.{Perm, same, skip, swap, then}
-use Rattle.lattices.specs.Greedy.{Row, vectors, less, credited, units, start}
-use Rattle.reductions.specs.Every.{Every, every-left, every-right, moves-every}
+use Rattle.lattices.specs.Greedy.{Row, vectors, less, credited}
+use Rattle.reductions.specs.Every.{Every, moves-every}
 use Rattle.reductions.specs.Moves.{Moves, none, after, exchange, subtract}
 
 -- ---- U: each row of U gives its vector

@@ -16,7 +16,7 @@ use Rattle.lattices.specs.VectorLaws.{_≈_, ≈-N, ≈-refl, ≈-sym, ≈-tran
 use Rattle.lattices.specs.Greedy.{Row, vectors, lastOf, before}
 use Rattle.minima.specs.Reduced.{Top, Descending, Reduced}
 use Rattle.minima.specs.ReducedLaws.{pinned}
-use Rattle.minima.specs.NearestLaws.{Ended, ended}
+use Rattle.minima.specs.NearestLaws.{ended}
 use Rattle.reductions.specs.Moves.{before-last, length-before, length-vectors, vectors-append}
 use Rattle.reductions.specs.Every.{Every, every-left, every-right}
 

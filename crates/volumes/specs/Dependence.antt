@@ -10,7 +10,7 @@ use native.Mathlib.Nat.{le-of-suc-le-suc, not-suc-le-zero}
 use native.Mathlib.Omega.{arith}
 use lib.IntN.{ℤ, pos, negsuc, negℤ, _+ℤ_, _-ℤ_, _*ℤ_, *ℤ-zero, zero-*ℤ}
 use lib.ListN.{length, getD, List·getD-eq-default}
-use lib.Signed.{leZ, _≤ℤ_, _<ℤ_, clashℤ}
+use lib.Signed.{leZ, _≤ℤ_, _<ℤ_}
 use Rattle.integers.specs.Identity.{by-ring, by-eq, reads}
 use Rattle.integers.specs.Order.{≤ℤ-trans, ≤ℤ-of-≡, ≤ℤ-antisymm, ≤ℤ-or-<ℤ, zero-or-not, zero-of-square, leZ-true, leZ-false, ≤ℤ-leZ, <ℤ-leZ}
 use Rattle.integers.specs.Certificate.{NN}
@@ -20,7 +20,7 @@ use Rattle.lattices.specs.VectorLaws.{definite, N-zero}
 use Rattle.lattices.specs.Volume.{Index, Form, head, rest, unit, wedge, volume, inner, squaredVolume, isDependent}
 use Rattle.volumes.specs.Forms.{half, contract, dotOn, dotOn-step, dotOn-nil, Lin, contract-lin, inner-linˡ, inner-zero}
 use Rattle.volumes.specs.Exterior.{adjoint, adjointʳ, clifford-inner, inner-nonneg}
-use Rattle.volumes.specs.Hadamard.{inner-unit, entry, head-≤, rest-≤, product}
+use Rattle.volumes.specs.Hadamard.{inner-unit, entry, product}
 use Rattle.volumes.specs.Cramer.{put, sizes}
 
 -- every vector has at most m coordinates (the one beyond the end is [])
