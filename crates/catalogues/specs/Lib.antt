@@ -1,1 +1,6 @@
--- catalogues
+-- The file format of a catalogue: words, reading with its refusals, writing, and what holds of accepted catalogues.
+pub mod Word
+pub mod Catalogue
+pub mod Read
+pub mod Write
+pub mod Examples
