@@ -4,3 +4,4 @@ pub mod Catalogue
 pub mod Read
 pub mod Write
 pub mod Examples
+pub mod WordLaws
