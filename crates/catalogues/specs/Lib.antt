@@ -5,3 +5,4 @@ pub mod Read
 pub mod Write
 pub mod Examples
 pub mod WordLaws
+pub mod Moves

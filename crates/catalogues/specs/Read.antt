@@ -42,15 +42,16 @@ abbrev pub withEntry : List Entry → Head → List Vec → Option See → List 
 withEntry es h vs s = es ++ (record { head = h; vectors = vs; see = s } ∷ [])
 
 -- row "head"
-abbrev pub atHead : List Entry → ℕ → (number d m : ℕ) → Step
-atHead es i number d m =
-    checked stop
-    ((leb mostEntries (length es), 15)
-    ∷ (not (oneTo mostVectors d), 1)
-    ∷ (not (oneTo mostCoordinates m), 2)
-    ∷ (eqb number 0 || any (isNumbered number) es, 11)
-    ∷ [])
-    (next (inside es (record { number = number; d = d; m = m; place = i }) [] []))
+abbrev pub headRows : List Entry → Head → List (Bool × ℕ)
+headRows es h =
+    (leb mostEntries (length es), 15)
+    ∷ (not (oneTo mostVectors (h .d)), 1)
+    ∷ (not (oneTo mostCoordinates (h .m)), 2)
+    ∷ (eqb (h .number) 0 || any (isNumbered (h .number)) es, 11)
+    ∷ []
+
+abbrev pub atHead : List Entry → Head → Step
+atHead es h = checked stop (headRows es h) (next (inside es h [] []))
 
 -- "coordinate plus 20,000"
 abbrev pub coordinateOf : ℕ → ℤ
@@ -64,19 +65,25 @@ withVector es h vs = elim (eqb (length vs) (h .d)) [ true ↦ after es h vs | fa
 abbrev pub withCoordinate : List Entry → Head → List Vec → Vec → State
 withCoordinate es h vs v = elim (eqb (length v) (h .m)) [ true ↦ withVector es h (vs ++ (v ∷ [])) | false ↦ inside es h vs v ]
 
--- row "coordinate"
+-- row "coordinate", for a vector up to this coordinate
+abbrev pub coordinateRows : Head → Vec → ℕ → List (Bool × ℕ)
+coordinateRows h v l = (ltb mostLoad l || (eqb (length v) (h .m) && ltZ (pos mostSquare) (N v)), 4) ∷ []
+
 abbrev pub atCoordinate : List Entry → Head → List Vec → Vec → ℕ → Step
 atCoordinate es h vs v l =
     let u = v ++ (coordinateOf l ∷ []) in
-    checked stop ((ltb mostLoad l || (eqb (length u) (h .m) && ltZ (pos mostSquare) (N u)), 4) ∷ []) (next (withCoordinate es h vs u))
+    checked stop (coordinateRows h u l) (next (withCoordinate es h vs u))
 
 -- row "end", its first condition
+abbrev pub endRows : List Entry → ℕ → List (Bool × ℕ)
+endRows es count = (not (eqb count (length es)), 13) ∷ []
+
 abbrev pub atEnd : List Entry → ℕ → Step
-atEnd es count = checked stop ((not (eqb count (length es)), 13) ∷ []) (next (closed es))
+atEnd es count = checked stop (endRows es count) (next (closed es))
 
 -- the word at index i; 10 for "a kind that cannot stand here", 14 for "words follow"
 unfoldable pub step : State → ℕ → Word → Step
-step (outside es) i (head number d m) = atHead es i number d m
+step (outside es) i (head number d m) = atHead es (record { number = number; d = d; m = m; place = i })
 step (outside es) i (coordinate l) = stop 10
 step (outside es) i (see number) = stop 10
 step (outside es) i (end count) = atEnd es count
@@ -86,7 +93,7 @@ step (inside es h vs v) i (coordinate l) = atCoordinate es h vs v l
 step (inside es h vs v) i (see number) = stop 10
 step (inside es h vs v) i (end count) = stop 10
 step (inside es h vs v) i (other k l) = stop 10
-step (after es h vs) i (head number d m) = atHead (withEntry es h vs none) i number d m
+step (after es h vs) i (head number d m) = atHead (withEntry es h vs none) (record { number = number; d = d; m = m; place = i })
 step (after es h vs) i (coordinate l) = stop 10
 step (after es h vs) i (see number) = next (outside (withEntry es h vs (some (record { number = number; place = i }))))
 step (after es h vs) i (end count) = atEnd (withEntry es h vs none) count
@@ -127,9 +134,9 @@ unfoldable pub readWords : State → ℕ → List ℕ → Outcome
 readWords s i [] = atLast s i
 readWords s i (w ∷ words) = elim (step s i (decode w)) [ next t ↦ readWords t (suc i) words | stop n ↦ refused n i ]
 
--- row "whole file", then the words
+-- row "whole file"
+abbrev pub fileRows : List ℕ → List (Bool × ℕ)
+fileRows bytes = (not (eqb (length bytes % 4) 0), 8) ∷ (ltb mostBytes (length bytes), 9) ∷ []
+
 unfoldable pub read : List ℕ → Outcome
-read bytes =
-    checked (λ n. refused n 0)
-    ((not (eqb (length bytes % 4) 0), 8) ∷ (ltb mostBytes (length bytes), 9) ∷ [])
-    (readWords (outside []) 0 (wordsOf bytes))
+read bytes = checked (λ n. refused n 0) (fileRows bytes) (readWords (outside []) 0 (wordsOf bytes))
