@@ -6,3 +6,4 @@ pub mod Write
 pub mod Examples
 pub mod WordLaws
 pub mod Moves
+pub mod RoundTrip
