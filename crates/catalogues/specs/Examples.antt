@@ -6,6 +6,7 @@ use Prim.Native.Nat.{ℕ}
 use lib.IntN.{ℤ, pos}
 use Rattle.lattices.specs.Vector.{Vec, dot}
 use Rattle.lattices.specs.Volume.{squaredVolume, isDependent}
+use Rattle.catalogues.specs.All.{All}
 use Rattle.catalogues.specs.Word.{decode, bytesOf}
 use Rattle.catalogues.specs.Catalogue.{Head, See, Entry, Outcome, refused, accepted}
 use Rattle.catalogues.specs.Read.{step, readWords, read}
@@ -78,11 +79,7 @@ examples =
 abbrev pub Holds : Example → Type 0
 Holds (gives bytes outcome) = read bytes ≡ outcome
 
-abbrev pub All : List Example → Type 0
-All [] = Unit {0}
-All (x ∷ xs) = Holds x × All xs
-
-pub examples-hold : All examples
+pub examples-hold : All Holds examples
 unfolding dot squaredVolume isDependent decode step readWords read
 examples-hold = (
   refl,
