@@ -1,0 +1,71 @@
+-- The words of a catalogue (document 01, "The catalogue"): kind and load, the case that a word is, and words as bytes.
+use mathlib.Core.Bool.{Bool, true, false}
+use mathlib.Core.List.{List, [], _∷_}
+use Prim.Native.Nat.{ℕ, _+_, _*_, _/_, _%_, _^_}
+use lib.Dec.{eqb}
+
+-- "The top 4 bits are the kind, the other 28 the load."
+abbrev pub kind : ℕ → ℕ
+kind w = w / 2 ^ 28
+
+abbrev pub load : ℕ → ℕ
+load w = w % 2 ^ 28
+
+-- "A word is a head, a coordinate, a see word or the end"; `other` is what is refused
+pub data Word : Type 0 where
+  head : (number d m : ℕ) → Word
+  coordinate : (load : ℕ) → Word
+  see : (number : ℕ) → Word
+  end : (count : ℕ) → Word
+  other : (kind load : ℕ) → Word
+
+-- head: "bits 8–27 entry number, bits 4–7 d, bits 0–3 m"
+abbrev pub headOf : ℕ → Word
+headOf l = head (l / 256) (l / 16 % 16) (l % 16)
+
+-- the case of a kind with a load
+abbrev pub wordOf : ℕ → ℕ → Word
+wordOf k l =
+    elim (eqb k 1) [
+      | true ↦ headOf l
+      | false ↦ elim (eqb k 2) [
+        | true ↦ coordinate l
+        | false ↦ elim (eqb k 3) [
+          | true ↦ see l
+          | false ↦ elim (eqb k 4) [ true ↦ end l | false ↦ other k l ]
+        ]
+      ]
+    ]
+
+unfoldable pub decode : ℕ → Word
+decode w = wordOf (kind w) (load w)
+
+-- a word from its case back
+abbrev pub kindOf : Word → ℕ
+kindOf (head number d m) = 1
+kindOf (coordinate l) = 2
+kindOf (see number) = 3
+kindOf (end count) = 4
+kindOf (other k l) = k
+
+abbrev pub loadOf : Word → ℕ
+loadOf (head number d m) = number * 256 + d * 16 + m
+loadOf (coordinate l) = l
+loadOf (see number) = number
+loadOf (end count) = count
+loadOf (other k l) = l
+
+unfoldable pub encode : Word → ℕ
+encode w = kindOf w * 2 ^ 28 + loadOf w
+
+-- "a run of 32-bit words, lowest byte first"; up to three bytes that make no word are left out
+abbrev pub wordsOf : List ℕ → List ℕ
+wordsOf [] = []
+wordsOf (a ∷ []) = []
+wordsOf (a ∷ b ∷ []) = []
+wordsOf (a ∷ b ∷ c ∷ []) = []
+wordsOf (a ∷ b ∷ c ∷ d ∷ bytes) = (a + b * 256 + c * 65536 + d * 16777216) ∷ wordsOf bytes
+
+abbrev pub bytesOf : List ℕ → List ℕ
+bytesOf [] = []
+bytesOf (w ∷ words) = w % 256 ∷ w / 256 % 256 ∷ w / 65536 % 256 ∷ w / 16777216 % 256 ∷ bytesOf words
