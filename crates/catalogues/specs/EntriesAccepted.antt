@@ -1,13 +1,13 @@
 -- "Each entry of an accepted catalogue is an accepted basis": the engine's own checks of vectors pass.
-use mathlib.Core.Path.{_≡_, refl, sym, ap, ap₂, _∙_, subst}
+use mathlib.Core.Path.{_≡_, refl, sym, ap, ap₂, _∙_}
 use mathlib.Core.Bool.{Bool, true, false, not, _&&_, _||_, true≢false}
 use mathlib.Core.List.{List, [], _∷_, _++_}
 use mathlib.Core.Option.{Option, none, some, Option·some-ne-none}
-use Prim.Native.Nat.{ℕ, zero, suc, _+_, _*_, _≤_}
+use Prim.Native.Nat.{ℕ, _*_, _≤_}
 use native.Mathlib.Omega.{arith}
 use lib.Dec.{ltb, eqb}
 use lib.IntN.{ℤ, pos, natAbs}
-use lib.ListN.{length, take, drop, length-append}
+use lib.ListN.{length, length-append}
 use lib.Seq.{take-at, drop-at}
 use lib.Signed.{ltZ}
 use borrow.Author.Tests.{eqb-true, eq-eqb, ltb-false, le-ltb, not-false}
@@ -15,11 +15,12 @@ use Rattle.integers.specs.Order.{sub-ind}
 use Rattle.lattices.specs.Vector.{Vec, N}
 use Rattle.lattices.specs.Volume.{isDependent}
 use Rattle.lattices.specs.Refusal.{Input, Check, vectorsOf, any, oneTo, tooLong, firstOf, vectorChecks, mostVectors, mostCoordinates, mostSquare, mostSize}
-use Rattle.catalogues.specs.All.{All, all-snoc}
+use Rattle.integers.specs.All.{All}
+use Rattle.catalogues.specs.All.{all-snoc}
 use Rattle.catalogues.specs.Word.{Word}
 use Rattle.catalogues.specs.Catalogue.{Head, Entry, coordinates, inputOf, accepted, mostLoad}
-use Rattle.catalogues.specs.Read.{State, outside, inside, after, closed, coordinateRows, withEntry, coordinateOf, withVector, withCoordinate, firstPlace, dependentAt, read}
-use Rattle.catalogues.specs.Moves.{NoneOf, Between, between, unreferred, Moves, by-head, by-coordinate, by-see, by-end, Kept, kept-to-end}
+use Rattle.catalogues.specs.Read.{State, outside, inside, after, closed, coordinateOf, withVector, withCoordinate, firstPlace, dependentAt, read}
+use Rattle.catalogues.specs.Moves.{Between, between, unreferred, Moves, by-head, by-coordinate, by-see, by-end, kept-to-end}
 
 -- ---- what reading knows of an entry
 

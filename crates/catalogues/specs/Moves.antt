@@ -1,21 +1,16 @@
 -- How an accepted catalogue was read: the steps that go on, one case for each word that may stand, and what they keep up to the end.
-use mathlib.Core.Path.{_≡_, refl, sym, ap, _∙_, subst}
-use mathlib.Core.Bool.{Bool, true, false, not, _&&_, _||_}
-use mathlib.Core.List.{List, [], _∷_, _++_, append-assoc, append-nil}
+use mathlib.Core.Path.{_≡_, refl, sym, subst}
+use mathlib.Core.Bool.{Bool, true, false}
+use mathlib.Core.List.{List, [], _∷_, _++_, append-nil}
 use mathlib.Core.Option.{Option, none, some}
-use Prim.Native.Nat.{ℕ, zero, suc, _%_, _≤_, _<_}
-use native.Mathlib.Omega.{arith}
-use lib.Dec.{leb, ltb, eqb}
-use lib.IntN.{pos}
+use Prim.Native.Nat.{ℕ, suc, _%_, _≤_}
 use lib.ListN.{length}
 use lib.Seq.{append-snoc}
-use lib.Signed.{ltZ}
 use borrow.Author.Tests.{eqb-true, ltb-false, not-false}
-use Rattle.lattices.specs.Vector.{Vec, N}
-use Rattle.lattices.specs.Refusal.{any, oneTo, mostVectors, mostCoordinates, mostSquare}
+use Rattle.lattices.specs.Vector.{Vec}
 use Rattle.catalogues.specs.Word.{Word, head, coordinate, see, end, other, decode, wordsOf}
-use Rattle.catalogues.specs.Catalogue.{Head, See, Entry, Outcome, refused, accepted, mostEntries, mostBytes, mostLoad}
-use Rattle.catalogues.specs.Read.{State, outside, inside, after, closed, Step, next, stop, checked, headRows, coordinateRows, endRows, fileRows, isNumbered, withEntry, coordinateOf, withCoordinate, atHead, atCoordinate, atEnd, step, firstPlace, dependentAt, lostAt, afterReading, atLast, readWords, read}
+use Rattle.catalogues.specs.Catalogue.{Head, See, Entry, Outcome, refused, accepted, mostBytes}
+use Rattle.catalogues.specs.Read.{State, outside, inside, after, closed, Step, next, stop, checked, headRows, coordinateRows, endRows, fileRows, withEntry, coordinateOf, withCoordinate, atHead, atCoordinate, atEnd, step, firstPlace, dependentAt, lostAt, afterReading, atLast, readWords, read}
 
 -- ---- rows of the table
 

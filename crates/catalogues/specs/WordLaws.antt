@@ -1,13 +1,13 @@
 -- A word decoded and encoded again is the same word, and bytes taken as words and written again are the same bytes.
-use mathlib.Core.Path.{_≡_, refl, sym, ap, ap₂, _∙_}
+use mathlib.Core.Path.{_≡_, refl, _∙_}
 use mathlib.Core.Bool.{Bool, true, false}
-use mathlib.Core.List.{List, [], _∷_, map}
-use Prim.Native.Nat.{ℕ, zero, suc, _+_, _*_, _/_, _%_, _^_, _<_}
+use mathlib.Core.List.{List, [], _∷_}
+use Prim.Native.Nat.{ℕ, suc, _+_, _*_, _/_, _%_, _^_, _<_}
 use native.Mathlib.Omega.{arith}
 use lib.Dec.{eqb}
 use lib.ListN.{length, getD}
 use borrow.Author.Tests.{eqb-true}
-use Rattle.catalogues.specs.Word.{Word, head, coordinate, see, end, other, kind, load, headOf, wordOf, decode, loadOf, encode, wordsOf, bytesOf}
+use Rattle.catalogues.specs.Word.{Word, kind, load, headOf, wordOf, decode, loadOf, encode, wordsOf, bytesOf}
 
 -- ---- words
 

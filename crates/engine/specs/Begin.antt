@@ -1,26 +1,22 @@
 -- The rows with which the engine begins: the padded basis with unit tables, and unused rows of zeros. They may be reduced.
 use mathlib.Core.Path.{_≡_, refl, sym, ap, ap₂, _∙_, subst}
-use mathlib.Core.Bool.{false}
 use mathlib.Core.List.{List, [], _∷_, _++_, map}
-use Prim.Native.Nat.{ℕ, zero, suc, _+_, _-_, _≤_, _<_}
-use native.Mathlib.Nat.{le-refl}
+use Prim.Native.Nat.{ℕ, zero, suc, _+_, _-_, _≤_}
 use native.Mathlib.Omega.{arith}
 use lib.IntN.{ℤ, pos}
 use lib.Signed.{_≤ℤ_, leZ-yes}
-use lib.ListN.{length, getD, take, drop, replicate, length-map, length-append, length-replicate}
+use lib.ListN.{length, replicate, length-map}
 use Rattle.integers.specs.Order.{leZ-false, pos-nonneg}
-use Rattle.lattices.specs.Vector.{Vec, N, dot}
-use Rattle.lattices.specs.VectorLaws.{N-zero}
-use Rattle.lattices.specs.Volume.{squaredVolume, isDependent}
-use Rattle.lattices.specs.Greedy.{Row, vectors, units, start}
-use Rattle.lattices.specs.Refusal.{Input, basis, firstOf, vectorChecks, mostSquare}
+use Rattle.lattices.specs.Vector.{Vec, dot}
+use Rattle.lattices.specs.Volume.{isDependent}
+use Rattle.lattices.specs.Greedy.{Row, units, start}
+use Rattle.lattices.specs.Refusal.{Input, basis, firstOf, vectorChecks}
 use Rattle.lattices.specs.Answer.{padded, table}
-use Rattle.lattices.specs.AnswerLaws.{length-padded, nth-padded, length-vectorsOf}
-use Rattle.volumes.specs.Dependence.{Fit}
+use Rattle.lattices.specs.AnswerLaws.{length-vectorsOf}
 use Rattle.volumes.specs.Sizes.{Short}
 use Rattle.checks.specs.Padded.{isDependent-padded, fit-vectorsOf}
 use Rattle.reductions.specs.Moves.{Moves, none, length-vectors}
-use Rattle.reductions.specs.Every.{Every, every-append}
+use Rattle.integers.specs.All.{All, all-append}
 use Rattle.reductions.specs.Lengths.{NoLonger}
 use Rattle.reductions.specs.Start.{Sized, Coordinates, length-units, start-vectors}
 use Rattle.reductions.specs.Padding.{padded-coordinates, padded-N}
@@ -89,12 +85,12 @@ padded-short s z n m h [] c k i = k i
 padded-short s z n m h (b ∷ bs) c k zero = subst (λ t. t ≤ℤ s) (sym (padded-N n b (omega (arith, c .0)))) (k 0)
 padded-short s z n m h (b ∷ bs) c k (suc i) = padded-short s z n m h bs (c .1) (λ i. k (suc i)) i
 
-sized-start : (bs : List Vec) (es : List (List ℤ)) → Coordinates 4 bs → Coordinates 4 es → Every (Sized 4 4) (start bs es)
+sized-start : (bs : List Vec) (es : List (List ℤ)) → Coordinates 4 bs → Coordinates 4 es → All (Sized 4 4) (start bs es)
 sized-start [] es h k = tt
 sized-start (b ∷ bs) [] h k = tt
 sized-start (b ∷ bs) (e ∷ es) h k = (record { vector = h .0; u = k .0; v = k .0 }, sized-start bs es (h .1) (k .1))
 
-zeros-sized : (n : ℕ) → Every (Sized 4 4) (replicate n zeroRow)
+zeros-sized : (n : ℕ) → All (Sized 4 4) (replicate n zeroRow)
 zeros-sized zero = tt
 zeros-sized (suc n) = (record { vector = refl; u = refl; v = refl }, zeros-sized n)
 
@@ -144,7 +140,7 @@ module _ (i : Input) (e : firstOf vectorChecks i ≡ 0) where
     unused = replicate unused zeroRow;
     is = first-is;
     short = zeros-short unused;
-    sized = subst (Every (Sized 4 4)) (sym first-is) (every-append (Sized 4 4) (start (map (padded 4) (basis i)) (map (padded 4) (units (length (basis i))))) (replicate unused zeroRow)
+    sized = subst (All (Sized 4 4)) (sym first-is) (all-append (Sized 4 4) (start (map (padded 4) (basis i)) (map (padded 4) (units (length (basis i))))) (replicate unused zeroRow)
         (sized-start (map (padded 4) (basis i)) (map (padded 4) (units (length (basis i)))) (padded-coordinates 4 (basis i)) (padded-coordinates 4 (units (length (basis i))))) (zeros-sized unused));
     count = omega (arith, length-start (map (padded 4) (basis i)) (map (padded 4) (units (length (basis i)))) (wide-count (basis i) unused four-rows ∙ sym (ins-count (basis i) unused four-rows)), ins-count (basis i) unused four-rows, bs-count);
   }

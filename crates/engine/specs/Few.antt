@@ -1,18 +1,18 @@
 -- The passes of a reduction are few enough to be counted in 64 bits.
-use mathlib.Core.Path.{_≡_, refl, sym, ap, _∙_, subst}
+use mathlib.Core.Path.{sym, subst}
 use mathlib.Core.List.{List, [], _∷_}
-use Prim.Native.Nat.{ℕ, zero, suc, _+_, _*_, _≤_, zero-le}
+use Prim.Native.Nat.{ℕ, zero, suc, _*_, _≤_, zero-le}
 use native.Mathlib.Nat.{mul-le-mul, le-trans}
 use native.Mathlib.Omega.{arith}
-use lib.IntN.{ℤ, pos, negsuc, natAbs, _+ℤ_}
+use lib.IntN.{ℤ, pos, negsuc, natAbs}
 use lib.Signed.{_≤ℤ_}
 use lib.Dec.{leb→le}
 use lib.ListN.{length, take, drop, take-append-drop}
 use Rattle.integers.specs.Size.{size-add}
 use Rattle.lattices.specs.Vector.{N}
 use Rattle.lattices.specs.VectorLaws.{N-nonneg}
-use Rattle.lattices.specs.Greedy.{Row, total, greedy}
-use Rattle.reductions.specs.Every.{Every, every-left}
+use Rattle.lattices.specs.Greedy.{Row, total}
+use Rattle.integers.specs.All.{all-left}
 use Rattle.reductions.specs.Lengths.{NoLonger}
 use Rattle.reductions.specs.Passes.{weight, passes-bound}
 use Rattle.engine.specs.State.{greedyPasses}
@@ -39,7 +39,7 @@ few-passes {n} {rows} h f =
     le-trans (passes-bound n (take n rows) (fine-length f)) (omega (arith, mul-le-mul (weight-most n h) sum))
   where
     short : NoLonger (pos 400000000) (take n rows)
-    short = every-left (λ r. N (r .vector) ≤ℤ pos 400000000) (take n rows) (drop n rows) (subst (NoLonger (pos 400000000)) (sym (take-append-drop n rows)) (fine-short f))
+    short = all-left (λ r. N (r .vector) ≤ℤ pos 400000000) (take n rows) (drop n rows) (subst (NoLonger (pos 400000000)) (sym (take-append-drop n rows)) (fine-short f))
 
     sum : natAbs (total (take n rows)) ≤ 1600000000
     sum = omega (arith, total-size 400000000 (take n rows) short, fine-length f)

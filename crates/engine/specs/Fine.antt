@@ -1,26 +1,24 @@
 -- What holds of the rows throughout a reduction: they came from an accepted basis by greedy moves, so the sizes of `reductions` apply.
-use mathlib.Core.Path.{_≡_, refl, sym, ap, _∙_, subst}
-use mathlib.Core.List.{List, [], _∷_, _++_, map, append-assoc}
-use Prim.Native.Nat.{ℕ, zero, suc, _+_, _*_, _≤_, _<_}
+use mathlib.Core.Path.{_≡_, sym, ap, _∙_, subst}
+use mathlib.Core.List.{List, _++_, append-assoc}
+use Prim.Native.Nat.{ℕ, _≤_}
 use native.Mathlib.Nat.{le-refl, le-trans}
 use native.Mathlib.Omega.{arith}
-use lib.IntN.{ℤ, pos, natAbs, _*ℤ_}
+use lib.IntN.{pos}
 use lib.Signed.{_≤ℤ_, _<ℤ_}
-use lib.ListN.{length, getD, take, drop, length-append, length-drop, take-append-drop}
-use lib.Seq.{take-append-le, drop-append-le, length-take-le, split-at}
-use Rattle.integers.specs.Size.{Within, load}
-use Rattle.lattices.specs.Vector.{Vec, N, nth, comb}
+use lib.ListN.{length, take, drop, length-append, length-drop, take-append-drop}
+use lib.Seq.{take-append-le, drop-append-le, length-take-le}
+use Rattle.lattices.specs.Vector.{Vec, N}
 use Rattle.lattices.specs.Volume.{squaredVolume}
-use Rattle.lattices.specs.Nearest.{nearest}
-use Rattle.lattices.specs.Greedy.{Row, Counted, vectors, order, greedy, pass, joined}
+use Rattle.lattices.specs.Greedy.{Row, vectors, order, greedy}
 use Rattle.minima.specs.Reduced.{Reduced}
-use Rattle.reductions.specs.Moves.{Moves, after, exchange, order-perm, moves-append, moves-length, greedy-moves, vectors-append, length-vectors}
-use Rattle.reductions.specs.Every.{Every, every-append, every-left, every-right}
-use Rattle.reductions.specs.Lengths.{NoLonger, moves-no-longer}
+use Rattle.reductions.specs.Moves.{Moves, after, exchange, order-perm, moves-append, moves-length, greedy-moves, vectors-append}
+use Rattle.integers.specs.All.{All, all-append, all-left, all-right}
+use Rattle.reductions.specs.Lengths.{NoLonger}
 use Rattle.reductions.specs.Start.{Sized, moves-sized}
 use Rattle.reductions.specs.Kept.{positive-left}
 use Rattle.reductions.specs.Output.{greedy-reduced}
-use Rattle.reductions.specs.Sizes.{Basis, first-rows, most, coordinate, way-short, way-volume, way-count}
+use Rattle.reductions.specs.Sizes.{Basis, first-rows, way-short, way-volume}
 
 -- n of the rows may be reduced
 pub record Fine (n : ℕ) (rows : List Row) : Type 0 where
@@ -33,7 +31,7 @@ pub record Fine (n : ℕ) (rows : List Row) : Type 0 where
   pub unused : List Row
   pub is : rows ≡ active ++ unused
   pub short : NoLonger (pos 400000000) unused
-  pub sized : Every (Sized 4 4) rows
+  pub sized : All (Sized 4 4) rows
   pub count : n ≤ length active
 
 module _ {n : ℕ} {rows : List Row} (f : Fine n rows) where
@@ -53,7 +51,7 @@ module _ {n : ℕ} {rows : List Row} (f : Fine n rows) where
   -- no vector is over the length limit, so coordinates are small
   pub fine-short : NoLonger (pos 400000000) rows
   fine-short = subst (NoLonger (pos 400000000)) (sym (f .is))
-      (every-append (λ r. N (r .vector) ≤ℤ pos 400000000) (f .active) (f .unused) (way-short 4 4 (f .ins) (f .basis) (f .basis .four) (f .active) (f .moved)) (f .short))
+      (all-append (λ r. N (r .vector) ≤ℤ pos 400000000) (f .active) (f .unused) (way-short 4 4 (f .ins) (f .basis) (f .basis .four) (f .active) (f .moved)) (f .short))
 
   pub fine-volume : pos 0 <ℤ squaredVolume 4 (vectors (take n rows))
   fine-volume = positive-left 4 (vectors (take n rows)) (vectors (drop n (f .active)))
@@ -71,12 +69,12 @@ module _ {n : ℕ} {rows : List Row} (f : Fine n rows) where
     unused = f .unused;
     is = ap (λ l. to ++ l) (fine-drop k h) ∙ sym (append-assoc to (drop k (f .active)) (f .unused));
     short = f .short;
-    sized = every-append (Sized 4 4) to (drop k rows) (moves-sized 4 4 m (every-left (Sized 4 4) (take k rows) (drop k rows) whole)) (every-right (Sized 4 4) (take k rows) (drop k rows) whole);
+    sized = all-append (Sized 4 4) to (drop k rows) (moves-sized 4 4 m (all-left (Sized 4 4) (take k rows) (drop k rows) whole)) (all-right (Sized 4 4) (take k rows) (drop k rows) whole);
     count = omega (arith, length-append to (drop k (f .active)), moves-length m, fine-count k h, length-drop k (f .active), f .count);
   }
     where
-      whole : Every (Sized 4 4) (take k rows ++ drop k rows)
-      whole = subst (Every (Sized 4 4)) (sym (take-append-drop k rows)) (f .sized)
+      whole : All (Sized 4 4) (take k rows ++ drop k rows)
+      whole = subst (All (Sized 4 4)) (sym (take-append-drop k rows)) (f .sized)
 
 pub fine-fewer : {n k : ℕ} {rows : List Row} → k ≤ n → Fine n rows → Fine k rows
 fine-fewer h f = record {

@@ -1,25 +1,25 @@
 -- The rows with which the engine ends, as the definition's answer: the padded reduction, V written out by rows, squared lengths.
-use mathlib.Core.Path.{_≡_, refl, sym, ap, ap₂, _∙_, subst}
+use mathlib.Core.Path.{_≡_, refl, sym, ap, ap₂, _∙_}
 use mathlib.Core.List.{List, [], _∷_, _++_, map}
-use Prim.Native.Nat.{ℕ, zero, suc, _+_, _-_, _≤_, _<_}
+use Prim.Native.Nat.{ℕ, zero, suc, _+_, _≤_}
 use native.Mathlib.Omega.{arith}
 use lib.IntN.{ℤ, pos}
-use lib.ListN.{length, getD, take, drop, replicate, length-map, List·getD-eq-default}
+use lib.ListN.{length, take, drop, replicate, length-map, List·getD-eq-default}
 use lib.Seq.{take-append-seam, drop-append-seam}
 use Rattle.integers.specs.Lists.{same}
 use Rattle.lattices.specs.Vector.{Vec, N, nth}
 use Rattle.lattices.specs.VectorLaws.{nil-dot}
-use Rattle.lattices.specs.Greedy.{Row, Counted, vectors, units, start, greedy, reduction}
+use Rattle.lattices.specs.Greedy.{Row, vectors, units, start, greedy, reduction}
 use Rattle.lattices.specs.Refusal.{Input, basis, firstOf, vectorChecks}
-use Rattle.lattices.specs.Answer.{padded, table, rowOfV, rowsOfV, reductionGiven}
+use Rattle.lattices.specs.Answer.{padded, table, rowOfV, rowsOfV}
 use Rattle.lattices.specs.AnswerLaws.{length-padded, nth-padded}
-use Rattle.reductions.specs.Every.{Every}
+use Rattle.integers.specs.All.{All, map-append, map-replicate}
 use Rattle.reductions.specs.Start.{Sized, sized-start, length-units}
 use Rattle.reductions.specs.Exactness.{reduction-length, reduction-sized}
 use Rattle.reductions.specs.Padding.{pad, pad-counted, greedy-padded, padded-N}
 use Rattle.reductions.specs.Accepted.{Accepted, accepted}
 use Rattle.engine.specs.State.{greedyRows, greedyPasses}
-use Rattle.engine.specs.Begin.{table-is, zeroRow, length-start, first, first-is, unused, four-rows, bs-count, ok, wide-count, ins-count}
+use Rattle.engine.specs.Begin.{table-is, zeroRow, length-start, first, first-is, unused, four-rows, bs-count, wide-count, ins-count}
 
 -- padded rows begin as the padded start
 pad-start : (m d : ℕ) (a : m ≤ 4) (b : d ≤ 4) (bs : List Vec) (es : List (List ℤ)) → map (pad 4 4 m d a b) (start bs es) ≡ start (map (padded 4) bs) (map (padded 4) es)
@@ -36,18 +36,6 @@ padded-append (suc n) zero [] e = absurd (omega arith)
 padded-append (suc n) (suc k) [] e = ap (λ l. pos 0 ∷ l) (padded-append n k [] (omega arith))
 padded-append zero k (x ∷ l) e = absurd (omega arith)
 padded-append (suc n) k (x ∷ l) e = ap (λ r. x ∷ r) (padded-append n k l (omega arith))
-
-map-append : {A B : Type 0} (f : A → B) (k l : List A) → map f (k ++ l) ≡ map f k ++ map f l
-map-append f [] l = refl
-map-append f (x ∷ k) l = ap (λ r. f x ∷ r) (map-append f k l)
-
-map-replicate : {A B : Type 0} (f : A → B) (n : ℕ) (x : A) → map f (replicate n x) ≡ replicate n (f x)
-map-replicate f zero x = refl
-map-replicate f (suc n) x = ap (λ r. f x ∷ r) (map-replicate f n x)
-
-map-every : {A : Type 0} {P : Row → Type 0} (f g : Row → A) → ((r : Row) → P r → f r ≡ g r) → (l : List Row) → Every P l → map f l ≡ map g l
-map-every f g h [] e = refl
-map-every f g h (r ∷ l) e = ap₂ _∷_ (h r (e .0)) (map-every f g h l (e .1))
 
 -- ---- V written out by rows
 -- the table whose row i holds entry i of every row
@@ -142,7 +130,7 @@ module _ (i : Input) (e : firstOf vectorChecks i ≡ 0) where
   unfolding pad
   columns = ap (map (λ r. r .v)) last-rows ∙ table-of (λ r. r .v) (λ r. refl) refl
 
-  sized : Every (Sized (i .m) (length (basis i))) R
+  sized : All (Sized (i .m) (length (basis i))) R
   sized = reduction-sized (i .m) (basis i) (accept .full) some
 
   -- row j of the columns is row j of V
@@ -153,11 +141,11 @@ module _ (i : Input) (e : firstOf vectorChecks i ≡ 0) where
       ∙ ap₂ _++_ (entries R sized) (map-replicate (λ r. nth r j) n (padded 4 []) ∙ ap (replicate n) (nth-padded 4 [] (omega arith) j))
       ∙ padded-append 4 n (rowOfV R j) (omega (arith, length-map R (λ r. nth (r .v) j), full))
     where
-      entries : (l : List Row) → Every (Sized (i .m) (length (basis i))) l → map (λ r. nth r j) (map (padded 4) (map (λ r. r .v) l)) ≡ rowOfV l j
+      entries : (l : List Row) → All (Sized (i .m) (length (basis i))) l → map (λ r. nth r j) (map (padded 4) (map (λ r. r .v) l)) ≡ rowOfV l j
       entries [] s = refl
       entries (r ∷ l) s = ap₂ _∷_ (nth-padded 4 (r .v) (omega (arith, s .0 .v, high)) j) (entries l (s .1))
 
-  zero-entries : (j : ℕ) → length (basis i) ≤ j → (l : List Row) → Every (Sized (i .m) (length (basis i))) l → (k : ℕ) → nth (rowOfV l j) k ≡ pos 0
+  zero-entries : (j : ℕ) → length (basis i) ≤ j → (l : List Row) → All (Sized (i .m) (length (basis i))) l → (k : ℕ) → nth (rowOfV l j) k ≡ pos 0
   zero-entries j h [] s k = refl
   zero-entries j h (r ∷ l) s zero = List·getD-eq-default (r .v) (pos 0) (omega (arith, s .0 .v))
   zero-entries j h (r ∷ l) s (suc k) = zero-entries j h l (s .1) k
@@ -179,6 +167,6 @@ module _ (i : Input) (e : firstOf vectorChecks i ≡ 0) where
       ∙ ap₂ _++_ (squares R sized) (map-replicate N n (padded 4 []) ∙ ap (replicate n) (padded-N 4 [] (omega arith) ∙ nil-dot []))
       ∙ padded-append 4 n (map (λ r. N (r .vector)) R) (omega (arith, length-map R (λ r. N (r .vector)), full))
     where
-      squares : (l : List Row) → Every (Sized (i .m) (length (basis i))) l → map N (map (padded 4) (vectors l)) ≡ map (λ r. N (r .vector)) l
+      squares : (l : List Row) → All (Sized (i .m) (length (basis i))) l → map N (map (padded 4) (vectors l)) ≡ map (λ r. N (r .vector)) l
       squares [] s = refl
       squares (r ∷ l) s = ap₂ _∷_ (padded-N 4 (r .vector) (omega (arith, s .0 .vector, accept .few))) (squares l (s .1))

@@ -1,20 +1,16 @@
 -- The three tables after a pass are the rows that the definition gives.
-use mathlib.Core.Path.{_≡_, refl, sym, ap, ap₂, _∙_, subst}
+use mathlib.Core.Path.{_≡_, refl, sym, ap, ap₂, _∙_}
 use mathlib.Core.List.{List, [], _∷_, _++_, map, append-assoc}
-use Prim.Native.Nat.{ℕ, zero, suc, _+_, _≤_, _<_}
+use Prim.Native.Nat.{ℕ, suc, _<_}
 use native.Mathlib.Omega.{arith}
 use lib.IntN.{ℤ}
-use lib.ListN.{length, getD, take, drop, set, length-map, length-append}
+use lib.ListN.{length, getD, take, drop, set, length-map}
 use lib.Seq.{split-at, length-take-le, take-append-seam, getD-append-seam, set-append-seam}
-use Rattle.lattices.specs.Vector.{Vec, _⊕_, _⊙_, _⊖_, comb}
-use Rattle.lattices.specs.Greedy.{Row, Pass, vectors, less, credited, pass, joined}
-use Rattle.lattices.specs.Nearest.{nearest}
+use Rattle.integers.specs.All.{map-append}
+use Rattle.lattices.specs.Vector.{_⊕_, _⊙_, _⊖_, comb}
+use Rattle.lattices.specs.Greedy.{Row, less, credited, pass}
 use Rattle.rows.specs.Rows.{rowsOf, gained, rowsOf-parts, credited-columns}
 use Rattle.engine.specs.State.{blank}
-
-map-append : {A B : Type 0} (f : A → B) (k l : List A) → map f (k ++ l) ≡ map f k ++ map f l
-map-append f [] l = refl
-map-append f (x ∷ k) l = ap (λ r. f x ∷ r) (map-append f k l)
 
 pub rowsOf-append : (bs us vs cs ws xs : List (List ℤ)) → length us ≡ length bs → length vs ≡ length bs → rowsOf (bs ++ cs) (us ++ ws) (vs ++ xs) ≡ rowsOf bs us vs ++ rowsOf cs ws xs
 unfolding rowsOf

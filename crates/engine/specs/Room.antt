@@ -1,16 +1,16 @@
 -- Room for one pass: what the row operations ask of their numbers holds of every row on the way.
-use mathlib.Core.Path.{_≡_, refl, sym, ap, ap₂, _∙_, subst}
+use mathlib.Core.Path.{_≡_, sym, ap, ap₂, _∙_, subst}
 use mathlib.Core.List.{List, [], _∷_, _++_, map}
-use Prim.Native.Nat.{ℕ, zero, suc, _+_, _*_, _≤_, _<_}
+use Prim.Native.Nat.{ℕ, suc, _+_, _≤_, _<_}
 use native.Mathlib.Omega.{arith}
 use lib.IntN.{ℤ, pos, natAbs, _*ℤ_}
 use lib.Signed.{_≤ℤ_}
-use lib.ListN.{length, getD, take, drop, length-append, List·getD-append, List·getD-eq-default}
-use lib.Seq.{take-append-le, length-take-le, split-at, getD-take}
-use native.Mathlib.Decide.{decLt}
+use lib.ListN.{length, getD, take, drop, length-append, List·getD-append}
+use lib.Seq.{take-append-le, split-at, getD-take}
+use Rattle.integers.specs.All.{take-map, getD-map}
 use Rattle.integers.specs.Order.{pos-nonneg}
 use Rattle.integers.specs.Size.{Within, load}
-use Rattle.lattices.specs.Vector.{Vec, N, nth}
+use Rattle.lattices.specs.Vector.{N, nth}
 use Rattle.lattices.specs.Nearest.{nearest}
 use Rattle.lattices.specs.Greedy.{Row, vectors}
 use Rattle.lattices.specs.Answer.{padded}
@@ -18,16 +18,10 @@ use Rattle.lattices.specs.AnswerLaws.{nth-padded, take-padded}
 use Rattle.minima.specs.Reduced.{Reduced}
 use Rattle.minima.specs.NearestLaws.{nearest-count}
 use Rattle.reductions.specs.Moves.{Moves, length-vectors}
-use Rattle.reductions.specs.Start.{getD-map}
-use Rattle.reductions.specs.Sizes.{Basis, first-rows, most, coordinate, short-of, u-room, v-room, vector-room, x-size}
+use Rattle.reductions.specs.Sizes.{first-rows, coordinate, short-of, u-room, v-room, vector-room, x-size}
 use Rattle.rows.specs.Minus.{room}
 use Rattle.engine.specs.State.{blank}
 use Rattle.engine.specs.Fine.{Fine, fine-length, fine-short, fine-fewer}
-
-take-map : {A B : Type 0} (f : A → B) (k : ℕ) (l : List A) → take k (map f l) ≡ map f (take k l)
-take-map f zero l = refl
-take-map f (suc k) [] = refl
-take-map f (suc k) (x ∷ l) = ap (λ r. f x ∷ r) (take-map f k l)
 
 module _ (k : ℕ) (rows : List Row) (f : Fine (suc k) rows) (three : k ≤ 3) (red : Reduced (vectors (take k rows))) where
   fewer : Fine k rows

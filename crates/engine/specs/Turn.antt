@@ -2,23 +2,23 @@
 -- either ends the reduction of n rows or leaves the same reduction to do.
 use mathlib.Core.Path.{_≡_, refl, sym, ap, ap₂, _∙_, subst}
 use mathlib.Core.Bool.{Bool, true, false, cond}
-use mathlib.Core.List.{List, [], _∷_, _++_, map, append-assoc}
-use Prim.Native.Nat.{ℕ, zero, suc, _+_, _≤_, _<_}
+use mathlib.Core.List.{List, [], _∷_, _++_, append-assoc}
+use Prim.Native.Nat.{ℕ, suc, _+_, _≤_, _<_}
 use native.Mathlib.Nat.{le-refl}
 use native.Mathlib.Omega.{arith}
 use lib.IntN.{natAbs}
 use lib.Signed.{ltZ}
 use lib.ListN.{length, getD, take, drop, length-append, List·getD-append}
-use lib.Seq.{take-append-seam, drop-append-seam, getD-append-seam, take-all}
+use lib.Seq.{take-append-seam, drop-append-seam, getD-append-seam}
 use Rattle.lattices.specs.Vector.{N}
 use Rattle.lattices.specs.Permutation.{perm-length}
-use Rattle.lattices.specs.Greedy.{Row, Counted, Pass, vectors, order, lastOf, before, less, credited, pass, round, shorter, joined, total, greedy}
+use Rattle.lattices.specs.Greedy.{Row, Pass, vectors, order, lastOf, before, pass, round, shorter, joined, total, greedy}
 use Rattle.minima.specs.Reduced.{Reduced}
 use Rattle.reductions.specs.Moves.{Moves, order-perm, before-last, length-before, moves-length, ordered-moves, greedy-moves}
 use Rattle.reductions.specs.Lengths.{total-nonneg}
 use Rattle.reductions.specs.Fuel.{stop, again, greedy-steps, falls, size-falls}
 use Rattle.rows.specs.declared.Work.{Work}
-use Rattle.rows.specs.Rows.{rowsOf, workOf, rowsOf-workOf}
+use Rattle.rows.specs.Rows.{workOf, rowsOf-workOf}
 use Rattle.engine.specs.State.{rowsIn, blank, orderRows, passRows, greedyRows, greedyPasses, ordered, passed, reduced}
 use Rattle.engine.specs.Fine.{Fine, fine-length, fine-moves, fine-order, fine-greedy, fine-fewer, fine-reduced}
 use Rattle.engine.specs.Room.{Ready}

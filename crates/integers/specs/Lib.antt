@@ -8,6 +8,7 @@ pub mod Linear
 pub mod Division
 pub mod Sign
 pub mod Size
+pub mod All
 pub mod Lists
 pub mod Lex
 pub mod Examples

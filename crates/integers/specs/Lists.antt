@@ -4,7 +4,7 @@ use mathlib.Core.List.{List, [], _∷_, _++_}
 use Prim.Native.Nat.{ℕ, zero, suc, max}
 use native.Mathlib.Omega.{arith}
 use lib.IntN.{ℤ, pos, negsuc, _+ℤ_, _*ℤ_, +ℤ-idl, +ℤ-idr, *ℤ-zero}
-use lib.ListN.{length, getD}
+use lib.ListN.{length, getD, replicate}
 
 infixl 8 _⊕_ _⊖_
 infixr 9 _⊙_
@@ -49,6 +49,12 @@ pub ruleset entries = (nth-⊕, nth-⊙)
 pub nth-last : (u : List ℤ) (j : ℤ) → nth (u ++ (j ∷ [])) (length u) ≡ j
 nth-last [] j = refl
 nth-last (x ∷ u) j = nth-last u j
+
+-- a list of zeros
+pub nth-replicate : (n i : ℕ) → nth (replicate n (pos 0)) i ≡ pos 0
+nth-replicate zero i = refl
+nth-replicate (suc n) zero = refl
+nth-replicate (suc n) (suc i) = nth-replicate n i
 
 -- ---- lengths
 

@@ -7,6 +7,7 @@ use Prim.Native.Nat.{ℕ, zero, suc, _<_}
 use native.Mathlib.Omega.{arith}
 use lib.IntN.{ℤ, pos, negsuc}
 use lib.ListN.{length, getD}
+use Rattle.integers.specs.All.{All, all-imp}
 use Rattle.integers.specs.Size.{Within}
 use Rattle.lattices.specs.Vector.{Zero}
 use Rattle.minima.specs.Digits.{Bounded, bounded-cons, zero-cons}
@@ -27,10 +28,6 @@ lists (suc n) = fan (lists n) (grid n)
 
 -- ---- what holds of all lists of a table, by recursion and by places
 
-abbrev All : (List ℤ → Type 0) → List (List ℤ) → Type 0
-All P [] = Unit {0}
-All P (e ∷ t) = P e × All P t
-
 all-of : (P : List ℤ → Type 0) (t : List (List ℤ)) → ((i : ℕ) → i < length t → P (getD t i [])) → All P t
 all-of P [] f = tt
 all-of P (e ∷ t) f = (f 0 (omega arith), all-of P t (λ i h. f (suc i) (omega arith)))
@@ -39,10 +36,6 @@ all-at : (P : List ℤ → Type 0) (t : List (List ℤ)) → All P t → (i : �
 all-at P [] a i h = absurd (omega arith)
 all-at P (e ∷ t) a zero h = a .0
 all-at P (e ∷ t) a (suc i) h = all-at P t (a .1) i (omega arith)
-
-all-imp : (P Q : List ℤ → Type 0) → ((e : List ℤ) → P e → Q e) → (t : List (List ℤ)) → All P t → All Q t
-all-imp P Q f [] a = tt
-all-imp P Q f (e ∷ t) a = (f e (a .0), all-imp P Q f t (a .1))
 
 all-++ : (P : List ℤ → Type 0) (s t : List (List ℤ)) → All P (s ++ t) ↔ (All P s × All P t)
 all-++ P [] t = (λ a. (tt, a), λ a. a .1)
@@ -118,7 +111,7 @@ fan-steps : (n : ℕ) (s t : List (List ℤ)) → All (Step n) s → All (Step n
 fan-steps n s t a b = fan-all (Step (suc n)) s t (record { none = at (pos 0) (omega arith) s a; plus = at (pos 1) (omega arith) t b; minus = at (negsuc 0) (omega arith) t b })
   where
     at : (x : ℤ) → Within 1 x → (t : List (List ℤ)) → All (Step n) t → All (λ e. Step (suc n) (x ∷ e)) t
-    at x h t c = all-imp (Step n) (λ e. Step (suc n) (x ∷ e)) (step-cons x h) t c
+    at x h t c = all-imp (step-cons x h) t c
 
 grid-steps : (n : ℕ) → All (Step n) (grid n)
 grid-steps zero = (record { count = refl; bounded = λ i. record { within = omega arith } }, tt)

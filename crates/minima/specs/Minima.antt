@@ -9,22 +9,13 @@ use native.Mathlib.Omega.{arith}
 use lib.IntN.{ℤ, pos}
 use lib.Signed.{_≤ℤ_, _<ℤ_, ≤ℤ-refl, <ℤ-irrefl}
 use lib.ListN.{length, getD, take, length-take, length-reverse, List·getD-eq-default, List·getD-append}
+pub use Rattle.integers.specs.All.{All, Some}
 use Rattle.integers.specs.Order.{≤ℤ-trans, ≤ℤ-or-<ℤ, ≤ℤ-<ℤ-trans, zero-or-not}
 use Rattle.lattices.specs.Vector.{Vec, N, nth, comb, _⊙_, In, Dependent, Independent}
 use Rattle.lattices.specs.VectorLaws.{_≈_, ≈-refl, ≈-sym, ≈-trans, ≈-of-≡, ≈-⊕, ≈-⊙, ≈-N, ≈-Zero, Zero-≈, nth-≈, N-nonneg, comb-⊕, comb-⊙, comb-≈, comb-nil, comb-none, comb-reverse}
 use Rattle.volumes.specs.Dependence.{Fit, too-many}
 use Rattle.minima.specs.Reduced.{Descending, Reduced}
 use Rattle.minima.specs.ReducedLaws.{any, under}
-
--- every element of a list has P
-abbrev pub All : {A : Type 0} → (A → Type 0) → List A → Type 0
-All P [] = Unit {0}
-All P (a ∷ l) = P a × All P l
-
--- some element of a list has P
-abbrev pub Some : {A : Type 0} → (A → Type 0) → List A → Type 0
-Some P [] = ⊥
-Some P (a ∷ l) = P a ⊎ Some P l
 
 -- ---- reduced lists, shortest vector first
 getD-last : {A : Type 0} (l : List A) (a d : A) → getD (l ++ (a ∷ [])) (length l) d ≡ a

@@ -14,8 +14,9 @@ use lib.ListN.{length, length-append, length-reverse, replicate, length-replicat
 use Rattle.integers.specs.Identity.{by-ring, reads}
 use Rattle.integers.specs.Order.{≤ℤ-or-<ℤ, ≤ℤ-trans, ≤ℤ-leZ, leZ-true, leZ-false}
 use Rattle.integers.specs.Certificate.{NN, nn-pos, _⊞_, _⊠_, le, lt, by-nn, nn-false}
+use Rattle.integers.specs.Lists.{nth-replicate}
 use Rattle.integers.specs.Lex.{below-irrefl, below-asymm, below-negtrans, below-last, below-<, below->, below-≡}
-use Rattle.lattices.specs.Vector.{Vec, N, nth, dot, _⊙_, _⊖_, comb}
+use Rattle.lattices.specs.Vector.{Vec, N, dot, _⊙_, _⊖_, comb}
 use Rattle.lattices.specs.VectorLaws.{_≈_, ≈-N, nil-dot, dot-⊙, bilinear, N-nonneg, comb-cons, comb-none, comb-zero, ⊖-zero, comb-snoc, comb-reverse}
 use Rattle.lattices.specs.Nearest.{value, below, lesser, outward, near, least, nearest}
 use Rattle.volumes.specs.Sizes.{near-le}
@@ -130,11 +131,6 @@ module _ (at : ℤ → List ℤ) (near : ℤ → Bool) (L : ℕ) (len : (i : ℤ
       go false q d r = absurd (false≢true q)
       go true q (yes s) r = subst (λ (i : ℕ). (below (at (pos i)) R ≡ false) × (below (at (negℤ (pos i))) R ≡ false)) s here
       go true q (no f) r = r (omega arith)
-
-nth-replicate : (n i : ℕ) → nth (replicate n (pos 0)) i ≡ pos 0
-nth-replicate zero i = refl
-nth-replicate (suc n) zero = refl
-nth-replicate (suc n) (suc i) = nth-replicate n i
 
 -- ---- the value with the last coefficient apart
 value-last : (bs : List Vec) (b t : Vec) (x : List ℤ) (j : ℤ) → length x ≡ length bs

@@ -13,7 +13,7 @@ use Rattle.integers.specs.Order.{ltZ-false, leZ-false}
 use Rattle.lattices.specs.Vector.{Vec, N}
 use Rattle.lattices.specs.Volume.{squaredVolume, isDependent}
 use Rattle.lattices.specs.Refusal.{Input, vectorsOf, basis, oneTo, any, tooLong, Check, firstOf, vectorChecks, mostVectors, mostCoordinates, mostSquare, mostSize}
-use Rattle.minima.specs.Minima.{All}
+use Rattle.integers.specs.All.{All}
 use Rattle.reductions.specs.Start.{Coordinates}
 
 -- ---- where no check applies, each condition is false

@@ -16,7 +16,8 @@ use Rattle.lattices.specs.Refusal.{Input, Check, basis, firstOf, vectorChecks, 
 use Rattle.lattices.specs.Answer.{table, rowsOfV, Reduction, Nearest, reductionGiven, noReduction, reductionOf, nearestGiven, noNearest, nearestOf}
 use Rattle.lattices.specs.AnswerLaws.{take-padded, length-vectorsOf}
 use Rattle.minima.specs.NearestLaws.{nearest-least, nearest-count}
-use Rattle.minima.specs.Minima.{All, Some, successive}
+use Rattle.integers.specs.All.{All, Some, all-imp}
+use Rattle.minima.specs.Minima.{successive}
 use Rattle.reductions.specs.Moves.{length-vectors}
 use Rattle.reductions.specs.Start.{Coordinates, sized-vectors, sized-us}
 use Rattle.reductions.specs.Exactness.{comb-full, reduction-length, reduction-sized, reduction-u, reduction-v, reduction-vu}
@@ -55,10 +56,6 @@ pub record Reduces (i : Input) (r : Reduction) : Type 0 where
   pub u-v : map (λ u. comb u (tableIn i (r .v))) (tableIn i (r .u)) ≡ units (i .d)
   pub v-u : map (λ v. comb v (tableIn i (r .u))) (tableIn i (r .v)) ≡ units (i .d)
   pub squares : take (i .d) (r .squares) ≡ map N (vectorsIn i r)
-
-all-map : {A : Type 0} {P Q : A → Type 0} → ((a : A) → P a → Q a) → (l : List A) → All P l → All Q l
-all-map f [] h = tt
-all-map f (a ∷ l) h = (f a (h .0), all-map f l (h .1))
 
 module _ (i : Input) (ok : Accepted i) where
   ins-count : length (basis i) ≡ i .d
@@ -111,7 +108,7 @@ module _ (i : Input) (ok : Accepted i) where
   outs-minima : (vs : List Vec) → All (In (basis i)) vs → Independent vs → (k : ℕ) → k < length vs → k < i .d → Some (λ v. N (getD (vectors rows) k []) ≤ℤ N v) vs
   unfolding rows
   outs-minima vs h n k a b = successive (vectors rows) (reduction-reduced (i .m) (basis i) (ok .full) ins-some (omega (arith, ins-count, ok .most)) (ok .volume)) (omega (arith, outs-count, ok .most)) vs
-      (all-map (λ v. reduction-lattice (i .m) (basis i) (ok .full) ins-some v .0) vs h) n k a (omega (arith, outs-count))
+      (all-imp (λ v. reduction-lattice (i .m) (basis i) (ok .full) ins-some v .0) vs h) n k a (omega (arith, outs-count))
 
   given-reduces : Reduces i given
   unfolding rows

@@ -12,7 +12,7 @@ use Rattle.lattices.specs.VectorLaws.{≈-≡, nil-dot, dot-⊕, dot-⊙}
 use Rattle.lattices.specs.Greedy.{Row, vectors, units, start, greedy, reduction}
 use Rattle.lattices.specs.Answer.{rowOfV, rowsOfV}
 use Rattle.reductions.specs.Moves.{Moves, moves-length, greedy-moves, length-vectors}
-use Rattle.reductions.specs.Every.{Every}
+use Rattle.integers.specs.All.{All}
 use Rattle.reductions.specs.Tables.{Exact, moves-exact, spread, Linear, moves-spread}
 use Rattle.reductions.specs.Start.{Sized, Coordinates, comb-places, sized-vectors, sized-us, moves-sized, sized-start, exact-start, spread-start, start-vectors, start-us, length-units, units-coordinates}
 
@@ -22,7 +22,7 @@ comb-full m x [] h e s = absurd (omega arith)
 comb-full m [] (b ∷ bs) h e s = absurd (omega arith)
 comb-full m (x ∷ xs) (b ∷ bs) h e s = omega (arith, length-⊕ (x ⊙ b) (comb xs bs), length-⊙ x b, h .0, comb-places m xs bs (h .1))
 
-u-exact : (m : ℕ) (bs : List Vec) → Coordinates m bs → 1 ≤ length bs → (rows : List Row) → Every (Sized m (length bs)) rows → Exact bs rows
+u-exact : (m : ℕ) (bs : List Vec) → Coordinates m bs → 1 ≤ length bs → (rows : List Row) → All (Sized m (length bs)) rows → Exact bs rows
     → map (λ u. comb u bs) (map (λ r. r .u) rows) ≡ vectors rows
 u-exact m bs h s [] z e = refl
 u-exact m bs h s (r ∷ rows) z e = ap₂ _∷_
@@ -77,7 +77,7 @@ module _ (m : ℕ) (bs : List Vec) (full : Coordinates m bs) (some : 1 ≤ lengt
   pub reduction-length : length (reduction bs .rows) ≡ length bs
   reduction-length = sym (moves-length moved) ∙ length-begin
 
-  pub reduction-sized : Every (Sized m (length bs)) (reduction bs .rows)
+  pub reduction-sized : All (Sized m (length bs)) (reduction bs .rows)
   unfolding begin
   reduction-sized = moves-sized m (length bs) moved (sized-start m bs full)
 

@@ -10,6 +10,7 @@ use lib.ListN.{length, getD, length-map}
 use lib.Seq.{ext-getD}
 use Rattle.integers.specs.Ring.{ -ℤ-zero}
 use Rattle.integers.specs.Identity.{by-ring, reads}
+use Rattle.integers.specs.All.{getD-map}
 use Rattle.integers.specs.Lists.{nth-⊕, nth-⊙}
 use Rattle.lattices.specs.Vector.{Vec, nth, dot, _⊙_, _⊖_, comb, Zero, In}
 use Rattle.lattices.specs.VectorLaws.{_≈_, ≈-refl, ≈-sym, ≈-trans, ≈-of-≡, ≈-⊕, ≈-≡, ≈-Zero, nil-dot, bilinear, comb-⊕, comb-⊙}
@@ -19,7 +20,7 @@ use Rattle.lattices.specs.Answer.{rowsOfV}
 use Rattle.volumes.specs.Dependence.{zero-coefficient}
 use Rattle.minima.specs.Reduced.{Reduced}
 use Rattle.reductions.specs.Moves.{length-vectors}
-use Rattle.reductions.specs.Start.{Coordinates, getD-map, unit-comb, start-vectors, length-units, units-coordinates, sized-vectors, sized-us}
+use Rattle.reductions.specs.Start.{Coordinates, unit-comb, start-vectors, length-units, units-coordinates, sized-vectors, sized-us}
 use Rattle.reductions.specs.Exactness.{comb-full, coordinates-at, begin, moved, length-begin, reduction-length, reduction-sized, reduction-u, reduction-v}
 use Rattle.reductions.specs.Kept.{moves-keep}
 use Rattle.reductions.specs.Output.{greedy-reduced}

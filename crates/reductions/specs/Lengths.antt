@@ -11,16 +11,17 @@ use Rattle.lattices.specs.Vector.{Vec, N}
 use Rattle.lattices.specs.VectorLaws.{N-nonneg}
 use Rattle.lattices.specs.Permutation.{Perm, same, skip, swap, then}
 use Rattle.lattices.specs.Greedy.{Row, vectors, insert, order, lastOf, before, less, credited, total}
-use Rattle.reductions.specs.Every.{Every, moves-every}
+use Rattle.integers.specs.All.{All}
+use Rattle.reductions.specs.Every.{moves-all}
 use Rattle.reductions.specs.Moves.{Moves, none, after, exchange, subtract, vectors-credited}
 
 -- ---- no row longer than s
 abbrev pub NoLonger : ℤ → List Row → Type 0
-NoLonger s = Every (λ r. N (r .vector) ≤ℤ s)
+NoLonger s = All (λ r. N (r .vector) ≤ℤ s)
 
 -- no vector on the way is longer than the longest input
 pub moves-no-longer : (s : ℤ) {a b : List Row} → Moves a b → NoLonger s a → NoLonger s b
-moves-no-longer s = moves-every (λ r. N (r .vector) ≤ℤ s) (λ r q x h k. h) (λ x rows r k h p. ≤ℤ-trans k p)
+moves-no-longer s = moves-all (λ r. N (r .vector) ≤ℤ s) (λ r q x h k. h) (λ x rows r k h p. ≤ℤ-trans k p)
 
 pub no-longer-credited : (s : ℤ) (x v : List ℤ) (rows : List Row) → NoLonger s rows → NoLonger s (credited x v rows)
 unfolding credited
@@ -69,7 +70,7 @@ moves-total (subtract x rows r rest e k) =
 
 -- ---- ordering by length: every row is at least as long as those before it
 abbrev pub AtLeast : ℤ → List Row → Type 0
-AtLeast s = Every (λ r. s ≤ℤ N (r .vector))
+AtLeast s = All (λ r. s ≤ℤ N (r .vector))
 
 abbrev pub Sorted : List Row → Type 0
 Sorted [] = Unit {0}

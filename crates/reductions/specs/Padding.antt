@@ -18,7 +18,8 @@ use Rattle.lattices.specs.Answer.{padded}
 use Rattle.lattices.specs.AnswerLaws.{length-padded, nth-padded, padded-≈}
 use Rattle.reductions.specs.Moves.{Moves, Moving, order-perm, before-last, length-before, moves-length, ordered-moves, greedy-moves}
 use Rattle.reductions.specs.Fuel.{stop, again}
-use Rattle.reductions.specs.Every.{Every, every-perm, every-left, every-right}
+use Rattle.integers.specs.All.{All, all-left, all-right, map-append}
+use Rattle.reductions.specs.Every.{all-perm}
 use Rattle.reductions.specs.Start.{Sized, Coordinates, comb-places, sized-vectors, sized-us, moves-sized}
 
 -- ---- padding is linear
@@ -97,7 +98,7 @@ module _ (w h m d : ℕ) (wide : m ≤ w) (high : d ≤ h) where
   pad r = record { vector = padded w (r .vector); u = padded h (r .u); v = padded h (r .v) }
 
   abbrev pub Fits : List Row → Type 0
-  Fits = Every (Sized m d)
+  Fits = All (Sized m d)
 
   pad-vectors : (rows : List Row) → vectors (map pad rows) ≡ map (padded w) (vectors rows)
   unfolding pad
@@ -129,7 +130,7 @@ module _ (w h m d : ℕ) (wide : m ≤ w) (high : d ≤ h) where
   order-padded : (rows : List Row) → Fits rows → order (map pad rows) ≡ map pad (order rows)
   unfolding order
   order-padded [] f = refl
-  order-padded (r ∷ rows) f = ap (insert (pad r)) (order-padded rows (f .1)) ∙ insert-padded r (order rows) (f .0) (every-perm (Sized m d) (order-perm rows) (f .1))
+  order-padded (r ∷ rows) f = ap (insert (pad r)) (order-padded rows (f .1)) ∙ insert-padded r (order rows) (f .0) (all-perm (Sized m d) (order-perm rows) (f .1))
 
   last-padded : (r : Row) (rows : List Row) → lastOf (pad r) (map pad rows) ≡ pad (lastOf r rows)
   last-padded r [] = refl
@@ -189,10 +190,6 @@ module _ (w h m d : ℕ) (wide : m ≤ w) (high : d ≤ h) where
       last-fits q [] f = f .0
       last-fits q (r ∷ rows) f = last-fits r rows (f .1)
 
-  map-append : (a b : List Row) → map pad (a ++ b) ≡ map pad a ++ map pad b
-  map-append [] b = refl
-  map-append (r ∷ a) b = ap (λ l. pad r ∷ l) (map-append a b)
-
   total-padded : (rows : List Row) → Fits rows → total (map pad rows) ≡ total rows
   total-padded [] f = refl
   total-padded (r ∷ rows) f = ap₂ _+ℤ_ (pad-N r (f .0)) (total-padded rows (f .1))
@@ -207,7 +204,7 @@ module _ (w h m d : ℕ) (wide : m ≤ w) (high : d ≤ h) where
   round-padded k reduce mv pd (r ∷ rows) e f =
       ap₂ (λ b l. pass (reduce b) l) (before-padded r rows) (last-padded r rows)
       ∙ ap (λ c. pass c (pad (lastOf r rows))) (pd (before r rows) count fits)
-      ∙ pass-padded (reduce (before r rows)) (lastOf r rows) (moves-sized m d (mv (before r rows) count) fits) (every-right (Sized m d) (before r rows) (lastOf r rows ∷ []) whole .0)
+      ∙ pass-padded (reduce (before r rows)) (lastOf r rows) (moves-sized m d (mv (before r rows) count) fits) (all-right (Sized m d) (before r rows) (lastOf r rows ∷ []) whole .0)
     where
       count : length (before r rows) ≡ k
       count = length-before r rows ∙ omega arith
@@ -216,18 +213,18 @@ module _ (w h m d : ℕ) (wide : m ≤ w) (high : d ≤ h) where
       whole = subst Fits (sym (before-last r rows)) f
 
       fits : Fits (before r rows)
-      fits = every-left (Sized m d) (before r rows) (lastOf r rows ∷ []) whole
+      fits = all-left (Sized m d) (before r rows) (lastOf r rows ∷ []) whole
 
   joined-padded : (p : Pass) → joined (pad-pass p) ≡ map pad (joined p)
   unfolding pad-pass
-  joined-padded p = sym (map-append (p .first) (p .last ∷ []))
+  joined-padded p = sym (map-append pad (p .first) (p .last ∷ []))
 
   settle : Bool → Pass → Counted → Counted
   settle b p c = elim b [ false ↦ stop p | true ↦ again p c ]
 
   settle-padded : (b : Bool) (p : Pass) (c : Counted) → settle b (pad-pass p) (pad-counted c) ≡ pad-counted (settle b p c)
   unfolding settle pad-pass pad-counted
-  settle-padded false p c = ap (λ l. record { rows = l; passes = p .passes }) (sym (map-append (p .first) (p .last ∷ [])))
+  settle-padded false p c = ap (λ l. record { rows = l; passes = p .passes }) (sym (map-append pad (p .first) (p .last ∷ [])))
   settle-padded true p c = refl
 
   repeat-padded : (k : ℕ) (reduce : List Row → Counted) → Moving k reduce → Padding k reduce → (fuel : ℕ) (rows : List Row) → length rows ≡ suc k → Fits rows
@@ -249,14 +246,14 @@ module _ (w h m d : ℕ) (wide : m ≤ w) (high : d ≤ h) where
       all-fit = moves-sized m d moves f
 
       first-fits : Fits (p .first)
-      first-fits = every-left (Sized m d) (p .first) (p .last ∷ []) all-fit
+      first-fits = all-left (Sized m d) (p .first) (p .last ∷ []) all-fit
 
       last-fits : Sized m d (p .last)
-      last-fits = every-right (Sized m d) (p .first) (p .last ∷ []) all-fit .0
+      last-fits = all-right (Sized m d) (p .first) (p .last ∷ []) all-fit .0
 
       same-pass : round reduce (order (map pad rows)) ≡ pad-pass p
       same-pass = ap (round reduce) (order-padded rows f)
-          ∙ round-padded k reduce mv pd (order rows) (sym (perm-length (order-perm rows)) ∙ e) (every-perm (Sized m d) (order-perm rows) f)
+          ∙ round-padded k reduce mv pd (order rows) (sym (perm-length (order-perm rows)) ∙ e) (all-perm (Sized m d) (order-perm rows) f)
 
       same-rows : joined (pad-pass p) ≡ map pad (joined p)
       same-rows = joined-padded p

@@ -16,13 +16,12 @@ use Rattle.lattices.specs.Greedy.{Row, vectors, units, start, reduction}
 use Rattle.lattices.specs.Refusal.{Input, basis, firstOf, vectorChecks, targetChecks, mostSquare}
 use Rattle.lattices.specs.Answer.{padded, table, rowOfV, rowsOfV, reductionOf, nearestOf}
 use Rattle.lattices.specs.AnswerLaws.{padded-same, length-vectorsOf}
-use Rattle.minima.specs.Minima.{All}
+use Rattle.integers.specs.All.{All}
 use Rattle.minima.specs.NearestLaws.{nearest-count, nearest-shorter}
 use Rattle.volumes.specs.Sizes.{Short, near-le}
 use Rattle.integers.specs.Order.{≤ℤ-trans, *ℤ-mono, pos-nonneg}
 use Rattle.reductions.specs.Moves.{Moves, length-vectors}
 use Rattle.reductions.specs.Lengths.{NoLonger}
-use Rattle.reductions.specs.Every.{Every}
 use Rattle.reductions.specs.Exactness.{begin, moved}
 use Rattle.reductions.specs.Start.{Coordinates, units-coordinates}
 use Rattle.reductions.specs.Accepted.{Accepted, accepted, passed, short as short-vector}
@@ -70,15 +69,15 @@ table-entries s (suc h) w [] a (suc k) j = table-entries s h w [] tt k j
 table-entries s (suc h) w (r ∷ rows) a zero j = padded-entries s w r (a .0) j
 table-entries s (suc h) w (r ∷ rows) a (suc k) j = table-entries s h w rows (a .1) k j
 
-u-entries : (s : ℕ) (rows : List Row) → ((j : ℕ) → Every (λ r. natAbs (nth (r .u) j) ≤ s) rows) → All (Entries s) (map (λ r. r .u) rows)
+u-entries : (s : ℕ) (rows : List Row) → ((j : ℕ) → All (λ r. natAbs (nth (r .u) j) ≤ s) rows) → All (Entries s) (map (λ r. r .u) rows)
 u-entries s [] h = tt
 u-entries s (r ∷ rows) h = (λ j. h j .0, u-entries s rows (λ j. h j .1))
 
-v-entries : (s : ℕ) (rows : List Row) → ((i : ℕ) → Every (λ r. natAbs (nth (r .v) i) ≤ s) rows) → (i n : ℕ) → All (Entries s) (rowsOfV rows i n)
+v-entries : (s : ℕ) (rows : List Row) → ((i : ℕ) → All (λ r. natAbs (nth (r .v) i) ≤ s) rows) → (i n : ℕ) → All (Entries s) (rowsOfV rows i n)
 v-entries s rows h i zero = tt
 v-entries s rows h i (suc n) = (row rows (h i), v-entries s rows h (suc i) n)
   where
-    row : (l : List Row) → Every (λ r. natAbs (nth (r .v) i) ≤ s) l → Entries s (rowOfV l i)
+    row : (l : List Row) → All (λ r. natAbs (nth (r .v) i) ≤ s) l → Entries s (rowOfV l i)
     row [] e j = zero-le
     row (r ∷ l) e zero = e .0
     row (r ∷ l) e (suc j) = row l (e .1) j

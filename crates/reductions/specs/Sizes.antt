@@ -24,7 +24,8 @@ use Rattle.volumes.specs.Sizes.{Short, coefficient-≤, near-le}
 use Rattle.minima.specs.Reduced.{Reduced}
 use Rattle.minima.specs.NearestLaws.{nearest-count, nearest-shorter}
 use Rattle.reductions.specs.Moves.{Moves, moves-length, after, subtract, length-vectors, vectors-append}
-use Rattle.reductions.specs.Every.{Every, every-left, every-right, moves-every}
+use Rattle.integers.specs.All.{All, all-left, all-right, all-both}
+use Rattle.reductions.specs.Every.{moves-all}
 use Rattle.reductions.specs.Lengths.{NoLonger, moves-no-longer}
 use Rattle.reductions.specs.Tables.{Exact, moves-exact, spread, moves-spread}
 use Rattle.reductions.specs.Start.{Coordinates, start-vectors, length-units, units-coordinates, exact-start, spread-start}
@@ -49,14 +50,14 @@ narrow-⊙ d y u n j h = nth-⊙ y u j ∙ ap (λ z. y *ℤ z) (n j h) ∙ *ℤ-
 narrow-⊕ : (d : ℕ) (u v : List ℤ) → Narrow d u → Narrow d v → Narrow d (u ⊕ v)
 narrow-⊕ d u v m n j h = nth-⊕ u v j ∙ ap₂ _+ℤ_ (m j h) (n j h)
 
-narrow-comb : (d : ℕ) (x : List ℤ) (rows : List Row) → Every (λ r. Narrow d (r .u)) rows → Narrow d (comb x (map (λ r. r .u) rows))
+narrow-comb : (d : ℕ) (x : List ℤ) (rows : List Row) → All (λ r. Narrow d (r .u)) rows → Narrow d (comb x (map (λ r. r .u) rows))
 unfolding comb
 narrow-comb d [] rows n j h = refl
 narrow-comb d (x ∷ xs) [] n j h = refl
 narrow-comb d (x ∷ xs) (r ∷ rows) n j h = narrow-⊕ d (x ⊙ r .u) (comb xs (map (λ r. r .u) rows)) (narrow-⊙ d x (r .u) (n .0)) (narrow-comb d xs rows (n .1)) j h
 
-moves-narrow : (d : ℕ) {a b : List Row} → Moves a b → Every (λ r. Narrow d (r .u)) a → Every (λ r. Narrow d (r .u)) b
-moves-narrow d = moves-every (λ r. Narrow d (r .u)) (λ r s x h k. h)
+moves-narrow : (d : ℕ) {a b : List Row} → Moves a b → All (λ r. Narrow d (r .u)) a → All (λ r. Narrow d (r .u)) b
+moves-narrow d = moves-all (λ r. Narrow d (r .u)) (λ r s x h k. h)
     (λ x rows r k h p. narrow-⊕ d (r .u) (negsuc 0 ⊙ comb x (map (λ r. r .u) rows)) p (narrow-⊙ d (negsuc 0) (comb x (map (λ r. r .u) rows)) (narrow-comb d x rows h)))
 
 -- ---- a vector of the lattice that is at most A · 20,000 long has coefficients of at most A · 20,000⁴
@@ -105,7 +106,7 @@ no-longer-of s (b ∷ ins) (e ∷ es) h = (h 0, no-longer-of s ins es (λ i. h (
 wide-length : (w d : ℕ) → length (map (padded w) (units d)) ≡ d
 wide-length w d = length-map (units d) (padded w) ∙ length-units d
 
-narrow-start : (w : ℕ) (d : ℕ) (ins : List Vec) (es : List (List ℤ)) → Coordinates d es → d ≤ w → Every (λ r. Narrow d (r .u)) (start ins (map (padded w) es))
+narrow-start : (w : ℕ) (d : ℕ) (ins : List Vec) (es : List (List ℤ)) → Coordinates d es → d ≤ w → All (λ r. Narrow d (r .u)) (start ins (map (padded w) es))
 narrow-start w d [] es c h = tt
 narrow-start w d (b ∷ ins) [] c h = tt
 narrow-start w d (b ∷ ins) (e ∷ es) c h =
@@ -126,7 +127,7 @@ module _ (m w : ℕ) (ins : List Vec) (B : Basis m ins) (wide : length ins ≤ w
   start-is : vectors (first-rows w ins) ≡ ins
   start-is = start-vectors ins (map (padded w) (units (length ins))) (wide-length w (length ins))
 
-  pub way-narrow : Every (λ r. Narrow (length ins) (r .u)) rows
+  pub way-narrow : All (λ r. Narrow (length ins) (r .u)) rows
   way-narrow = moves-narrow (length ins) moved (narrow-start w (length ins) ins (units (length ins)) (units-coordinates (length ins)) wide)
 
   pub way-exact : Exact ins rows
@@ -142,10 +143,10 @@ module _ (m w : ℕ) (ins : List Vec) (B : Basis m ins) (wide : length ins ≤ w
   way-volume = subst (λ s. pos 0 <ℤ s) (ap (squaredVolume m) (sym start-is) ∙ moves-keep m moved) (B .volume)
 
   -- no number in U passes 20,000⁴
-  pub u-size : (j : ℕ) → Every (λ r. natAbs (nth (r .u) j) ≤ most) rows
+  pub u-size : (j : ℕ) → All (λ r. natAbs (nth (r .u) j) ≤ most) rows
   u-size j = go rows way-narrow way-exact way-short
     where
-      go : (l : List Row) → Every (λ r. Narrow (length ins) (r .u)) l → Exact ins l → NoLonger (pos 400000000) l → Every (λ r. natAbs (nth (r .u) j) ≤ most) l
+      go : (l : List Row) → All (λ r. Narrow (length ins) (r .u)) l → Exact ins l → NoLonger (pos 400000000) l → All (λ r. natAbs (nth (r .u) j) ≤ most) l
       go [] z e s = tt
       go (r ∷ l) z e s = (omega (arith, entry m ins (B .four) (B .limit) (B .volume) 1 (r .u) (z .0) (≤ℤ-trans (≤ℤ-of-≡ (≈-N (e .0))) (s .0)) j), go l (z .1) (e .1) (s .1))
 
@@ -157,23 +158,19 @@ module _ (m w : ℕ) (ins : List Vec) (B : Basis m ins) (wide : length ins ≤ w
         ∙ spread-start (λ r. r .vector) ins ins (start-vectors ins (units (length ins)) (length-units (length ins))) refl i v;
   }
 
-  pub v-size : (i : ℕ) → Every (λ r. natAbs (nth (r .v) i) ≤ most) rows
+  pub v-size : (i : ℕ) → All (λ r. natAbs (nth (r .v) i) ≤ most) rows
   v-size i = go rows (λ k. omega (
     arith,
     entry m (vectors rows) (omega (arith, length-vectors rows, way-count, B .four)) (short-of (pos 400000000) (nn-pos 400000000) rows way-short) way-volume
         1 (rowOfV rows i) (narrow-length (length (vectors rows)) (rowOfV rows i) (length-map rows (λ r. nth (r .v) i) ∙ sym (length-vectors rows))) (≤ℤ-trans (≤ℤ-of-≡ (≈-N (row-exact i))) (B .limit i)) k,
   ))
     where
-      go : (l : List Row) → ((k : ℕ) → natAbs (nth (rowOfV l i) k) ≤ most) → Every (λ r. natAbs (nth (r .v) i) ≤ most) l
+      go : (l : List Row) → ((k : ℕ) → natAbs (nth (rowOfV l i) k) ≤ most) → All (λ r. natAbs (nth (r .v) i) ≤ most) l
       go [] h = tt
       go (r ∷ l) h = (h 0, go l (λ k. h (suc k)))
 
 -- ---- room for a pass: the rows front, the row r behind them, and what is nearest to it
-every-both : (P Q : Row → Type 0) (l : List Row) → Every P l → Every Q l → Every (λ r. P r × Q r) l
-every-both P Q [] p q = tt
-every-both P Q (r ∷ l) p q = ((p .0, q .0), every-both P Q l (p .1) (q .1))
-
-every-unit : (l : List Row) → Every (λ r. Unit {0}) l
+every-unit : (l : List Row) → All (λ r. Unit {0}) l
 every-unit [] = tt
 every-unit (r ∷ l) = (tt, every-unit l)
 
@@ -184,7 +181,7 @@ gain-size a y b p q = omega (arith, ap natAbs difference, size-sub (a +ℤ y *�
     difference : y *ℤ b ≡ a +ℤ y *ℤ b -ℤ a
     difference = by-ring (a ∷ y ∷ b ∷ []) (search reads) (search reads) tt
 
-gain-room : (i : ℕ) (v xs : List ℤ) (l : List Row) → length xs ≡ length l → Every (λ r. natAbs (nth (r .v) i) ≤ most) l → Every (λ r. natAbs (nth (r .v) i) ≤ most) (credited xs v l)
+gain-room : (i : ℕ) (v xs : List ℤ) (l : List Row) → length xs ≡ length l → All (λ r. natAbs (nth (r .v) i) ≤ most) l → All (λ r. natAbs (nth (r .v) i) ≤ most) (credited xs v l)
     → (j : ℕ) → j < length l → natAbs (nth (getD (map (λ s. s .v) l) j []) i) + natAbs (nth xs j *ℤ nth v i) ≤ 3 * most
 unfolding credited
 gain-room i v xs [] e p q j h = absurd (omega arith)
@@ -205,10 +202,10 @@ module _ (m w : ℕ) (ins : List Vec) (B : Basis m ins) (wide : length ins ≤ w
   all = front ++ (r ∷ rest)
 
   short-front : NoLonger (pos 400000000) front
-  short-front = every-left (λ r. N (r .vector) ≤ℤ pos 400000000) front (r ∷ rest) (way-short m w ins B wide all moved)
+  short-front = all-left (λ r. N (r .vector) ≤ℤ pos 400000000) front (r ∷ rest) (way-short m w ins B wide all moved)
 
   short-last : N (r .vector) ≤ℤ pos 400000000
-  short-last = every-right (λ r. N (r .vector) ≤ℤ pos 400000000) front (r ∷ rest) (way-short m w ins B wide all moved) .0
+  short-last = all-right (λ r. N (r .vector) ≤ℤ pos 400000000) front (r ∷ rest) (way-short m w ins B wide all moved) .0
 
   -- the nearest vector is at most twice as long as the limit
   near-long : N (comb x (vectors front)) ≤ℤ pos (2 * 2 * 400000000)
@@ -217,10 +214,10 @@ module _ (m w : ℕ) (ins : List Vec) (B : Basis m ins) (wide : length ins ≤ w
   pub u-room : (j : ℕ) → natAbs (nth (r .u) j) + load x (map (λ s. s .u) front) j ≤ 53 * most
   u-room j = omega (
     arith,
-    every-right (λ r. natAbs (nth (r .u) j) ≤ most) front (r ∷ rest) (u-size m w ins B wide all moved j) .0,
+    all-right (λ r. natAbs (nth (r .u) j) ≤ most) front (r ∷ rest) (u-size m w ins B wide all moved j) .0,
     weighs (λ s. s .u) most (λ r. Narrow (length ins) (r .u) × (comb (r .u) ins ≈ r .vector)) (row-size m ins (B .four) (B .limit) (B .volume)) (length front) 2 front refl (omega arith)
-        (every-both (λ r. Narrow (length ins) (r .u)) (λ r. comb (r .u) ins ≈ r .vector) front (every-left (λ r. Narrow (length ins) (r .u)) front (r ∷ rest) (way-narrow m w ins B wide all moved))
-        (every-left (λ r. comb (r .u) ins ≈ r .vector) front (r ∷ rest) (way-exact m w ins B wide all moved))) red x x-count near-long j,
+        (all-both (λ r. Narrow (length ins) (r .u)) (λ r. comb (r .u) ins ≈ r .vector) front (all-left (λ r. Narrow (length ins) (r .u)) front (r ∷ rest) (way-narrow m w ins B wide all moved))
+        (all-left (λ r. comb (r .u) ins ≈ r .vector) front (r ∷ rest) (way-exact m w ins B wide all moved))) red x x-count near-long j,
     cost-most (length front) few,
   )
 
@@ -244,5 +241,5 @@ module _ (m w : ℕ) (ins : List Vec) (B : Basis m ins) (wide : length ins ≤ w
   next = after moved (subtract x front r rest x-count (nearest-shorter (vectors front) (r .vector)))
 
   pub v-room : (i : ℕ) (j : ℕ) → j < length front → natAbs (nth (getD (map (λ s. s .v) front) j []) i) + natAbs (nth x j *ℤ nth (r .v) i) ≤ 3 * most
-  v-room i j h = gain-room i (r .v) x front x-count (every-left (λ r. natAbs (nth (r .v) i) ≤ most) front (r ∷ rest) (v-size m w ins B wide all moved i))
-      (every-left (λ r. natAbs (nth (r .v) i) ≤ most) (credited x (r .v) front) (less x front r ∷ rest) (v-size m w ins B wide (credited x (r .v) front ++ (less x front r ∷ rest)) next i)) j h
+  v-room i j h = gain-room i (r .v) x front x-count (all-left (λ r. natAbs (nth (r .v) i) ≤ most) front (r ∷ rest) (v-size m w ins B wide all moved i))
+      (all-left (λ r. natAbs (nth (r .v) i) ≤ most) (credited x (r .v) front) (less x front r ∷ rest) (v-size m w ins B wide (credited x (r .v) front ++ (less x front r ∷ rest)) next i)) j h

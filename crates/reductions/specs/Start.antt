@@ -6,18 +6,14 @@ use native.Mathlib.Omega.{arith}
 use lib.IntN.{ℤ, pos, negsuc, _+ℤ_, _*ℤ_, +ℤ-idl, +ℤ-idr, zero-*ℤ}
 use lib.ListN.{length, getD, replicate, length-replicate, length-map}
 use Rattle.integers.specs.Ring.{pos-one-*ℤ}
-use Rattle.integers.specs.Lists.{length-⊕, length-⊙}
+use Rattle.integers.specs.Lists.{nth-replicate, length-⊕, length-⊙}
 use Rattle.lattices.specs.Vector.{Vec, nth, dot, _⊙_, _⊖_, comb}
 use Rattle.lattices.specs.VectorLaws.{_≈_, ≈-trans, nil-dot, dot-⊕, dot-⊙, comb-cons, comb-zero}
 use Rattle.lattices.specs.Greedy.{Row, vectors, units, start}
 use Rattle.reductions.specs.Moves.{Moves}
-use Rattle.reductions.specs.Every.{Every, moves-every}
+use Rattle.integers.specs.All.{All, all-imp, getD-map}
+use Rattle.reductions.specs.Every.{moves-all}
 use Rattle.reductions.specs.Tables.{Exact, spread}
-
-pub nth-replicate : (n i : ℕ) → nth (replicate n (pos 0)) i ≡ pos 0
-nth-replicate zero i = refl
-nth-replicate (suc n) zero = refl
-nth-replicate (suc n) (suc i) = nth-replicate n i
 
 pub length-units : (d : ℕ) → length (units d) ≡ d
 length-units zero = refl
@@ -35,11 +31,6 @@ take-first b n bs = record {
   on = λ w. comb-cons (pos 1) (replicate n (pos 0)) b bs .on w ∙ dot-⊕ (pos 1 ⊙ b) (comb (replicate n (pos 0)) bs) w
       ∙ ap₂ _+ℤ_ (dot-⊙ (pos 1) b w ∙ pos-one-*ℤ (dot b w)) (comb-zero (replicate n (pos 0)) (nth-replicate n) bs .on w ∙ nil-dot w) ∙ +ℤ-idr (dot b w);
 }
-
-pub getD-map : {A B : Type 0} (f : A → B) (l : List A) (d : A) (e : B) (k : ℕ) → k < length l → getD (map f l) k e ≡ f (getD l k d)
-getD-map f [] d e k h = absurd (omega arith)
-getD-map f (x ∷ l) d e zero h = refl
-getD-map f (x ∷ l) d e (suc k) h = getD-map f l d e k (omega arith)
 
 -- unit list k takes vector k
 pub unit-comb : (bs : List Vec) (k : ℕ) → k < length bs → comb (getD (units (length bs)) k []) bs ≈ getD bs k []
@@ -120,25 +111,21 @@ comb-places m [] bs h = omega arith
 comb-places m (x ∷ xs) [] h = omega arith
 comb-places m (x ∷ xs) (b ∷ bs) h = omega (arith, length-⊕ (x ⊙ b) (comb xs bs), length-⊙ x b, h .0, comb-places m xs bs (h .1))
 
-pub every-coordinates : (m : ℕ) (f : Row → Vec) (rows : List Row) → Every (λ r. length (f r) ≡ m) rows → Coordinates m (map f rows)
+pub every-coordinates : (m : ℕ) (f : Row → Vec) (rows : List Row) → All (λ r. length (f r) ≡ m) rows → Coordinates m (map f rows)
 every-coordinates m f [] h = tt
 every-coordinates m f (r ∷ rows) h = (h .0, every-coordinates m f rows (h .1))
-
-pub every-map : {P Q : Row → Type 0} → ((r : Row) → P r → Q r) → (rows : List Row) → Every P rows → Every Q rows
-every-map f [] h = tt
-every-map f (r ∷ rows) h = (f r (h .0), every-map f rows (h .1))
 
 minus-places : (m : ℕ) (a b : Vec) → length a ≡ m → length b ≤ m → length (a ⊖ b) ≡ m
 minus-places m a b e h = omega (arith, length-⊕ a (negsuc 0 ⊙ b), length-⊙ (negsuc 0) b)
 
-pub sized-vectors : (m d : ℕ) (rows : List Row) → Every (Sized m d) rows → Coordinates m (vectors rows)
-sized-vectors m d rows h = every-coordinates m (λ r. r .vector) rows (every-map (λ r s. s .vector) rows h)
+pub sized-vectors : (m d : ℕ) (rows : List Row) → All (Sized m d) rows → Coordinates m (vectors rows)
+sized-vectors m d rows h = every-coordinates m (λ r. r .vector) rows (all-imp (λ r s. s .vector) rows h)
 
-pub sized-us : (m d : ℕ) (rows : List Row) → Every (Sized m d) rows → Coordinates d (map (λ r. r .u) rows)
-sized-us m d rows h = every-coordinates d (λ r. r .u) rows (every-map (λ r s. s .u) rows h)
+pub sized-us : (m d : ℕ) (rows : List Row) → All (Sized m d) rows → Coordinates d (map (λ r. r .u) rows)
+sized-us m d rows h = every-coordinates d (λ r. r .u) rows (all-imp (λ r s. s .u) rows h)
 
-pub moves-sized : (m d : ℕ) {a b : List Row} → Moves a b → Every (Sized m d) a → Every (Sized m d) b
-moves-sized m d = moves-every (Sized m d)
+pub moves-sized : (m d : ℕ) {a b : List Row} → Moves a b → All (Sized m d) a → All (Sized m d) b
+moves-sized m d = moves-all (Sized m d)
     (λ r s x h k. record { vector = h .vector; u = h .u; v = omega (arith, length-⊕ (r .v) (x ⊙ s .v), length-⊙ x (s .v), h .v, k .v) })
     (λ x rows r k h p. record {
       vector = minus-places m (r .vector) (comb x (vectors rows)) (p .vector) (comb-places m x (vectors rows) (sized-vectors m d rows h));
@@ -146,7 +133,7 @@ moves-sized m d = moves-every (Sized m d)
       v = p .v;
     })
 
-start-sized : (m d : ℕ) (bs : List Vec) (es : List (List ℤ)) → Coordinates m bs → Coordinates d es → Every (Sized m d) (start bs es)
+start-sized : (m d : ℕ) (bs : List Vec) (es : List (List ℤ)) → Coordinates m bs → Coordinates d es → All (Sized m d) (start bs es)
 start-sized m d [] es h k = tt
 start-sized m d (b ∷ bs) [] h k = tt
 start-sized m d (b ∷ bs) (e ∷ es) h k = (record { vector = h .0; u = k .0; v = k .0 }, start-sized m d bs es (h .1) (k .1))
@@ -159,5 +146,5 @@ pub units-coordinates : (d : ℕ) → Coordinates d (units d)
 units-coordinates zero = tt
 units-coordinates (suc d) = (ap suc (length-replicate d (pos 0)), skip-coordinates d (units d) (units-coordinates d))
 
-pub sized-start : (m : ℕ) (bs : List Vec) → Coordinates m bs → Every (Sized m (length bs)) (start bs (units (length bs)))
+pub sized-start : (m : ℕ) (bs : List Vec) → Coordinates m bs → All (Sized m (length bs)) (start bs (units (length bs)))
 sized-start m bs h = start-sized m (length bs) bs (units (length bs)) h (units-coordinates (length bs))

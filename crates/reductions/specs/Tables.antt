@@ -12,12 +12,13 @@ use Rattle.lattices.specs.Vector.{Vec, nth, dot, _⊕_, _⊙_, _⊖_, comb}
 use Rattle.lattices.specs.VectorLaws.{_≈_, ≈-refl, ≈-trans, ≈-⊕, ≈-⊙, nil-dot, dot-⊕, dot-⊙, comb-⊕, comb-⊙}
 use Rattle.lattices.specs.Permutation.{Perm, same, skip, swap, then}
 use Rattle.lattices.specs.Greedy.{Row, vectors, less, credited}
-use Rattle.reductions.specs.Every.{Every, moves-every}
+use Rattle.integers.specs.All.{All}
+use Rattle.reductions.specs.Every.{moves-all}
 use Rattle.reductions.specs.Moves.{Moves, none, after, exchange, subtract}
 
 -- ---- U: each row of U gives its vector
 abbrev pub Exact : List Vec → List Row → Type 0
-Exact ins = Every (λ r. comb (r .u) ins ≈ r .vector)
+Exact ins = All (λ r. comb (r .u) ins ≈ r .vector)
 
 abbrev us : List Row → List (List ℤ)
 us = map (λ r. r .u)
@@ -36,7 +37,7 @@ exact-less ins x rows r h k =
     (≈-⊕ k (≈-trans (comb-⊙ (negsuc 0) (comb x (us rows)) ins) (≈-⊙ (negsuc 0) (comb-exact ins x rows h))))
 
 pub moves-exact : (ins : List Vec) {a b : List Row} → Moves a b → Exact ins a → Exact ins b
-moves-exact ins = moves-every (λ r. comb (r .u) ins ≈ r .vector) (λ r s x h k. h) (λ x rows r k h p. exact-less ins x rows r h p)
+moves-exact ins = moves-all (λ r. comb (r .u) ins ≈ r .vector) (λ r s x h k. h) (λ x rows r k h p. exact-less ins x rows r h p)
 
 -- ---- V: the columns spread the vectors over the inputs. `f` is a row's vector, or its row of U
 abbrev pub spread : (Row → Vec) → ℕ → List Row → Vec → ℤ

@@ -1,6 +1,6 @@
 -- What reduced rows weigh in a combination of their vectors: the lengths of its parts, and from them the sizes of the terms in any
 -- list that goes with the vectors (the vectors themselves, rows of U).
-use mathlib.Core.Path.{_≡_, refl, sym, ap, _∙_, subst, subst₂}
+use mathlib.Core.Path.{_≡_, sym, ap, _∙_, subst, subst₂}
 use mathlib.Core.List.{List, [], _∷_, _++_, map, reverse, reverse-append}
 use Prim.Native.Nat.{ℕ, zero, suc, _+_, _*_, _≤_}
 use native.Mathlib.Omega.{arith}
@@ -18,7 +18,7 @@ use Rattle.minima.specs.Reduced.{Top, Descending, Reduced}
 use Rattle.minima.specs.ReducedLaws.{pinned}
 use Rattle.minima.specs.NearestLaws.{ended}
 use Rattle.reductions.specs.Moves.{before-last, length-before, length-vectors, vectors-append}
-use Rattle.reductions.specs.Every.{Every, every-left, every-right}
+use Rattle.integers.specs.All.{All, all-left, all-right, map-append}
 
 -- ---- the parts of a combination of reduced vectors
 -- a difference of vectors of lengths a and 2·a is at most 3·a long
@@ -63,10 +63,6 @@ pub cost : ℕ → ℕ → ℕ
 cost zero A = 0
 cost (suc k) A = 2 * A + cost k (3 * A)
 
-map-append : {A : Type 0} (f : Row → A) (a b : List Row) → map f (a ++ b) ≡ map f a ++ map f b
-map-append f [] b = refl
-map-append f (r ∷ a) b = ap (λ l. f r ∷ l) (map-append f a b)
-
 module _ (f : Row → List ℤ) (M : ℕ) (P : Row → Type 0)
     (size : (B : ℕ) (y : ℤ) (r : Row) → P r → N (y ⊙ r .vector) ≤ℤ pos (B * B * 400000000) → (j : ℕ) → natAbs (y *ℤ nth (f r) j) ≤ B * M) where
   -- the last row's term and the terms of the rest
@@ -104,7 +100,7 @@ module _ (f : Row → List ℤ) (M : ℕ) (P : Row → Type 0)
         (omega (arith, size (2 * A) y r p last-long j))
 
   abbrev pub Weighs : ℕ → ℕ → List Row → Type 0
-  Weighs k A front = Every P front → Reduced (vectors front) → (x : List ℤ) → length x ≡ length front
+  Weighs k A front = All P front → Reduced (vectors front) → (x : List ℤ) → length x ≡ length front
       → N (comb x (vectors front)) ≤ℤ pos (A * A * 400000000) → (j : ℕ) → load x (map f front) j ≤ cost k A * M
 
   weighs-last : (k A : ℕ) (b : List Row) (r : Row) → length b ≡ k → k ≤ 3 → Weighs k (3 * A) b → Weighs (suc k) A (b ++ (r ∷ []))
@@ -112,8 +108,8 @@ module _ (f : Row → List ℤ) (M : ℕ) (P : Row → Type 0)
       let o = ended (length b) x (g ∙ length-append b (r ∷ []) ∙ omega arith) in
       let h′ = subst (λ l. N (comb l (vectors (b ++ (r ∷ [])))) ≤ℤ pos (A * A * 400000000)) (o .is) h in
       subst (λ l. load l (map f (b ++ (r ∷ []))) j ≤ cost (suc k) A * M) (sym (o .is))
-      (terms b r (omega arith) red (o .start) (o .end) (o .count) A h′ (every-right P b (r ∷ []) z .0) k j
-      (ih (every-left P b (r ∷ []) z) (descending b r (omega arith) red (o .start) (o .end) (o .count) A h′ .1) (o .start) (o .count)
+      (terms b r (omega arith) red (o .start) (o .end) (o .count) A h′ (all-right P b (r ∷ []) z .0) k j
+      (ih (all-left P b (r ∷ []) z) (descending b r (omega arith) red (o .start) (o .end) (o .count) A h′ .1) (o .start) (o .count)
       (rest-long b r (omega arith) red (o .start) (o .end) (o .count) A h′) j))
 
   weighs-none : (A : ℕ) → Weighs 0 A []

@@ -1,25 +1,15 @@
 -- The rows at the ordered places are the ordered rows.
 use mathlib.Core.Path.{_≡_, refl, sym, ap, ap₂, _∙_}
 use mathlib.Core.List.{List, [], _∷_, _++_, map, map-append, map-map}
-use Prim.Native.Nat.{ℕ, zero, suc}
+use Prim.Native.Nat.{ℕ}
 use lib.IntN.{ℤ}
 use lib.ListN.{length, getD, take, drop, List·getD-map}
+use Rattle.integers.specs.All.{take-map, drop-map}
 use Rattle.lattices.specs.Vector.{N, nth, dot}
 use Rattle.lattices.specs.Greedy.{Row, order}
 use Rattle.rows.specs.declared.Work.{Work}
 use Rattle.rows.specs.Rows.{rowsOf, workOf, vectorRow, tableRow, firstFour, four}
 use Rattle.rows.specs.Places.{orderPlaces, order-places, orderedFrom}
-
-module _ {A B : Type 0} (f : A → B) where
-  take-map : (n : ℕ) (l : List A) → take n (map f l) ≡ map f (take n l)
-  take-map zero l = refl
-  take-map (suc n) [] = refl
-  take-map (suc n) (x ∷ l) = ap (λ k. f x ∷ k) (take-map n l)
-
-  drop-map : (n : ℕ) (l : List A) → drop n (map f l) ≡ map f (drop n l)
-  drop-map zero l = refl
-  drop-map (suc n) [] = refl
-  drop-map (suc n) (x ∷ l) = drop-map n l
 
 module _ (b u v : List (List ℤ)) where
   abbrev pub row : ℕ → Row

@@ -1,0 +1,62 @@
+-- Lists of anything: a property of every element or of some element, and how `map` meets `take`, places and repetition.
+use mathlib.Core.Path.{_≡_, refl, ap}
+use mathlib.Core.Logic.{_⊎_}
+use mathlib.Core.List.{List, [], _∷_, _++_, map}
+use Prim.Native.Nat.{ℕ, zero, suc, _<_}
+use native.Mathlib.Omega.{arith}
+use lib.ListN.{length, getD, take, drop, replicate}
+
+-- every element has P
+abbrev pub All : {A : Type 0} → (A → Type 0) → List A → Type 0
+All P [] = Unit {0}
+All P (a ∷ l) = P a × All P l
+
+-- some element has P
+abbrev pub Some : {A : Type 0} → (A → Type 0) → List A → Type 0
+Some P [] = ⊥
+Some P (a ∷ l) = P a ⊎ Some P l
+
+module _ {A : Type 0} (P : A → Type 0) where
+  pub all-append : (k l : List A) → All P k → All P l → All P (k ++ l)
+  all-append [] l p q = q
+  all-append (a ∷ k) l p q = (p .0, all-append k l (p .1) q)
+
+  pub all-left : (k l : List A) → All P (k ++ l) → All P k
+  all-left [] l p = tt
+  all-left (a ∷ k) l p = (p .0, all-left k l (p .1))
+
+  pub all-right : (k l : List A) → All P (k ++ l) → All P l
+  all-right [] l p = p
+  all-right (a ∷ k) l p = all-right k l (p .1)
+
+pub all-imp : {A : Type 0} {P Q : A → Type 0} → ((a : A) → P a → Q a) → (l : List A) → All P l → All Q l
+all-imp f [] p = tt
+all-imp f (a ∷ l) p = (f a (p .0), all-imp f l (p .1))
+
+pub all-both : {A : Type 0} (P Q : A → Type 0) (l : List A) → All P l → All Q l → All (λ a. P a × Q a) l
+all-both P Q [] p q = tt
+all-both P Q (a ∷ l) p q = ((p .0, q .0), all-both P Q l (p .1) (q .1))
+
+module _ {A B : Type 0} (f : A → B) where
+  pub take-map : (n : ℕ) (l : List A) → take n (map f l) ≡ map f (take n l)
+  take-map zero l = refl
+  take-map (suc n) [] = refl
+  take-map (suc n) (a ∷ l) = ap (λ k. f a ∷ k) (take-map n l)
+
+  pub drop-map : (n : ℕ) (l : List A) → drop n (map f l) ≡ map f (drop n l)
+  drop-map zero l = refl
+  drop-map (suc n) [] = refl
+  drop-map (suc n) (a ∷ l) = drop-map n l
+
+  pub getD-map : (l : List A) (a : A) (b : B) (k : ℕ) → k < length l → getD (map f l) k b ≡ f (getD l k a)
+  getD-map [] a b k h = absurd (omega arith)
+  getD-map (x ∷ l) a b zero h = refl
+  getD-map (x ∷ l) a b (suc k) h = getD-map l a b k (omega arith)
+
+  pub map-append : (k l : List A) → map f (k ++ l) ≡ map f k ++ map f l
+  map-append [] l = refl
+  map-append (a ∷ k) l = ap (λ r. f a ∷ r) (map-append k l)
+
+  pub map-replicate : (n : ℕ) (a : A) → map f (replicate n a) ≡ replicate n (f a)
+  map-replicate zero a = refl
+  map-replicate (suc n) a = ap (λ r. f a ∷ r) (map-replicate n a)
