@@ -18,6 +18,7 @@ use Rattle.reductions.specs.Start.{Sized, sized-start, length-units}
 use Rattle.reductions.specs.Exactness.{reduction-length, reduction-sized}
 use Rattle.reductions.specs.Padding.{pad, pad-counted, greedy-padded, padded-N}
 use Rattle.reductions.specs.Accepted.{Accepted, accepted}
+use Rattle.rows.specs.Rows.{transposed}
 use Rattle.engine.specs.State.{greedyRows, greedyPasses}
 use Rattle.engine.specs.Begin.{table-is, zeroRow, length-start, first, first-is, unused, four-rows, bs-count, wide-count, ins-count}
 
@@ -38,10 +39,6 @@ padded-append zero k (x ∷ l) e = absurd (omega arith)
 padded-append (suc n) k (x ∷ l) e = ap (λ r. x ∷ r) (padded-append n k l (omega arith))
 
 -- ---- V written out by rows
--- the table whose row i holds entry i of every row
-unfoldable pub transposed : List (List ℤ) → List (List ℤ)
-transposed t = map (λ i. map (λ r. nth r i) t) (0 ∷ 1 ∷ 2 ∷ 3 ∷ [])
-
 from : ℕ → ℕ → List ℕ
 from i zero = []
 from i (suc h) = i ∷ from (suc i) h

@@ -5,7 +5,7 @@ use Prim.Native.Nat.{ℕ, zero, suc}
 use native.Mathlib.Omega.{arith}
 use lib.IntN.{ℤ}
 use lib.ListN.{length, getD, take, drop}
-use Rattle.lattices.specs.Vector.{_⊕_, _⊙_}
+use Rattle.lattices.specs.Vector.{nth, _⊕_, _⊙_}
 use Rattle.lattices.specs.Greedy.{Row, credited}
 use Rattle.rows.specs.declared.VectorRow.{VectorRow}
 use Rattle.rows.specs.declared.TableRow.{TableRow}
@@ -38,6 +38,10 @@ unfoldable pub gained : List ℤ → List ℤ → List (List ℤ) → List (List
 gained [] v t = t
 gained (x ∷ xs) v [] = []
 gained (x ∷ xs) v (r ∷ t) = (r ⊕ x ⊙ v) ∷ gained xs v t
+
+-- the table whose row i holds entry i of every row
+unfoldable pub transposed : List (List ℤ) → List (List ℤ)
+transposed t = map (λ i. map (λ r. nth r i) t) (0 ∷ 1 ∷ 2 ∷ 3 ∷ [])
 
 -- ---- the three tables of rows, and the rows of three tables
 

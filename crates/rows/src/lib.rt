@@ -8,8 +8,9 @@ ghost use lib.IntN.{_*ℤ_, natAbs};
 ghost use Rattle.integers.specs.Lists.{nth};
 ghost use Rattle.integers.specs.Size.{Within, load};
 ghost use Rattle.lattices.specs.Vector.{dot, N, comb, _⊖_, _⊙_};
-ghost use Rattle.lattices.specs.Greedy.{order};
-ghost use Rattle.rows.specs.Rows.{rowsOf, workOf, gained, vectorRow, tableRow, firstFour};
+ghost use Rattle.lattices.specs.Greedy.{order, units};
+ghost use Rattle.lattices.specs.Answer.{table};
+ghost use Rattle.rows.specs.Rows.{rowsOf, workOf, gained, transposed, vectorRow, tableRow, firstFour};
 ghost use Rattle.rows.specs.Places.{Places, insertAt, orderedFrom};
 ghost use Rattle.rows.specs.Minus.{room};
 
@@ -81,6 +82,33 @@ pub fn credit_rows(t: [[i64; 4]; 4], k: usize, x: [i64; 3]) -> [[i64; 4]; 4]
         r[j] = minus_multiple(r[j], -x[j], r[k]);
     }
     r
+}
+
+// The first d unit rows, then zeros.
+pub fn unit_table(d: usize) -> [[i64; 4]; 4]
+    requires { ⌜ d ≤ 4 ⌝ }
+    ensures { λ r. ⌜ r ≡ table 4 4 (units d) ⌝ }
+{
+    let mut t = [[0; 4]; 4];
+    for i in 0..d {
+        t[i][i] = 1;
+    }
+    t
+}
+
+// Entry i of every row.
+fn column(t: [[i64; 4]; 4], i: usize) -> [i64; 4]
+    requires { ⌜ i < 4 ⌝ }
+    ensures { λ r. ⌜ r ≡ map (λ row. nth row i) t ⌝ }
+{
+    [t[0][i], t[1][i], t[2][i], t[3][i]]
+}
+
+// Columns become rows.
+pub fn transposed(t: [[i64; 4]; 4]) -> [[i64; 4]; 4]
+    ensures { λ r. ⌜ r ≡ transposed t ⌝ }
+{
+    [column(t, 0), column(t, 1), column(t, 2), column(t, 3)]
 }
 
 // Tables are packed in row structs, which a struct can hold, and unpacked to be worked on.
@@ -173,7 +201,7 @@ fn places(lengths: [i64; 4], n: usize) -> [usize; 4]
 }
 
 // The squared lengths of the vectors.
-fn squared_lengths(b: [[i64; 4]; 4]) -> [i64; 4]
+pub fn squared_lengths(b: [[i64; 4]; 4]) -> [i64; 4]
     requires { ⌜ ((i j : ℕ) → Within 100000 (nth (getD b i []) j)) ⌝ }
     ensures { λ r. ⌜ r ≡ map N b ⌝ }
 {
