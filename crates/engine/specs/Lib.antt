@@ -4,3 +4,4 @@ pub mod Fine
 pub mod Room
 pub mod Pass
 pub mod Turn
+pub mod Tables

@@ -24,7 +24,7 @@ use Rattle.rows.specs.Minus.{room}
 use Rattle.engine.specs.State.{blank}
 use Rattle.engine.specs.Fine.{Fine, fine-length, fine-short, fine-fewer}
 
-take-map : {A B : Type 0} (f : A → B) (k : ℕ) (l : List A) → take k (map f l) ≡ map f (take k l)
+pub take-map : {A B : Type 0} (f : A → B) (k : ℕ) (l : List A) → take k (map f l) ≡ map f (take k l)
 take-map f zero l = refl
 take-map f (suc k) [] = refl
 take-map f (suc k) (x ∷ l) = ap (λ r. f x ∷ r) (take-map f k l)
@@ -49,7 +49,7 @@ module _ (k : ℕ) (rows : List Row) (f : Fine (suc k) rows) (three : k ≤ 3) (
   few = omega (arith, fine-length fewer)
 
   -- the coefficients of the vector nearest to row k
-  pub x : List ℤ
+  unfoldable pub x : List ℤ
   x = nearest (vectors (take k rows)) (getD rows k blank .vector)
 
   pub x-count : length x ≡ k
@@ -59,10 +59,10 @@ module _ (k : ℕ) (rows : List Row) (f : Fine (suc k) rows) (three : k ≤ 3) (
   pub x-taken : take k (padded 3 x) ≡ x
   x-taken = take-padded k 3 x x-count three
 
-  long : suc k ≤ length rows
+  pub long : suc k ≤ length rows
   long = omega (arith, ap length (f .is), length-append (f .active) (f .unused), f .count)
 
-  table-at : (g : Row → List ℤ) → getD (map g rows) k [] ≡ g (getD rows k blank)
+  pub table-at : (g : Row → List ℤ) → getD (map g rows) k [] ≡ g (getD rows k blank)
   table-at g = getD-map g rows blank [] k long
 
   -- step 5 on the vectors
