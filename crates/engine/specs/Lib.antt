@@ -5,3 +5,4 @@ pub mod Room
 pub mod Pass
 pub mod Turn
 pub mod Tables
+pub mod Whole

@@ -1,7 +1,11 @@
 // The lattice engine: greedy reduction with its tables, proved equal to the definition.
 ghost use mathlib.Core.Path.{_≡_};
-ghost use Prim.Native.Nat.{_≤_};
-ghost use Rattle.engine.specs.State.{rowsIn, passed};
+ghost use Prim.Native.Nat.{suc, _-_, _≤_, _<_};
+ghost use lib.ListN.{getD};
+ghost use lib.Signed.{ltZ};
+ghost use Rattle.lattices.specs.Vector.{N};
+ghost use Rattle.engine.specs.State.{rowsIn, blank, passed};
+ghost use Rattle.engine.specs.Fine.{Fine};
 ghost use Rattle.engine.specs.Room.{Ready};
 
 // Steps 4 and 5 for row k, the rows before it being reduced: the vector nearest to it in their lattice is subtracted from it.
@@ -24,4 +28,17 @@ fn pass(w: rows::Work, k: usize) -> rows::Work
         v: rows::table_rows(rows::credit_rows(v, k, x)),
         passes: w.passes + 1,
     }
+}
+
+// Step 6: is row k shorter than the row before it?
+fn shorter(w: rows::Work, k: usize) -> bool
+    requires { ⌜ (0 < k) × (k ≤ 3) ⌝ }
+    requires { ⌜ Fine (suc k) (rowsIn w) ⌝ }
+    ensures { λ r. ⌜ r ≡ ltZ (N (getD (rowsIn w) k blank .vector)) (N (getD (rowsIn w) (k - 1) blank .vector)) ⌝ }
+{
+    let vectors = w.vectors;
+    let b = rows::vectors_of(vectors);
+    let last = b[k];
+    let other = b[k - 1];
+    rows::dot(last, last) < rows::dot(other, other)
 }
