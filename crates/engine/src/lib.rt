@@ -4,7 +4,7 @@ ghost use Prim.Native.Nat.{suc, _-_, _≤_, _<_};
 ghost use lib.ListN.{getD};
 ghost use lib.Signed.{ltZ};
 ghost use Rattle.lattices.specs.Vector.{N};
-ghost use Rattle.engine.specs.State.{rowsIn, blank, passed};
+ghost use Rattle.engine.specs.State.{rowsIn, blank, ordered, passed};
 ghost use Rattle.engine.specs.Fine.{Fine};
 ghost use Rattle.engine.specs.Room.{Ready};
 
@@ -41,4 +41,19 @@ fn shorter(w: rows::Work, k: usize) -> bool
     let last = b[k];
     let other = b[k - 1];
     rows::dot(last, last) < rows::dot(other, other)
+}
+
+// Step 2 for the first n rows: shortest first, equal lengths in their order.
+fn ordered(w: rows::Work, n: usize) -> rows::Work
+    requires { ⌜ n ≤ 4 ⌝ }
+    requires { ⌜ Fine n (rowsIn w) ⌝ }
+    ensures { λ r. ⌜ r ≡ ordered n w ⌝ }
+{
+    let vectors = w.vectors;
+    let us = w.u;
+    let vs = w.v;
+    let b = rows::vectors_of(vectors);
+    let u = rows::tables_of(us);
+    let v = rows::tables_of(vs);
+    rows::order(b, u, v, n, w.passes)
 }
