@@ -6,3 +6,4 @@ pub mod Pass
 pub mod Turn
 pub mod Tables
 pub mod Whole
+pub mod Repeat

@@ -1,5 +1,5 @@
 -- A work whose three arrays have four places: its rows and its tables are the same thing.
-use mathlib.Core.Path.{_≡_, refl, sym, ap, ap₂, _∙_}
+use mathlib.Core.Path.{_≡_, refl, sym, ap, _∙_}
 use mathlib.Core.List.{List, [], _∷_, map}
 use Prim.Native.Nat.{ℕ, _<_}
 use native.Mathlib.Omega.{arith}
@@ -11,7 +11,7 @@ use Rattle.reductions.specs.Start.{getD-map}
 use Rattle.rows.specs.declared.VectorRow.{VectorRow}
 use Rattle.rows.specs.declared.TableRow.{TableRow}
 use Rattle.rows.specs.declared.Work.{Work}
-use Rattle.rows.specs.Rows.{Tables, rowsOf, workOf, vectorRow, tableRow, rowsOf-tables, workOf-rowsOf}
+use Rattle.rows.specs.Rows.{Tables, workOf, vectorRow, tableRow, rowsOf-tables, workOf-rowsOf}
 use Rattle.engine.specs.State.{rowsIn, blank}
 use Rattle.engine.specs.Fine.{Fine}
 use Rattle.engine.specs.Room.{small-rows}
@@ -20,6 +20,10 @@ pub record Whole (w : Work) : Type 0 where
   pub vectors : length (w .vectors) ≡ 4
   pub u : length (w .u) ≡ 4
   pub v : length (w .v) ≡ 4
+
+-- as the typing of arrays tells it: through what stands for a row
+pub whole-of : {A B C : Type 0} (w : Work) (f : VectorRow → A) (g : TableRow → B) (h : TableRow → C) → length (map f (w .vectors)) ≡ 4 → length (map g (w .u)) ≡ 4 → length (map h (w .v)) ≡ 4 → Whole w
+whole-of w f g h p q r = record { vectors = sym (length-map (w .vectors) f) ∙ p; u = sym (length-map (w .u) g) ∙ q; v = sym (length-map (w .v) h) ∙ r }
 
 vectors-again : (l : List VectorRow) → map vectorRow (map (λ r. r .at) l) ≡ l
 vectors-again [] = refl

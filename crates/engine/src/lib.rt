@@ -1,10 +1,10 @@
 // The lattice engine: greedy reduction with its tables, proved equal to the definition.
 ghost use mathlib.Core.Path.{_≡_};
-ghost use Prim.Native.Nat.{suc, _-_, _≤_, _<_};
+ghost use Prim.Native.Nat.{suc, _+_, _-_, _≤_, _<_};
 ghost use lib.ListN.{getD};
 ghost use lib.Signed.{ltZ};
 ghost use Rattle.lattices.specs.Vector.{N};
-ghost use Rattle.engine.specs.State.{rowsIn, blank, ordered, passed};
+ghost use Rattle.engine.specs.State.{rowsIn, blank, greedyPasses, ordered, passed, reduced};
 ghost use Rattle.engine.specs.Fine.{Fine};
 ghost use Rattle.engine.specs.Room.{Ready};
 
@@ -56,4 +56,26 @@ fn ordered(w: rows::Work, n: usize) -> rows::Work
     let u = rows::tables_of(us);
     let v = rows::tables_of(vs);
     rows::order(b, u, v, n, w.passes)
+}
+
+// Steps 1 to 6 for the first n rows, on one vector fewer at each call of itself.
+fn reduce_first(w: rows::Work, n: usize) -> rows::Work
+    requires { ⌜ n ≤ 4 ⌝ }
+    requires { ⌜ Fine n (rowsIn w) ⌝ }
+    requires { ⌜ w .passes + greedyPasses n (rowsIn w) ≤ 1000000000000 ⌝ }
+    ensures { λ r. ⌜ r ≡ reduced n w ⌝ }
+{
+    if n < 2 {
+        return w;
+    }
+    let mut v = w;
+    loop {
+        let o = ordered(v, n);
+        let f = reduce_first(o, n - 1);
+        let p = pass(f, n - 1);
+        if !shorter(p, n - 1) {
+            break p;
+        }
+        v = p;
+    }
 }

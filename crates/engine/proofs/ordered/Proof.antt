@@ -1,9 +1,8 @@
 -- `ordered` unpacks the tables of the work and orders them.
-use mathlib.Core.Path.{_≡_, sym, _∙_}
-use lib.ListN.{length-map}
+use mathlib.Core.Path.{_≡_}
 use Rattle.rows.specs.Rows.{rowsOf}
 use Rattle.engine.specs.State.{rowsIn, ordered}
-use Rattle.engine.specs.Whole.{Whole, small}
+use Rattle.engine.specs.Whole.{Whole, whole-of, small}
 use borrow.Author.Needs.{needs}
 use Rattle.engine.proofs.ordered.Statement.{statement}
 use Rattle.engine.proofs.ordered.Tie as tie
@@ -11,7 +10,7 @@ use Rattle.engine.proofs.ordered.Tie as tie
 whole : (s : tie.Start) → Whole (s .args .w)
 whole s =
     let g = s .good .0 .1 .1 in
-    record { vectors = sym (length-map (s .args .w .vectors) _) ∙ g .0 .1 .0 .1; u = sym (length-map (s .args .w .u) _) ∙ g .1 .0 .1 .0 .1; v = sym (length-map (s .args .w .v) _) ∙ g .1 .1 .0 .1 .0 .1 }
+    whole-of (s .args .w) _ _ _ (g .0 .1 .0 .1) (g .1 .0 .1 .0 .1) (g .1 .1 .0 .1 .0 .1)
 
 vectors-of-requires : tie.Need-vectors-of-requires
 vectors-of-requires c κs = search needs

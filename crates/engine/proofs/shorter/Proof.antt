@@ -1,16 +1,16 @@
 -- `shorter` compares two squared lengths.
-use mathlib.Core.Path.{_≡_, sym, ap, ap₂, _∙_}
+use mathlib.Core.Path.{_≡_, ap, ap₂, _∙_}
 use mathlib.Core.List.{[]}
 use Prim.Native.Nat.{ℕ, _-_, _<_}
 use native.Mathlib.Omega.{arith}
-use lib.ListN.{getD, length-map}
+use lib.ListN.{getD}
 use lib.Signed.{ltZ}
 use mir.Facts.{toZ-ofZ}
 use mir.Syntax.{w64}
 use Rattle.integers.specs.Size.{Within}
 use Rattle.lattices.specs.Vector.{N, nth}
 use Rattle.engine.specs.State.{rowsIn, blank}
-use Rattle.engine.specs.Whole.{Whole, small, vector-at}
+use Rattle.engine.specs.Whole.{Whole, whole-of, small, vector-at}
 use borrow.Author.Needs.{needs}
 use Rattle.engine.proofs.shorter.Statement.{statement}
 use Rattle.engine.proofs.shorter.Tie as tie
@@ -18,7 +18,7 @@ use Rattle.engine.proofs.shorter.Tie as tie
 whole : (s : tie.Start) → Whole (s .args .w)
 whole s =
     let g = s .good .0 .1 .1 in
-    record { vectors = sym (length-map (s .args .w .vectors) _) ∙ g .0 .1 .0 .1; u = sym (length-map (s .args .w .u) _) ∙ g .1 .0 .1 .0 .1; v = sym (length-map (s .args .w .v) _) ∙ g .1 .1 .0 .1 .0 .1 }
+    whole-of (s .args .w) _ _ _ (g .0 .1 .0 .1) (g .1 .0 .1 .0 .1) (g .1 .1 .0 .1 .0 .1)
 
 coordinates : (c : tie.After-vectors-of) → (i j : ℕ) → Within 100000 (nth (getD (c .vectors-of .result) i []) j)
 coordinates c i j = let s = c .before .before in rw (c .vectors-of .ensures) (small (whole s) (s .pre .1) i j)
