@@ -7,3 +7,6 @@ pub mod Turn
 pub mod Begin
 pub mod Finish
 pub mod Few
+pub mod Tables
+pub mod Whole
+pub mod Repeat

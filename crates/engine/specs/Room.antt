@@ -43,7 +43,7 @@ module _ (k : ℕ) (rows : List Row) (f : Fine (suc k) rows) (three : k ≤ 3) (
   few = omega (arith, fine-length fewer)
 
   -- the coefficients of the vector nearest to row k
-  pub x : List ℤ
+  unfoldable pub x : List ℤ
   x = nearest (vectors (take k rows)) (getD rows k blank .vector)
 
   pub x-count : length x ≡ k
@@ -53,10 +53,10 @@ module _ (k : ℕ) (rows : List Row) (f : Fine (suc k) rows) (three : k ≤ 3) (
   pub x-taken : take k (padded 3 x) ≡ x
   x-taken = take-padded k 3 x x-count three
 
-  long : suc k ≤ length rows
+  pub long : suc k ≤ length rows
   long = omega (arith, ap length (f .is), length-append (f .active) (f .unused), f .count)
 
-  table-at : (g : Row → List ℤ) → getD (map g rows) k [] ≡ g (getD rows k blank)
+  pub table-at : (g : Row → List ℤ) → getD (map g rows) k [] ≡ g (getD rows k blank)
   table-at g = getD-map g rows blank [] k long
 
   -- step 5 on the vectors

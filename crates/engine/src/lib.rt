@@ -1,0 +1,81 @@
+// The lattice engine: greedy reduction with its tables, proved equal to the definition.
+ghost use mathlib.Core.Path.{_≡_};
+ghost use Prim.Native.Nat.{suc, _+_, _-_, _≤_, _<_};
+ghost use lib.ListN.{getD};
+ghost use lib.Signed.{ltZ};
+ghost use Rattle.lattices.specs.Vector.{N};
+ghost use Rattle.engine.specs.State.{rowsIn, blank, greedyPasses, ordered, passed, reduced};
+ghost use Rattle.engine.specs.Fine.{Fine};
+ghost use Rattle.engine.specs.Room.{Ready};
+
+// Steps 4 and 5 for row k, the rows before it being reduced: the vector nearest to it in their lattice is subtracted from it.
+fn pass(w: rows::Work, k: usize) -> rows::Work
+    requires { ⌜ k ≤ 3 ⌝ }
+    requires { ⌜ Ready k (rowsIn w) ⌝ }
+    requires { ⌜ w .passes ≤ 1000000000000 ⌝ }
+    ensures { λ r. ⌜ r ≡ passed k w ⌝ }
+{
+    let vectors = w.vectors;
+    let us = w.u;
+    let vs = w.v;
+    let b = rows::vectors_of(vectors);
+    let u = rows::tables_of(us);
+    let v = rows::tables_of(vs);
+    let x = search::search(b, k, b[k]);
+    rows::Work {
+        vectors: rows::vector_rows(rows::minus_rows(b, k, x)),
+        u: rows::table_rows(rows::minus_rows(u, k, x)),
+        v: rows::table_rows(rows::credit_rows(v, k, x)),
+        passes: w.passes + 1,
+    }
+}
+
+// Step 6: is row k shorter than the row before it?
+fn shorter(w: rows::Work, k: usize) -> bool
+    requires { ⌜ (0 < k) × (k ≤ 3) ⌝ }
+    requires { ⌜ Fine (suc k) (rowsIn w) ⌝ }
+    ensures { λ r. ⌜ r ≡ ltZ (N (getD (rowsIn w) k blank .vector)) (N (getD (rowsIn w) (k - 1) blank .vector)) ⌝ }
+{
+    let vectors = w.vectors;
+    let b = rows::vectors_of(vectors);
+    let last = b[k];
+    let other = b[k - 1];
+    rows::dot(last, last) < rows::dot(other, other)
+}
+
+// Step 2 for the first n rows: shortest first, equal lengths in their order.
+fn ordered(w: rows::Work, n: usize) -> rows::Work
+    requires { ⌜ n ≤ 4 ⌝ }
+    requires { ⌜ Fine n (rowsIn w) ⌝ }
+    ensures { λ r. ⌜ r ≡ ordered n w ⌝ }
+{
+    let vectors = w.vectors;
+    let us = w.u;
+    let vs = w.v;
+    let b = rows::vectors_of(vectors);
+    let u = rows::tables_of(us);
+    let v = rows::tables_of(vs);
+    rows::order(b, u, v, n, w.passes)
+}
+
+// Steps 1 to 6 for the first n rows, on one vector fewer at each call of itself.
+fn reduce_first(w: rows::Work, n: usize) -> rows::Work
+    requires { ⌜ n ≤ 4 ⌝ }
+    requires { ⌜ Fine n (rowsIn w) ⌝ }
+    requires { ⌜ w .passes + greedyPasses n (rowsIn w) ≤ 1000000000000 ⌝ }
+    ensures { λ r. ⌜ r ≡ reduced n w ⌝ }
+{
+    if n < 2 {
+        return w;
+    }
+    let mut v = w;
+    loop {
+        let o = ordered(v, n);
+        let f = reduce_first(o, n - 1);
+        let p = pass(f, n - 1);
+        if !shorter(p, n - 1) {
+            break p;
+        }
+        v = p;
+    }
+}

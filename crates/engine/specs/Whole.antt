@@ -1,0 +1,60 @@
+-- A work whose three arrays have four places: its rows and its tables are the same thing.
+use mathlib.Core.Path.{_≡_, refl, sym, ap, _∙_}
+use mathlib.Core.List.{List, [], _∷_, map}
+use Prim.Native.Nat.{ℕ, _<_}
+use native.Mathlib.Omega.{arith}
+use lib.IntN.{ℤ}
+use lib.ListN.{length, getD, length-map}
+use Rattle.integers.specs.Size.{Within}
+use Rattle.lattices.specs.Vector.{nth}
+use Rattle.integers.specs.All.{getD-map}
+use Rattle.rows.specs.declared.VectorRow.{VectorRow}
+use Rattle.rows.specs.declared.TableRow.{TableRow}
+use Rattle.rows.specs.declared.Work.{Work}
+use Rattle.rows.specs.Rows.{Tables, workOf, vectorRow, tableRow, rowsOf-tables, workOf-rowsOf}
+use Rattle.engine.specs.State.{rowsIn, blank}
+use Rattle.engine.specs.Fine.{Fine}
+use Rattle.engine.specs.Room.{small-rows}
+
+pub record Whole (w : Work) : Type 0 where
+  pub vectors : length (w .vectors) ≡ 4
+  pub u : length (w .u) ≡ 4
+  pub v : length (w .v) ≡ 4
+
+-- as the typing of arrays tells it: through what stands for a row
+pub whole-of : {A B C : Type 0} (w : Work) (f : VectorRow → A) (g : TableRow → B) (h : TableRow → C) → length (map f (w .vectors)) ≡ 4 → length (map g (w .u)) ≡ 4 → length (map h (w .v)) ≡ 4 → Whole w
+whole-of w f g h p q r = record { vectors = sym (length-map (w .vectors) f) ∙ p; u = sym (length-map (w .u) g) ∙ q; v = sym (length-map (w .v) h) ∙ r }
+
+vectors-again : (l : List VectorRow) → map vectorRow (map (λ r. r .at) l) ≡ l
+vectors-again [] = refl
+vectors-again (r ∷ l) = ap (λ t. r ∷ t) (vectors-again l)
+
+tables-again : (l : List TableRow) → map tableRow (map (λ r. r .at) l) ≡ l
+tables-again [] = refl
+tables-again (r ∷ l) = ap (λ t. r ∷ t) (tables-again l)
+
+module _ {w : Work} (h : Whole w) where
+  abbrev b : List (List ℤ)
+  b = map (λ r. r .at) (w .vectors)
+
+  u-length : length (map (λ r. r .at) (w .u)) ≡ length b
+  u-length = length-map (w .u) (λ r. r .at) ∙ h .u ∙ sym (length-map (w .vectors) (λ r. r .at) ∙ h .vectors)
+
+  v-length : length (map (λ r. r .at) (w .v)) ≡ length b
+  v-length = length-map (w .v) (λ r. r .at) ∙ h .v ∙ sym (length-map (w .vectors) (λ r. r .at) ∙ h .vectors)
+
+  tables : Tables b (map (λ r. r .at) (w .u)) (map (λ r. r .at) (w .v)) (rowsIn w)
+  tables = rowsOf-tables b (map (λ r. r .at) (w .u)) (map (λ r. r .at) (w .v)) u-length v-length
+
+  four : length (rowsIn w) ≡ 4
+  four = sym (length-map (rowsIn w) (λ r. r .vector)) ∙ ap length (tables .vectors) ∙ length-map (w .vectors) (λ r. r .at) ∙ h .vectors
+
+  pub vector-at : (i : ℕ) → i < 4 → getD b i [] ≡ getD (rowsIn w) i blank .vector
+  vector-at i l = ap (λ t. getD t i []) (sym (tables .vectors)) ∙ getD-map (λ r. r .vector) (rowsIn w) blank [] i (omega (arith, four))
+
+  pub small : {n : ℕ} → Fine n (rowsIn w) → (i j : ℕ) → Within 100000 (nth (getD b i []) j)
+  small f i j = rw (tables .vectors) at (small-rows f i j)
+
+  pub packed : workOf (rowsIn w) (w .passes) ≡ w
+  packed = sym (workOf-rowsOf b (map (λ r. r .at) (w .u)) (map (λ r. r .at) (w .v)) u-length v-length (w .passes))
+      ∙ rw (vectors-again (w .vectors), tables-again (w .u), tables-again (w .v)) refl
