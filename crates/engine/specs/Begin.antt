@@ -124,7 +124,7 @@ module _ (i : Input) (e : firstOf vectorChecks i ≡ 0) where
   }
 
   -- the rows with which the engine begins
-  pub first : List Row
+  unfoldable pub first : List Row
   first = rowsOf (table 4 4 (basis i)) (table 4 4 (units (i .d))) (table 4 4 (units (i .d)))
 
   pub first-is : first ≡ start (map (padded 4) (basis i)) (map (padded 4) (units (length (basis i)))) ++ replicate unused zeroRow

@@ -7,6 +7,7 @@ pub mod Turn
 pub mod Begin
 pub mod Finish
 pub mod Few
+pub mod Answer
 pub mod Tables
 pub mod Whole
 pub mod Repeat

@@ -79,3 +79,14 @@ fn reduce_first(w: rows::Work, n: usize) -> rows::Work
         v = p;
     }
 }
+
+// The answer of a reduction. Where the refusal is not 0, all else is 0; unused places hold 0.
+pub struct Reduction {
+    pub refusal: u64,
+    pub place: u64,
+    pub vectors: [rows::VectorRow; 4],
+    pub u: [rows::TableRow; 4],
+    pub v: [rows::TableRow; 4],
+    pub squares: [i64; 4],
+    pub passes: u64,
+}
