@@ -5,7 +5,9 @@ pub mod Catalogue
 pub mod Read
 pub mod Write
 pub mod Examples
+pub mod Form
 pub mod WordLaws
 pub mod Moves
 pub mod RoundTrip
+pub mod WellFormed
 pub mod EntriesAccepted
