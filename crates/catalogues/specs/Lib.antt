@@ -11,3 +11,6 @@ pub mod Moves
 pub mod RoundTrip
 pub mod WellFormed
 pub mod EntriesAccepted
+pub mod ReadVectors
+pub mod ReadEntries
+pub mod WrittenSize
