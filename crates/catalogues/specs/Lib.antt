@@ -14,3 +14,4 @@ pub mod EntriesAccepted
 pub mod ReadVectors
 pub mod ReadEntries
 pub mod WrittenSize
+pub mod ReadBack
