@@ -1,10 +1,9 @@
 -- "Each entry of an accepted catalogue is an accepted basis": the engine's own checks of vectors pass.
 use mathlib.Core.Path.{_≡_, refl, sym, ap, ap₂, _∙_}
 use mathlib.Core.Bool.{true, false, not, _||_}
-use mathlib.Core.List.{List, [], _∷_, _++_}
-use Prim.Native.Nat.{ℕ, zero, suc, _+_, _*_}
+use mathlib.Core.List.{List, [], _∷_}
+use Prim.Native.Nat.{ℕ, _*_}
 use native.Mathlib.Omega.{arith}
-use lib.Dec.{eqb}
 use lib.ListN.{length, length-append}
 use lib.Seq.{take-at, drop-at}
 use borrow.Author.Tests.{eq-eqb}
@@ -14,7 +13,7 @@ use Rattle.lattices.specs.Refusal.{Input, Check, vectorsOf, any, tooLong, first
 use Rattle.catalogues.specs.All.{All}
 use Rattle.catalogues.specs.Catalogue.{Entry, coordinates, inputOf, accepted}
 use Rattle.catalogues.specs.Read.{read}
-use Rattle.catalogues.specs.Form.{VectorFits, EntryFits, Independent, WellFormed}
+use Rattle.catalogues.specs.Form.{VectorFits, EntryFits, Independent}
 use Rattle.catalogues.specs.WellFormed.{well-formed}
 
 none-applies : (cs : List Check) (i : Input) → All (λ c. c .condition i ≡ false) cs → firstOf cs i ≡ 0

@@ -3,12 +3,12 @@ use mathlib.Core.Path.{_≡_, refl}
 use mathlib.Core.List.{List, [], _∷_}
 use mathlib.Core.Option.{Option, none, some}
 use Prim.Native.Nat.{ℕ}
-use lib.IntN.{ℤ, pos}
+use lib.IntN.{pos}
 use Rattle.lattices.specs.Vector.{Vec, dot}
 use Rattle.lattices.specs.Volume.{squaredVolume, isDependent}
 use Rattle.catalogues.specs.All.{All}
 use Rattle.catalogues.specs.Word.{decode, bytesOf}
-use Rattle.catalogues.specs.Catalogue.{Head, See, Entry, Outcome, refused, accepted}
+use Rattle.catalogues.specs.Catalogue.{See, Entry, Outcome, refused, accepted}
 use Rattle.catalogues.specs.Read.{step, readWords, read}
 
 pub data Example : Type 0 where

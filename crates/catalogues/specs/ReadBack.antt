@@ -1,19 +1,17 @@
 -- Well-formed entries, written and read again, are accepted as they are, each head and see word at its place; and accepted entries stand at their places.
-use mathlib.Core.Path.{_≡_, refl, sym, ap, ap₂, _∙_, subst}
+use mathlib.Core.Path.{_≡_, refl, sym, ap, _∙_}
 use mathlib.Core.Bool.{Bool, true, false, not, _||_, false≢true}
-use mathlib.Core.List.{List, [], _∷_, _++_, map, map-append}
+use mathlib.Core.List.{List, [], _∷_, map, map-append}
 use mathlib.Core.Option.{Option, none, some}
-use Prim.Native.Nat.{ℕ, zero, suc, _+_, _*_, _%_, _^_, _≤_, _<_}
+use Prim.Native.Nat.{ℕ, suc, _%_, _≤_, _<_}
 use native.Mathlib.Omega.{arith}
-use lib.Dec.{eqb}
-use lib.ListN.{length, getD, length-map}
+use lib.ListN.{length, getD}
 use borrow.Author.Tests.{eqb-true, eq-eqb, le-ltb}
-use Rattle.lattices.specs.Volume.{isDependent}
 use Rattle.lattices.specs.Refusal.{any}
 use Rattle.catalogues.specs.All.{All}
-use Rattle.catalogues.specs.Word.{end, encode, wordsOf, bytesOf}
+use Rattle.catalogues.specs.Word.{end, encode, bytesOf}
 use Rattle.catalogues.specs.WordLaws.{words-bytes, length-bytes}
-use Rattle.catalogues.specs.Catalogue.{Head, See, Entry, Outcome, refused, accepted, entries, mostBytes, mostEntries}
+use Rattle.catalogues.specs.Catalogue.{See, Entry, refused, accepted, entries, mostBytes, mostEntries}
 use Rattle.catalogues.specs.Read.{State, step, outside, closed, fileRows, isNumbered, firstPlace, dependentAt, lostAt, afterReading, readWords, read}
 use Rattle.catalogues.specs.Write.{entriesWords, catalogueWords, write}
 use Rattle.catalogues.specs.Form.{mostNumber, EntryFits, Independent, Names, WellFormed, seeAt, pastSee, pastVectors, entryAt, placed}
@@ -21,7 +19,7 @@ use Rattle.catalogues.specs.Moves.{Between, between}
 use Rattle.catalogues.specs.RoundTrip.{same-entries}
 use Rattle.catalogues.specs.WellFormed.{well-formed}
 use Rattle.catalogues.specs.ReadVectors.{passes, one-word, at-end}
-use Rattle.catalogues.specs.ReadEntries.{SeeFits, one-to, Reached, pastEntries, New, entries-read}
+use Rattle.catalogues.specs.ReadEntries.{SeeFits, one-to, pastEntries, New, entries-read}
 use Rattle.catalogues.specs.WrittenSize.{words-small, length-written}
 
 -- ---- see words

@@ -3,27 +3,23 @@ use mathlib.Core.Path.{_≡_, refl, sym, ap, ap₂, _∙_, subst}
 use mathlib.Core.Bool.{Bool, true, false, not, _&&_, _||_, true≢false}
 use mathlib.Core.List.{List, [], _∷_, _++_, map, append-assoc, append-nil, map-append}
 use mathlib.Core.Option.{Option, none, some}
-use Prim.Native.Nat.{ℕ, zero, suc, _+_, _*_, _-_, _%_, _^_, _≤_, _<_}
+use Prim.Native.Nat.{ℕ, suc, _+_, _^_, _≤_, _<_}
 use native.Mathlib.Omega.{arith}
-use lib.Dec.{ltb, leb, eqb}
-use lib.IntN.{ℤ, pos, negsuc, natAbs, _+ℤ_, +ℤ-negℤ-cancel}
+use lib.Dec.{leb}
 use lib.ListN.{length, length-append}
 use lib.Seq.{append-snoc}
-use lib.Signed.{ltZ}
-use borrow.Author.Tests.{eqb-true, eq-eqb, ne-eqb, ltb-false, le-ltb, lt-leb, leb-true}
-use Rattle.integers.specs.Order.{sub-ind}
-use Rattle.integers.specs.Size.{size-add}
-use Rattle.lattices.specs.Vector.{Vec, N}
-use Rattle.lattices.specs.Refusal.{any, oneTo, tooLong, mostVectors, mostCoordinates, mostSquare, mostSize}
+use borrow.Author.Tests.{ne-eqb, lt-leb, leb-true}
+use Rattle.lattices.specs.Vector.{Vec}
+use Rattle.lattices.specs.Refusal.{any, oneTo, mostVectors, mostCoordinates}
 use Rattle.catalogues.specs.All.{All}
-use Rattle.catalogues.specs.Word.{Word, head, coordinate, see, end, decode, encode, wordsOf, bytesOf}
-use Rattle.catalogues.specs.WordLaws.{InRange, decode-encode, words-bytes, length-bytes}
-use Rattle.catalogues.specs.Catalogue.{Head, See, Entry, Outcome, refused, accepted, coordinates, mostLoad, mostEntries, mostBytes}
-use Rattle.catalogues.specs.Read.{State, outside, inside, after, closed, Step, next, stop, checked, headRows, coordinateRows, endRows, fileRows, isNumbered, withEntry, coordinateOf, withVector, withCoordinate, atEnd, step, afterReading, readWords, read}
-use Rattle.catalogues.specs.Write.{headWord, coordinateWord, seeWords, entryWords, entriesWords, catalogueWords, write}
-use Rattle.catalogues.specs.Form.{mostNumber, HeadFits, VectorFits, EntryFits, Distinct, Entered, Independent, Names, WellFormed, seeAt, pastSee, pastVectors, headAt, entryAt, placed}
+use Rattle.catalogues.specs.Word.{head, see, encode}
+use Rattle.catalogues.specs.WordLaws.{InRange}
+use Rattle.catalogues.specs.Catalogue.{Head, See, Entry, Outcome, coordinates, mostEntries}
+use Rattle.catalogues.specs.Read.{State, outside, inside, after, headRows, isNumbered, withEntry, step, readWords}
+use Rattle.catalogues.specs.Write.{headWord, coordinateWord, seeWords, entryWords, entriesWords}
+use Rattle.catalogues.specs.Form.{mostNumber, HeadFits, EntryFits, Distinct, seeAt, pastSee, pastVectors, headAt, entryAt, placed}
 use Rattle.catalogues.specs.Moves.{NoneOf, Between, between, unreferred}
-use Rattle.catalogues.specs.ReadVectors.{encoded, passes, one-word, at-head, at-end, all-vectors}
+use Rattle.catalogues.specs.ReadVectors.{encoded, one-word, at-head, all-vectors}
 use Rattle.catalogues.specs.WellFormed.{neither, any-snoc, eqb-turned}
 
 -- ---- an entry
@@ -92,8 +88,8 @@ new-after past e (f ∷ es) p q =
     let r = neither (isNumbered (e .head .number) f) (any (isNumbered (e .head .number)) es) q in
     (any-snoc (isNumbered (f .head .number)) past e (p .0) (eqb-turned (f .head .number) (e .head .number) (r .0)), new-after past e es (p .1) (r .1))
 
-moved : (i : ℕ) (e : Entry) → EntryFits e → EntryFits (record { head = headAt i (e .head); vectors = e .vectors; see = e .see })
-moved i e p = record { head = record { number = p .head .number; d = p .head .d; m = p .head .m }; count = p .count; vectors = p .vectors }
+fits-at : (i : ℕ) (e : Entry) → EntryFits e → EntryFits (record { head = headAt i (e .head); vectors = e .vectors; see = e .see })
+fits-at i e p = record { head = record { number = p .head .number; d = p .head .d; m = p .head .m }; count = p .count; vectors = p .vectors }
 
 pub entries-read : (s : State) (past es : List Entry) (i : ℕ) (words : List ℕ) → Between s past
     → length past + length es ≤ mostEntries → All EntryFits es → All (λ e. SeeFits (e .see)) es → Distinct es → New past es
@@ -105,7 +101,7 @@ entries-read s past (e ∷ es) i words b few fits sees distinct new =
     let more = map encode (entriesWords es) ++ words in
     let split : map encode (entryWords e ++ entriesWords es) ++ words ≡ map encode (entryWords e) ++ more =
     ap (λ l. l ++ words) (map-append encode (entryWords e) (entriesWords es)) ∙ append-assoc (map encode (entryWords e)) (map encode (entriesWords es)) words in
-    let one = head-and-vectors s past f more b (moved i e (fits .0)) (omega arith) (new .0) in
+    let one = head-and-vectors s past f more b (fits-at i e (fits .0)) (omega arith) (new .0) in
     let r = seen past (headAt i (e .head)) (e .vectors) (pastVectors i (e .vectors)) (e .see) more (sees .0) in
     let t = entries-read (r .state) (past ++ (entryAt i e ∷ [])) es j words (r .here) (omega (arith, length-append past (entryAt i e ∷ []))) (fits .1) (sees .1) (distinct .1)
     (new-after past (entryAt i e) es (new .1) (distinct .0)) in

@@ -1,29 +1,29 @@
 -- Reading words that were written: a head, a see word, the end, and the coordinates of an entry whose vectors fit.
-use mathlib.Core.Path.{_≡_, refl, sym, ap, ap₂, _∙_, subst}
+use mathlib.Core.Path.{_≡_, refl, sym, ap, ap₂, _∙_}
 use mathlib.Core.Bool.{Bool, true, false, not, _&&_, _||_}
 use mathlib.Core.List.{List, [], _∷_, _++_, map, append-assoc, append-nil, map-append}
-use mathlib.Core.Option.{Option, none, some}
-use Prim.Native.Nat.{ℕ, zero, suc, _+_, _*_, _-_, _%_, _^_, _≤_, _<_}
+use mathlib.Core.Option.{none}
+use Prim.Native.Nat.{ℕ, suc, _+_, _-_, _≤_}
 use native.Mathlib.Omega.{arith}
-use lib.Dec.{ltb, leb, eqb}
+use lib.Dec.{ltb, eqb}
 use lib.IntN.{ℤ, pos, negsuc, natAbs, _+ℤ_, +ℤ-negℤ-cancel}
 use lib.ListN.{length, length-append}
 use lib.Seq.{append-snoc}
 use lib.Signed.{ltZ}
-use borrow.Author.Tests.{eqb-true, eq-eqb, ne-eqb, ltb-false, le-ltb, lt-leb, leb-true}
+use borrow.Author.Tests.{eq-eqb, ne-eqb, ltb-false, le-ltb}
 use Rattle.integers.specs.Order.{sub-ind}
 use Rattle.integers.specs.Size.{size-add}
 use Rattle.lattices.specs.Vector.{Vec, N}
-use Rattle.lattices.specs.Refusal.{any, oneTo, tooLong, mostVectors, mostCoordinates, mostSquare, mostSize}
+use Rattle.lattices.specs.Refusal.{any, mostSquare, mostSize}
 use Rattle.catalogues.specs.All.{All}
-use Rattle.catalogues.specs.Word.{Word, head, coordinate, see, end, decode, encode, wordsOf, bytesOf}
-use Rattle.catalogues.specs.WordLaws.{InRange, decode-encode, words-bytes, length-bytes}
-use Rattle.catalogues.specs.Catalogue.{Head, See, Entry, Outcome, refused, accepted, coordinates, mostLoad, mostEntries, mostBytes}
-use Rattle.catalogues.specs.Read.{State, outside, inside, after, closed, Step, next, stop, checked, headRows, coordinateRows, endRows, fileRows, isNumbered, withEntry, coordinateOf, withVector, withCoordinate, atEnd, step, afterReading, readWords, read}
-use Rattle.catalogues.specs.Write.{headWord, coordinateWord, seeWords, entryWords, entriesWords, catalogueWords, write}
-use Rattle.catalogues.specs.Form.{mostNumber, HeadFits, VectorFits, EntryFits, Distinct, Entered, Independent, Names, WellFormed, seeAt, pastSee, pastVectors, headAt, entryAt, placed}
+use Rattle.catalogues.specs.Word.{Word, end, encode}
+use Rattle.catalogues.specs.WordLaws.{InRange, decode-encode}
+use Rattle.catalogues.specs.Catalogue.{Head, Entry, refused, coordinates, mostLoad}
+use Rattle.catalogues.specs.Read.{State, inside, after, closed, next, stop, checked, headRows, coordinateRows, endRows, withEntry, coordinateOf, withVector, withCoordinate, atEnd, step, readWords}
+use Rattle.catalogues.specs.Write.{headWord, coordinateWord}
+use Rattle.catalogues.specs.Form.{VectorFits}
 use Rattle.catalogues.specs.Moves.{NoneOf, Between, between, unreferred}
-use Rattle.catalogues.specs.WellFormed.{neither, any-snoc, eqb-turned}
+use Rattle.catalogues.specs.WellFormed.{neither}
 
 -- ---- one word
 

@@ -2,19 +2,19 @@
 use mathlib.Core.Path.{_≡_, refl, sym, ap, ap₂, _∙_}
 use mathlib.Core.Bool.{Bool, true, false}
 use mathlib.Core.List.{List, [], _∷_, _++_, map, append-assoc, append-nil, map-append}
-use mathlib.Core.Option.{Option, none, some}
+use mathlib.Core.Option.{none}
 use Prim.Native.Nat.{ℕ, _<_}
 use lib.Dec.{eqb}
 use lib.IntN.{ℤ, pos, natAbs, -ℤ-+ℤ-cancel}
 use lib.ListN.{length, getD}
 use Rattle.lattices.specs.Vector.{Vec}
 use Rattle.lattices.specs.Refusal.{mostSize}
-use Rattle.catalogues.specs.Word.{Word, coordinate, see, decode, encode, wordsOf, bytesOf}
+use Rattle.catalogues.specs.Word.{Word, coordinate, decode, encode, bytesOf}
 use Rattle.catalogues.specs.WordLaws.{encode-decode, bytes-words}
-use Rattle.catalogues.specs.Catalogue.{Head, See, Entry, coordinates, accepted}
+use Rattle.catalogues.specs.Catalogue.{Head, Entry, coordinates, accepted}
 use Rattle.catalogues.specs.Read.{State, outside, inside, after, closed, withEntry, coordinateOf, withVector, withCoordinate, read}
 use Rattle.catalogues.specs.Write.{headWord, coordinateWord, entryWords, entriesWords, catalogueWords, write}
-use Rattle.catalogues.specs.Moves.{Between, between, unreferred, Moves, by-head, by-coordinate, by-see, by-end, Kept, kept-to-end}
+use Rattle.catalogues.specs.Moves.{between, unreferred, Moves, by-head, by-coordinate, by-see, by-end, kept-to-end}
 
 -- the words that a state has read
 abbrev wordsSoFar : State → List Word

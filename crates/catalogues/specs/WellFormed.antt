@@ -1,27 +1,27 @@
 -- The entries of an accepted catalogue are well formed: what each step of reading adds, and what the end has checked.
-use mathlib.Core.Path.{_≡_, refl, sym, ap, ap₂, _∙_}
+use mathlib.Core.Path.{_≡_, refl, sym, ap, ap₂}
 use mathlib.Core.Logic.{_≢_}
 use mathlib.Core.Bool.{Bool, true, false, _&&_, _||_, true≢false}
 use mathlib.Core.List.{List, [], _∷_, _++_}
 use mathlib.Core.Option.{Option, none, some, Option·some-ne-none}
-use Prim.Native.Nat.{ℕ, zero, suc, _^_, _≤_, _<_}
+use Prim.Native.Nat.{ℕ, _^_, _≤_, _<_}
 use native.Mathlib.Omega.{arith}
-use lib.Dec.{ltb, leb, eqb}
-use lib.IntN.{ℤ, pos, natAbs}
+use lib.Dec.{ltb, eqb}
+use lib.IntN.{pos, natAbs}
 use lib.ListN.{length, length-append}
 use lib.Signed.{ltZ}
 use borrow.Author.Tests.{eqb-true, eqb-false, ne-eqb, leb-false, le-leb, ltb-false, le-ltb, not-false}
 use Rattle.integers.specs.Order.{sub-ind}
 use Rattle.lattices.specs.Vector.{Vec, N}
 use Rattle.lattices.specs.Volume.{isDependent}
-use Rattle.lattices.specs.Refusal.{any, oneTo, tooLong, mostSquare, mostSize}
+use Rattle.lattices.specs.Refusal.{any, oneTo, mostSquare, mostSize}
 use Rattle.catalogues.specs.All.{All, all-snoc}
 use Rattle.catalogues.specs.Word.{Word, head}
 use Rattle.catalogues.specs.Catalogue.{Head, See, Entry, accepted, mostLoad, mostEntries}
 use Rattle.catalogues.specs.Read.{State, outside, inside, after, closed, isNumbered, withEntry, coordinateOf, withVector, withCoordinate, firstPlace, dependentAt, lostAt, read}
 use Rattle.catalogues.specs.Form.{mostNumber, HeadFits, VectorFits, EntryFits, Distinct, Entered, Independent, Names, WellFormed}
 use Rattle.catalogues.specs.WordLaws.{InRange, decode-range}
-use Rattle.catalogues.specs.Moves.{Between, between, unreferred, Moves, by-head, by-coordinate, by-see, by-end, Kept, kept-to-end}
+use Rattle.catalogues.specs.Moves.{Between, between, unreferred, Moves, by-head, by-coordinate, by-see, by-end, kept-to-end}
 
 -- ---- tests
 
@@ -29,9 +29,9 @@ pub neither : (s t : Bool) → (s || t) ≡ false → (s ≡ false) × (t ≡ fa
 neither true t e = absurd (true≢false e)
 neither false t e = (refl, e)
 
-both : (s t : Bool) → (s && t) ≡ false → s ≡ true → t ≡ false
-both true t e f = e
-both false t e f = absurd (true≢false (sym f))
+rest-false : (s t : Bool) → (s && t) ≡ false → s ≡ true → t ≡ false
+rest-false true t e f = e
+rest-false false t e f = absurd (true≢false (sym f))
 
 pub any-snoc : {A : Type 0} (f : A → Bool) (l : List A) (a : A) → any f l ≡ false → f a ≡ false → any f (l ++ (a ∷ [])) ≡ false
 any-snoc f [] a e q = ap (λ t. t || false) q
@@ -117,7 +117,7 @@ known-moves (by-head {es} h b p) r k =
 known-moves (by-coordinate es h vs v l p) r k =
     let u = v ++ (coordinateOf l ∷ []) in
     let fits = neither (ltb mostLoad l) (eqb (length u) (h .m) && ltZ (pos mostSquare) (N u)) (p .0) in
-    with-coordinate es h vs u (k .0, k .1, any-snoc (λ x. ltb mostSize (natAbs x)) v (coordinateOf l) (k .2) (load-within l (fits .0))) (both _ _ (fits .1))
+    with-coordinate es h vs u (k .0, k .1, any-snoc (λ x. ltb mostSize (natAbs x)) v (coordinateOf l) (k .2) (load-within l (fits .0))) (rest-false _ _ (fits .1))
 known-moves (by-see es h vs s) r k = with-entry es h vs (some s) k
 known-moves (by-end b) r k = known-between b k
 

@@ -1,5 +1,5 @@
 -- The words of a catalogue (document 01, "The catalogue"): kind and load, the case that a word is, and words as bytes.
-use mathlib.Core.Bool.{Bool, true, false}
+use mathlib.Core.Bool.{true, false}
 use mathlib.Core.List.{List, [], _∷_}
 use Prim.Native.Nat.{ℕ, _+_, _*_, _/_, _%_, _^_}
 use lib.Dec.{eqb}

@@ -1,21 +1,21 @@
 -- The words written for well-formed entries have 32 bits, and make at most 18,436 bytes.
-use mathlib.Core.Path.{_≡_, refl, sym, ap, _∙_, subst}
-use mathlib.Core.Bool.{Bool, true, false, _||_}
+use mathlib.Core.Path.{_≡_, sym, subst}
+use mathlib.Core.Bool.{false}
 use mathlib.Core.List.{List, [], _∷_, _++_, map, map-append}
 use mathlib.Core.Option.{Option, none, some}
-use Prim.Native.Nat.{ℕ, zero, suc, _+_, _*_, _^_, _≤_, _<_}
+use Prim.Native.Nat.{ℕ, _*_, _^_, _≤_, _<_}
 use native.Mathlib.Omega.{arith}
 use lib.Dec.{ltb}
-use lib.IntN.{ℤ, pos, natAbs}
+use lib.IntN.{pos, natAbs}
 use lib.ListN.{length, length-append, length-map}
 use lib.Signed.{ltZ}
 use Rattle.lattices.specs.Vector.{Vec, N}
-use Rattle.lattices.specs.Refusal.{any, oneTo, mostVectors, mostCoordinates, mostSquare, mostSize}
+use Rattle.lattices.specs.Refusal.{any, mostVectors, mostCoordinates, mostSquare, mostSize}
 use Rattle.catalogues.specs.All.{All, all-append, all-map}
-use Rattle.catalogues.specs.Word.{Word, head, coordinate, see, end, kindOf, loadOf, encode, bytesOf}
-use Rattle.catalogues.specs.WordLaws.{InRange, length-bytes}
+use Rattle.catalogues.specs.Word.{Word, head, see, end, encode, bytesOf}
+use Rattle.catalogues.specs.WordLaws.{length-bytes}
 use Rattle.catalogues.specs.Catalogue.{Head, See, Entry, coordinates, mostEntries, mostBytes}
-use Rattle.catalogues.specs.Write.{headWord, coordinateWord, seeWords, entryWords, entriesWords, catalogueWords, write}
+use Rattle.catalogues.specs.Write.{headWord, coordinateWord, seeWords, entryWords, entriesWords, catalogueWords}
 use Rattle.catalogues.specs.Form.{HeadFits, VectorFits, EntryFits}
 use Rattle.catalogues.specs.WellFormed.{neither}
 use Rattle.catalogues.specs.ReadVectors.{load-most}
