@@ -1,18 +1,21 @@
 -- The catalogue in full of document 01, its sole end word, and a small catalogue for each refusal but 9 and 15: one table, one theorem.
 use mathlib.Core.Path.{_≡_, refl}
-use mathlib.Core.List.{List, [], _∷_}
+use mathlib.Core.List.{List, [], _∷_, map}
 use mathlib.Core.Option.{Option, none, some}
 use Prim.Native.Nat.{ℕ}
 use lib.IntN.{pos}
 use Rattle.lattices.specs.Vector.{Vec, dot}
 use Rattle.lattices.specs.Volume.{squaredVolume, isDependent}
-use Rattle.integers.specs.All.{All}
 use Rattle.catalogues.specs.Word.{decode, bytesOf}
 use Rattle.catalogues.specs.Catalogue.{See, Entry, Outcome, refused, accepted}
 use Rattle.catalogues.specs.Read.{step, readWords, read}
 
-pub data Example : Type 0 where
-  gives : (bytes : List ℕ) → Outcome → Example
+pub record Example : Type 0 where
+  pub bytes : List ℕ
+  pub outcome : Outcome
+
+abbrev pub gives : List ℕ → Outcome → Example
+gives bytes outcome = record { bytes = bytes; outcome = outcome }
 
 -- a vector of two coordinates
 abbrev pub pair : ℕ → ℕ → Vec
@@ -76,42 +79,7 @@ examples =
     ∷ gives (bytesOf (0x10000111 ∷ 0x20004E21 ∷ 0x30000009 ∷ 0x40000001 ∷ [])) (refused 12 2)
     ∷ []
 
-abbrev pub Holds : Example → Type 0
-Holds (gives bytes outcome) = read bytes ≡ outcome
-
-pub examples-hold : All Holds examples
+-- reading the table's bytes gives the table's outcomes
+pub examples-hold : map (λ x. read (x .bytes)) examples ≡ map (λ x. x .outcome) examples
 unfolding dot squaredVolume isDependent decode step readWords read
-examples-hold = (
-  refl,
-  (
-    refl,
-    (
-      refl,
-      (
-        refl,
-        (
-          refl,
-          (
-            refl,
-            (
-              refl,
-              (
-                refl,
-                (
-                  refl,
-                  (
-                    refl,
-                    (
-                      refl,
-                      (refl, (refl, (refl, (refl, (refl, (refl, (refl, (refl, (refl, (refl, (refl, tt))))))))))),
-                    ),
-                  ),
-                ),
-              ),
-            ),
-          ),
-        ),
-      ),
-    ),
-  ),
-)
+examples-hold = refl
