@@ -1,9 +1,10 @@
 -- The answer of `reduce` as a struct, and that the finished work packs to the definition's answer.
 use mathlib.Core.Path.{_≡_, refl, sym, ap, ap₂, _∙_, subst}
-use mathlib.Core.List.{List, [], _∷_, map, map-map}
-use Prim.Native.Nat.{ℕ, zero, suc, _+_}
+use mathlib.Core.List.{List, [], _∷_, map}
+use mathlib.Core.Logic.{_≢_}
+use Prim.Native.Nat.{ℕ, zero, suc, _+_, _≤_, zero-le}
 use native.Mathlib.Omega.{arith}
-use native.Mathlib.Nat.{zero-add}
+use native.Mathlib.Nat.{zero-add, le-refl}
 use lib.IntN.{ℤ}
 use lib.ListN.{length}
 use Rattle.lattices.specs.Vector.{N}
@@ -11,14 +12,16 @@ use Rattle.lattices.specs.Greedy.{Row, vectors, units, reduction}
 use Rattle.lattices.specs.Refusal.{Input, basis, firstOf, vectorChecks}
 use Rattle.lattices.specs.Answer as Definition
 use Rattle.lattices.specs.Answer.{padded, table, rowsOfV, reductionGiven, noReduction, reductionOf}
+use Rattle.reductions.specs.Accepted.{accepted}
 use Rattle.reductions.specs.Demand.{accepted-reduction}
 use Rattle.rows.specs.declared.Work.{Work}
-use Rattle.rows.specs.declared.VectorRow.{VectorRow}
-use Rattle.rows.specs.declared.TableRow.{TableRow}
 use Rattle.rows.specs.Rows.{rowsOf, workOf, vectorRow, tableRow, transposed}
 use Rattle.engine.specs.declared.Reduction.{Reduction}
 use Rattle.engine.specs.State.{rowsIn, greedyRows, greedyPasses, reduced}
-use Rattle.engine.specs.Begin.{first}
+use Rattle.engine.specs.Fine.{Fine, fine-fewer, fine-greedy}
+use Rattle.engine.specs.Few.{few-passes}
+use Rattle.engine.specs.Turn.{rowsIn-workOf}
+use Rattle.engine.specs.Begin.{first, first-fine}
 use Rattle.engine.specs.Finish.{R, last-vectors, last-u, last-v, last-squares, last-passes}
 
 -- the definition's answer in the struct
@@ -113,7 +116,24 @@ module _ (i : Input) (e : firstOf vectorChecks i ≡ 0) where
       ∙ ap (λ n. finished (workOf G n)) (zero-add (greedyPasses (i .d) (first i e)))
       ∙ finished-rows ∙ ap packed (sym (accepted-reduction i e))
 
--- and for a refused one
-pub refused-answer : (i : Input) (n : ℕ) → firstOf vectorChecks i ≡ suc n → packed (noReduction (suc n)) ≡ packed (reductionOf i)
+  -- what the engine's functions ask on the way
+  pub begun-fine : Fine (i .d) (rowsIn (begun i))
+  begun-fine = subst (Fine (i .d)) (sym begun-rows) (first-fine i e)
+
+  pub begun-few : begun i .passes + greedyPasses (i .d) (rowsIn (begun i)) ≤ 1000000000000
+  unfolding begun
+  begun-few = omega (arith, few-passes (accepted i e .most) begun-fine)
+
+  pub reduced-fine : Fine 0 (rowsIn (reduced (i .d) (begun i)))
+  unfolding reduced
+  reduced-fine = subst (Fine 0) (sym (rowsIn-workOf (greedyRows (i .d) (rowsIn (begun i))) (begun i .passes + greedyPasses (i .d) (rowsIn (begun i)))))
+      (fine-fewer {n = i .d} {k = 0} zero-le (fine-greedy begun-fine (i .d) (le-refl (i .d))))
+
+-- the answer for a refused input
+refused-answer : (i : Input) (n : ℕ) → firstOf vectorChecks i ≡ suc n → packed (noReduction (suc n)) ≡ packed (reductionOf i)
 unfolding reductionOf
 refused-answer i n e = ap packed (sym (ap (λ (k : ℕ). elim k as (λ k. Definition.Reduction) [ zero ↦ reductionGiven (reduction (basis i)) | suc j ↦ noReduction (suc j) ]) e))
+
+pub refused-with : (i : Input) (n : ℕ) → n ≡ firstOf vectorChecks i → n ≢ 0 → packed (noReduction n) ≡ packed (reductionOf i)
+refused-with i zero e h = absurd (h refl)
+refused-with i (suc n) e h = refused-answer i n (sym e)

@@ -1,7 +1,7 @@
 -- A pass on the three tables of the rows: what the row operations ask, and what their results pack to.
 use mathlib.Core.Path.{_≡_, sym, ap, ap₂, _∙_, subst}
 use mathlib.Core.List.{List, [], map}
-use Prim.Native.Nat.{ℕ, suc, _+_, _≤_, _<_}
+use Prim.Native.Nat.{ℕ, _+_, _≤_, _<_}
 use lib.IntN.{ℤ, natAbs, _*ℤ_}
 use lib.Signed.{leZ-yes}
 use lib.ListN.{length, getD, take}

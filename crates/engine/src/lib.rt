@@ -1,12 +1,15 @@
 // The lattice engine: greedy reduction with its tables, proved equal to the definition.
 ghost use mathlib.Core.Path.{_≡_};
 ghost use Prim.Native.Nat.{suc, _+_, _-_, _≤_, _<_};
+ghost use mathlib.Core.List.{[]};
 ghost use lib.ListN.{getD};
 ghost use lib.Signed.{ltZ};
 ghost use Rattle.lattices.specs.Vector.{N};
 ghost use Rattle.engine.specs.State.{rowsIn, blank, greedyPasses, ordered, passed, reduced};
 ghost use Rattle.engine.specs.Fine.{Fine};
 ghost use Rattle.engine.specs.Room.{Ready};
+ghost use Rattle.engine.specs.Answer.{packed, finished};
+ghost use Rattle.lattices.specs.Answer.{noReduction, reductionOf};
 
 // Steps 4 and 5 for row k, the rows before it being reduced: the vector nearest to it in their lattice is subtracted from it.
 fn pass(w: rows::Work, k: usize) -> rows::Work
@@ -89,4 +92,59 @@ pub struct Reduction {
     pub v: [rows::TableRow; 4],
     pub squares: [i64; 4],
     pub passes: u64,
+}
+
+// A refusal: its number, and zeros.
+fn refused(n: u64) -> Reduction
+    ensures { λ r. ⌜ r ≡ packed (noReduction n) ⌝ }
+{
+    Reduction {
+        refusal: n,
+        place: 0,
+        vectors: [rows::VectorRow { at: [0; 4] }; 4],
+        u: [rows::TableRow { at: [0; 4] }; 4],
+        v: [rows::TableRow { at: [0; 4] }; 4],
+        squares: [0; 4],
+        passes: 0,
+    }
+}
+
+// The answer from the finished work: V is written out by rows.
+fn finished(w: rows::Work) -> Reduction
+    requires { ⌜ Fine 0 (rowsIn w) ⌝ }
+    ensures { λ r. ⌜ r ≡ finished w ⌝ }
+{
+    let vectors = w.vectors;
+    let u = w.u;
+    let vs = w.v;
+    let b = rows::vectors_of(vectors);
+    let v = rows::tables_of(vs);
+    Reduction {
+        refusal: 0,
+        place: 0,
+        vectors,
+        u,
+        v: rows::table_rows(rows::transposed(v)),
+        squares: rows::squared_lengths(b),
+        passes: w.passes,
+    }
+}
+
+// Reduction: d vectors of m coordinates each, vector by vector.
+pub fn reduce(numbers: &[i64], d: usize, m: usize) -> Reduction
+    ensures { λ r. ⌜ r ≡ packed (reductionOf (record { numbers = now (numbers .entry); d = d; m = m; target = [] })) ⌝ }
+{
+    let n = checks::refusal(numbers, d, m);
+    if n != 0 {
+        return refused(n);
+    }
+    let b = checks::basis(numbers, d, m);
+    let e = rows::unit_table(d);
+    let w = rows::Work {
+        vectors: rows::vector_rows(b),
+        u: rows::table_rows(e),
+        v: rows::table_rows(e),
+        passes: 0,
+    };
+    finished(reduce_first(w, d))
 }

@@ -73,6 +73,7 @@ pub record Accepted (i : Input) : Type 0 where
   pub most : i .d ≤ mostVectors
   pub coordinates : 1 ≤ i .m
   pub few : i .m ≤ mostCoordinates
+  pub count : length (i .numbers) ≡ i .d * i .m
   pub full : Coordinates (i .m) (basis i)
   pub limit : All Short (basis i)
   pub volume : pos 0 <ℤ squaredVolume (i .m) (basis i)
@@ -89,6 +90,7 @@ accepted i e =
       most = d .1;
       coordinates = m .0;
       few = m .1;
+      count = count;
       full = vectorsOf-full (i .d) (i .m) (i .numbers) count;
       limit = all-short (basis i) (p .1 .1 .1 .0);
       volume = leZ-false (p .1 .1 .1 .1 .0);
