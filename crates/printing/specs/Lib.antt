@@ -1,1 +1,2 @@
--- printing
+-- Numbers on standard output: a negative number's size.
+pub mod Turned
