@@ -1,0 +1,2 @@
+-- Numbers on standard output: a negative number's size.
+pub mod Turned
