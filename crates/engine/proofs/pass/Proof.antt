@@ -1,6 +1,6 @@
 -- `pass` is the row operations of one pass on the three tables.
 use mathlib.Core.Path.{_≡_, sym, ap, _∙_}
-use Prim.Native.Nat.{suc}
+use Prim.Native.Nat.{_+_}
 use native.Mathlib.Numerals.{add-one}
 use lib.ListN.{length}
 use Rattle.rows.specs.Rows.{rowsOf, workOf}
@@ -87,9 +87,10 @@ returns c =
     let eb = rw (x .search .ensures) at (bs .before .minus-rows .ensures) in
     let eu = rw (x .search .ensures) at (us .before .minus-rows2 .ensures) in
     let ev = rw (x .search .ensures) at (vs .before .credit-rows .ensures) in
-    rw (bs .vector-rows .ensures, us .table-rows .ensures, vs .table-rows2 .ensures, add-one p)
-    (passed-packed g eb eu ev (four-2 (us .before) ∙ sym (four (bs .before))) (four-3 (vs .before) ∙ sym (four (bs .before))) (suc p)
-    ∙ ap (λ l. workOf (passRows (s .args .k) l) (suc p)) (rows-are (x .before .before)))
+    rw (bs .vector-rows .ensures, us .table-rows .ensures, vs .table-rows2 .ensures)
+    (passed-packed g eb eu ev (four-2 (us .before) ∙ sym (four (bs .before))) (four-3 (vs .before) ∙ sym (four (bs .before))) (p + 1)
+    ∙ ap (λ l. workOf (passRows (s .args .k) l) (p + 1)) (rows-are (x .before .before))
+    ∙ ap (workOf (passRows (s .args .k) (rowsIn (s .args .w)))) (add-one p))
 
 pub pass-spec : {M : Type 1} → statement M
 pass-spec =

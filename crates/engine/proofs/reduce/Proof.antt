@@ -1,9 +1,10 @@
 -- `reduce` is the checks, the work begun, the greedy steps and the packing.
-use mathlib.Core.Path.{_≡_, refl, sym, ap, _∙_, subst}
-use mathlib.Core.List.{[]}
+use mathlib.Core.Path.{_≡_, sym, ap, _∙_, subst}
+use mathlib.Core.List.{[], map}
 use Prim.Native.Nat.{_+_, _≤_}
 use denote.Ref.{now}
 use Rattle.rows.specs.declared.Work.{Work}
+use Rattle.rows.specs.Rows.{vectorRow, tableRow}
 use Rattle.lattices.specs.Refusal.{Input, firstOf, vectorChecks}
 use Rattle.reductions.specs.Accepted.{Accepted, accepted}
 use Rattle.engine.specs.State.{rowsIn, greedyPasses, reduced}
@@ -33,7 +34,11 @@ work-begun c =
     let t = c .before in
     let v = t .before in
     let e = v .before in
-    rw (c .table-rows2 .ensures, t .table-rows .ensures, v .vector-rows .ensures, e .unit-table .ensures, e .before .basis .ensures) refl
+    let vectors = v .vector-rows .ensures ∙ ap (map vectorRow) (e .before .basis .ensures) in
+    let unit = ap (map tableRow) (e .unit-table .ensures) in
+    let us = t .table-rows .ensures ∙ unit in
+    let vs = c .table-rows2 .ensures ∙ unit in
+    λ k. record { vectors = vectors k; u = us k; v = vs k; passes = 0 }
 
 refusal-requires : tie.Need-refusal-requires
 refusal-requires c κs = search needs
