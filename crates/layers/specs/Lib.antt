@@ -1,1 +1,2 @@
 -- The nearest vector among at most four reduced ones, by layers of the last.
+pub mod Near
