@@ -5,23 +5,26 @@ use Prim.Native.Nat.{ℕ, zero, suc, _+_, _*_, _≤_, _<_}
 use native.Mathlib.Omega.{arith}
 use native.Mathlib.Decide.{decLt}
 use lib.IntN.{ℤ, pos, negsuc, natAbs, _+ℤ_, _-ℤ_, _*ℤ_, +ℤ-idr}
-use lib.ListN.{length, getD, take, set, List·getD-eq-default}
-use lib.Seq.{take-suc, getD-take}
-use lib.Signed.{_≤ℤ_, ≤ℤ-refl, leZ-yes, ltZ-yes}
+use lib.ListN.{length, getD, set, take, length-take, List·getD-eq-default}
+use lib.Seq.{take-suc, take-suc-set, getD-take, getD-set-same}
+use lib.Signed.{_≤ℤ_, _<ℤ_, leZ-yes, ltZ-yes}
 use Rattle.integers.specs.Identity.{by-ring, reads}
 use Rattle.integers.specs.Order.{≤ℤ-trans, ≤ℤ-of-≡}
 use Rattle.integers.specs.Certificate.{NN, _⊞_, _⊠_, le, eq, nn-pos, nn-cancel, nn-ring, by-nn, le-of-nn}
 use Rattle.integers.specs.Size.{Within, within-le, within-mul, within-upper, root, root-within, load}
 use Rattle.lattices.specs.Vector.{Vec, N, nth, dot, comb, _⊕_, _⊙_, _⊖_}
-use Rattle.lattices.specs.VectorLaws.{_≈_, ≈-refl, ≈-⊕, ≈-⊙, ≈-N, bilinear, dot-comm, dot-nil, N-nonneg, square-≤, comb-cons, comb-none}
+use Rattle.lattices.specs.VectorLaws.{_≈_, ≈-refl, ≈-sym, ≈-trans, ≈-⊕, ≈-⊙, ≈-N, bilinear, dot-comm, nil-dot, N-nonneg, square-≤, comb-cons, comb-none}
 use Rattle.lattices.specs.Nearest.{nearest}
+use Rattle.lattices.specs.Answer.{padded}
+use Rattle.lattices.specs.AnswerLaws.{nth-padded, take-padded}
 use Rattle.volumes.specs.Cramer.{sizes}
 use Rattle.volumes.specs.Sizes.{Short, power, product-put-≤, near-le}
 use Rattle.minima.specs.Reduced.{Top, Reduced}
 use Rattle.minima.specs.ReducedLaws.{reduced-last}
 use Rattle.minima.specs.NearestLaws.{nearest-count, nearest-shorter}
 use Rattle.minima.specs.Digits.{Bounded}
-use Rattle.search.specs.Searchable.{Searchable, Given, given, width, volume-positive}
+use Rattle.search.specs.Searchable.{Searchable, Given, given, width, volume-positive, coordinates as long}
+use Rattle.search.specs.Gram.{behind}
 use Rattle.rows.specs.Minus.{room}
 
 -- the first d vectors of b are reduced, and neither they nor the target are longer than 20,000
@@ -38,11 +41,27 @@ pub record Four (vs : List Vec) (b : Vec) : Type 0 where
   pub count : length vs ≡ 3
   pub reduced : Reduced (vs ++ (b ∷ []))
   pub short : Short (pos 400000000) (vs ++ (b ∷ []))
-  pub first : Short (pos 400000000) vs
   pub last : N b ≤ℤ pos 400000000
 
-pub four-is : (b : List Vec) → length b ≡ 4 → take 4 b ≡ take 3 b ++ (getD b 3 [] ∷ [])
-four-is b e = take-suc b 3 [] (omega arith)
+module _ (b : List Vec) (e : length b ≡ 4) where
+  pub four-is : take 4 b ≡ take 3 b ++ (getD b 3 [] ∷ [])
+  four-is = take-suc b 3 [] (omega arith)
+
+  pub four : {t : Vec} → Near 4 b t → Four (take 3 b) (getD b 3 [])
+  four n = record {
+    count = omega (arith, length-take 3 b);
+    reduced = subst Reduced four-is (n .reduced);
+    short = subst (Short (pos 400000000)) four-is (λ i. pick i (decLt i 4));
+    last = n .short 3 (omega arith);
+  }
+    where
+      pick : (i : ℕ) → Dec (i < 4) → N (getD (take 4 b) i []) ≤ℤ pos 400000000
+      pick i (yes m) = rw (getD-take 4 b i [] m) (n .short i m)
+      pick i (no m) = rw (behind 4 i b (omega (arith, m)), nil-dot []) (nn-pos 400000000)
+
+  -- the first three can be searched
+  pub three : {t : Vec} (u : Vec) → Near 4 b t → N u ≤ℤ pos 3600000000 → Searchable 3 b u
+  three u n h = record { reduced = reduced-last (take 3 b) (getD b 3 []) (subst Reduced four-is (n .reduced)) .1; short = λ i l. n .short i (omega arith); target = h }
 
 -- ---- sizes of numbers
 
@@ -103,3 +122,78 @@ reachable-near b r j h k l = record { small = record { within = omega arith }; s
 
     twice : NN (pos 2 *ℤ (pos 3600000000 -ℤ N (r ⊖ j ⊙ b)))
     twice = law (N r) (N b) (N (pos 2 ⊙ r ⊕ j ⊙ b)) (N (r ⊖ j ⊙ b)) (j *ℤ j) sum (N-nonneg (pos 2 ⊙ r ⊕ j ⊙ b)) (N-nonneg b) k h square
+
+-- the multiple of b nearest to r
+pub reachable-along : (b r : Vec) → Given 1 (b ∷ []) r → N r ≤ℤ pos 400000000 → Reachable b r (nth (nearest (b ∷ []) r) 0)
+reachable-along b r v h = record {
+  small = nearest-small v 0;
+  short = ≤ℤ-trans (≤ℤ-of-≡ (≈-N (≈-⊕ (≈-refl {u = r}) (≈-⊙ (negsuc 0) (alone (nearest (b ∷ []) r) (nearest-count (b ∷ []) r)))))) (≤ℤ-trans (nearest-shorter (b ∷ []) r) (v .target));
+}
+  where
+    alone : (x : List ℤ) → length x ≡ 1 → nth x 0 ⊙ b ≈ comb x (b ∷ [])
+    alone (q ∷ []) e = ≈-sym (≈-trans (comb-cons q [] b []) (record { on = λ w. simp (bilinear, comb-none [] .on w, nil-dot) (+ℤ-idr (q *ℤ dot b w)) }))
+    alone [] e = absurd (omega arith)
+    alone (q ∷ p ∷ x) e = absurd (omega arith)
+
+-- one vector that is not zero is reduced
+pub given-alone : (b r : Vec) → pos 0 <ℤ N b → N b ≤ℤ pos 400000000 → N r ≤ℤ pos 3600000000 → Given 1 (b ∷ []) r
+given-alone b r p h k = record {
+  few = omega arith;
+  count = refl;
+  reduced = (record { positive = p; longest = tt; shortest = λ z. ≤ℤ-of-≡ (≈-N (still z)) }, tt);
+  short = short;
+  target = k;
+}
+  where
+    still : (z : List ℤ) → b ≈ b ⊕ comb z []
+    still z = record { on = λ w. sym (simp (bilinear, comb-none z .on w, nil-dot) (+ℤ-idr (dot b w))) }
+
+    short : Short (pos 400000000) (b ∷ [])
+    short zero = h
+    short (suc i) = rw (nil-dot []) (nn-pos 400000000)
+
+-- ---- the best of the first k vectors, and what it leaves of u
+
+module _ (k : ℕ) (b : List Vec) (u : Vec) (v : Given k (take k b) u) where
+  pub taken : take k (padded 3 (nearest (take k b) u)) ≡ nearest (take k b) u
+  taken = take-padded k 3 (nearest (take k b) u) (nearest-count (take k b) u ∙ v .count) (v .few)
+
+  pub left-room : (i : ℕ) → natAbs (nth u i) + load (take k (padded 3 (nearest (take k b) u))) (take k b) i ≤ room
+  left-room i = rw taken (omega (arith, long u (v .target) i .within,
+      load-≤ 3 48000000000000 20000 (nearest (take k b) u) (take k b) (omega (arith, nearest-count (take k b) u, v .count, v .few)) (nearest-small v) (λ j. coordinates (getD (take k b) j []) (v .short j)) i))
+
+  pub rest-bounded : Bounded 100000 (u ⊖ comb (nearest (take k b) u) (take k b))
+  rest-bounded = long (u ⊖ comb (nearest (take k b) u) (take k b)) (≤ℤ-trans (nearest-shorter (take k b) u) (v .target))
+
+-- ---- four vectors in an array, as the functions meet them
+
+module _ (b : List Vec) (e : length b ≡ 4) {r : Vec} (n : Near 4 b r) where
+  pub layer-given : (j : ℤ) → Reachable (getD b 3 []) r j → Given 3 (take 3 b) (r ⊖ j ⊙ getD b 3 [])
+  layer-given j h = given 3 b (r ⊖ j ⊙ getD b 3 []) (omega arith) (omega arith) (three b e (r ⊖ j ⊙ getD b 3 []) n (h .short))
+
+  pub layer-room : (j : ℤ) → Reachable (getD b 3 []) r j → (i : ℕ) → natAbs (nth r i) + natAbs (j *ℤ nth (getD b 3 []) i) ≤ room
+  layer-room j h i = omega (arith, coordinates r (n .target) i .within, within-mul (h .small) (coordinates (getD b 3 []) (n .short 3 (omega arith)) i) .within)
+
+  pub near-layer : (j : ℤ) → natAbs j ≤ 2 → Reachable (getD b 3 []) r j
+  near-layer j = reachable-near (getD b 3 []) r j (n .short 3 (omega arith)) (n .target)
+
+  -- the last vector alone, in the first place
+  pub alone-is : take 1 (set b 0 (getD b 3 [])) ≡ getD b 3 [] ∷ []
+  alone-is = take-suc-set b 0 (getD b 3 []) (omega arith)
+
+  pub alone-given : Given 1 (getD b 3 [] ∷ []) r
+  alone-given = given-alone (getD b 3 []) r (reduced-last (take 3 b) (getD b 3 []) (subst Reduced (four-is b e) (n .reduced)) .0 .positive)
+      (n .short 3 (omega arith)) (≤ℤ-trans (n .target) (leZ-yes tt))
+
+  pub alone-searchable : Searchable 1 (set b 0 (getD b 3 [])) r
+  alone-searchable = record { reduced = subst Reduced (sym alone-is) (alone-given .reduced); short = short; target = alone-given .target }
+    where
+      short : (i : ℕ) → i < 1 → N (getD (set b 0 (getD b 3 [])) i []) ≤ℤ pos 400000000
+      short zero h = rw (getD-set-same b 0 (getD b 3 []) [] (omega arith)) (n .short 3 (omega arith))
+      short (suc i) h = absurd (omega arith)
+
+  pub along-reachable : (y : List ℤ) → y ≡ padded 3 (nearest (take 1 (set b 0 (getD b 3 []))) r) → Reachable (getD b 3 []) r (nth y 0)
+  along-reachable y p = subst (Reachable (getD b 3 []) r)
+      (sym (ap (λ l. nth l 0) p ∙ nth-padded 3 (nearest (take 1 (set b 0 (getD b 3 []))) r) (omega (arith, nearest-count (take 1 (set b 0 (getD b 3 []))) r, ap length alone-is)) 0
+      ∙ ap (λ vs. nth (nearest vs r) 0) alone-is))
+      (reachable-along (getD b 3 []) r alone-given (n .target))

@@ -13,6 +13,14 @@ ghost use Rattle.minima.specs.Digits.{Bounded, zeros};
 ghost use Rattle.search.specs.Numbers.{negative};
 ghost use Rattle.rows.specs.Minus.{room};
 ghost use Rattle.layers.specs.Near.{Near, Reachable};
+ghost use Rattle.layers.specs.Steps.{Solved, Decided};
+
+// A step: the coefficients to add, what they leave of the residual, and whether that has a smaller value.
+struct Step {
+    list: [i64; 4],
+    rest: [i64; 4],
+    better: bool,
+}
 
 // Is e below the list of zeros?
 fn negative(e: [i64; 4]) -> bool
@@ -56,4 +64,65 @@ fn left(b: [[i64; 4]; 4], k: usize, y: [i64; 3], s: [i64; 4]) -> [i64; 4]
     t[k] = s;
     let u = rows::minus_rows(t, k, y);
     u[k]
+}
+
+// The best of layer j, by the search among the first three vectors.
+fn layer(b: [[i64; 4]; 4], r: [i64; 4], j: i64) -> Step
+    requires { ⌜ Near 4 b r ⌝ }
+    requires { ⌜ Reachable (getD b 3 []) r j ⌝ }
+    ensures { λ s. ⌜ Solved (take 3 b) (getD b 3 []) r j s ⌝ }
+{
+    let u = rows::minus_multiple(r, j, b[3]);
+    let y = search::search(b, 3, u);
+    let rest = left(b, 3, y, u);
+    let list = [y[0], y[1], y[2], j];
+    Step {
+        list,
+        rest,
+        better: improves(r, list, rest),
+    }
+}
+
+// The multiple of the last vector nearest to r.
+fn along(b: [[i64; 4]; 4], r: [i64; 4]) -> i64
+    requires { ⌜ Near 4 b r ⌝ }
+    ensures { λ j. ⌜ Reachable (getD b 3 []) r j ⌝ }
+{
+    let mut a = b;
+    a[0] = b[3];
+    let q = search::search(a, 1, r);
+    q[0]
+}
+
+// The five layers next to r.
+const LAYERS: [i64; 5] = [0, 1, -1, 2, -2];
+
+// The first of them whose best has a smaller value.
+fn walk(b: [[i64; 4]; 4], r: [i64; 4]) -> Step
+    requires { ⌜ Near 4 b r ⌝ }
+    ensures { λ s. ⌜ Decided (take 3 b) (getD b 3 []) r s ⌝ }
+{
+    for i in 0..5 {
+        let s = layer(b, r, LAYERS[i]);
+        if s.better {
+            return s;
+        }
+    }
+    Step {
+        list: [0; 4],
+        rest: r,
+        better: false,
+    }
+}
+
+// A step to a smaller value. Where r is many layers away from the lattice, the nearest multiple of the last vector spares as many steps.
+fn next_step(b: [[i64; 4]; 4], r: [i64; 4]) -> Step
+    requires { ⌜ Near 4 b r ⌝ }
+    ensures { λ s. ⌜ Decided (take 3 b) (getD b 3 []) r s ⌝ }
+{
+    let s = layer(b, r, along(b, r));
+    if s.better {
+        return s;
+    }
+    walk(b, r)
 }
