@@ -36,6 +36,10 @@ pub record Near (d : ℕ) (b : List Vec) (t : Vec) : Type 0 where
 pub searchable : {d : ℕ} {b : List Vec} {t : Vec} → Near d b t → Searchable d b t
 searchable n = record { reduced = n .reduced; short = n .short; target = ≤ℤ-trans (n .target) (leZ-yes tt) }
 
+-- what is left of the target is no longer
+pub near-closer : {d : ℕ} {b : List Vec} {t r : Vec} → Near d b t → N r ≤ℤ N t → Near d b r
+near-closer n h = record { reduced = n .reduced; short = n .short; target = ≤ℤ-trans h (n .target) }
+
 -- the same of three vectors and the last one
 pub record Four (vs : List Vec) (b : Vec) : Type 0 where
   pub count : length vs ≡ 3
@@ -159,8 +163,11 @@ module _ (k : ℕ) (b : List Vec) (u : Vec) (v : Given k (take k b) u) where
   taken = take-padded k 3 (nearest (take k b) u) (nearest-count (take k b) u ∙ v .count) (v .few)
 
   pub left-room : (i : ℕ) → natAbs (nth u i) + load (take k (padded 3 (nearest (take k b) u))) (take k b) i ≤ room
-  left-room i = rw taken (omega (arith, long u (v .target) i .within,
-      load-≤ 3 48000000000000 20000 (nearest (take k b) u) (take k b) (omega (arith, nearest-count (take k b) u, v .count, v .few)) (nearest-small v) (λ j. coordinates (getD (take k b) j []) (v .short j)) i))
+  left-room i = rw taken (omega (
+    arith,
+    long u (v .target) i .within,
+    load-≤ 3 48000000000000 20000 (nearest (take k b) u) (take k b) (omega (arith, nearest-count (take k b) u, v .count, v .few)) (nearest-small v) (λ j. coordinates (getD (take k b) j []) (v .short j)) i,
+  ))
 
   pub rest-bounded : Bounded 100000 (u ⊖ comb (nearest (take k b) u) (take k b))
   rest-bounded = long (u ⊖ comb (nearest (take k b) u) (take k b)) (≤ℤ-trans (nearest-shorter (take k b) u) (v .target))
@@ -197,3 +204,7 @@ module _ (b : List Vec) (e : length b ≡ 4) {r : Vec} (n : Near 4 b r) where
       (sym (ap (λ l. nth l 0) p ∙ nth-padded 3 (nearest (take 1 (set b 0 (getD b 3 []))) r) (omega (arith, nearest-count (take 1 (set b 0 (getD b 3 []))) r, ap length alone-is)) 0
       ∙ ap (λ vs. nth (nearest vs r) 0) alone-is))
       (reachable-along (getD b 3 []) r alone-given (n .target))
+
+-- what the nearest vector leaves
+pub left-bounded : {d : ℕ} {b : List Vec} {v r : Vec} → Near d b v → r ≈ v ⊖ comb (nearest (take d b) v) (take d b) → Bounded 100000 r
+left-bounded {d} {b} {v} {r} n e = long r (≤ℤ-trans (≤ℤ-of-≡ (≈-N e)) (≤ℤ-trans (nearest-shorter (take d b) v) (searchable n .target)))

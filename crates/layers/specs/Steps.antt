@@ -99,8 +99,10 @@ module _ (vs : List Vec) (b r : Vec) (j : ℤ) (s : Step) (v : Given 3 vs (r ⊖
   -- what the list leaves
   remains : u ⊖ comb y vs ≈ r ⊖ comb (y ++ (j ∷ [])) (vs ++ (b ∷ []))
   unfolding u
-  remains = record { on = λ w. simp bilinear (sym (ap (λ n. dot r w +ℤ negsuc 0 *ℤ n) (comb-snoc y vs j b counted .on w)
-      ∙ simp bilinear (by-ring (dot r w ∷ dot (comb y vs) w ∷ dot b w ∷ j ∷ []) (search reads depth 20) (search reads depth 20) tt))) }
+  remains = record {
+    on = λ w. simp bilinear (sym (ap (λ n. dot r w +ℤ negsuc 0 *ℤ n) (comb-snoc y vs j b counted .on w)
+        ∙ simp bilinear (by-ring (dot r w ∷ dot (comb y vs) w ∷ dot b w ∷ j ∷ []) (search reads depth 20) (search reads depth 20) tt)));
+  }
 
   tested : negative (change r (vs ++ (b ∷ [])) (y ++ (j ∷ []))) ≡ s .better
   unfolding y u
@@ -172,3 +174,11 @@ listed [] y j e h = absurd (omega arith)
 listed (p ∷ []) y j e h = absurd (omega arith)
 listed (p ∷ q ∷ []) y j e h = absurd (omega arith)
 listed (p ∷ q ∷ s ∷ t ∷ x) y j e h = absurd (omega arith)
+
+-- the same of fewer than four vectors
+pub listed-few : (x y : List ℤ) → length x ≤ 3 → y ≡ padded 3 x → (nth y 0 ∷ nth y 1 ∷ nth y 2 ∷ pos 0 ∷ []) ≡ padded 4 x
+listed-few [] y e h = rw h
+listed-few (p ∷ []) y e h = rw h
+listed-few (p ∷ q ∷ []) y e h = rw h
+listed-few (p ∷ q ∷ s ∷ []) y e h = rw h
+listed-few (p ∷ q ∷ s ∷ t ∷ x) y e h = absurd (omega arith)

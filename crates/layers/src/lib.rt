@@ -7,6 +7,7 @@ ghost use lib.IntN.{pos, natAbs};
 ghost use lib.ListN.{getD, take};
 ghost use Rattle.integers.specs.Size.{Within, load};
 ghost use Rattle.lattices.specs.Vector.{nth, N, comb, _⊖_};
+ghost use Rattle.lattices.specs.VectorLaws.{_≈_};
 ghost use Rattle.lattices.specs.Nearest.{nearest, below};
 ghost use Rattle.lattices.specs.Answer.{padded};
 ghost use Rattle.minima.specs.Digits.{Bounded, zeros};
@@ -14,12 +15,19 @@ ghost use Rattle.search.specs.Numbers.{negative};
 ghost use Rattle.rows.specs.Minus.{room};
 ghost use Rattle.layers.specs.Near.{Near, Reachable};
 ghost use Rattle.layers.specs.Steps.{Solved, Decided};
+ghost use Rattle.layers.specs.Members.{isMember};
 
 // A step: the coefficients to add, what they leave of the residual, and whether that has a smaller value.
 struct Step {
     list: [i64; 4],
     rest: [i64; 4],
     better: bool,
+}
+
+// The nearest vector's coefficients, and what it leaves of the target.
+pub struct Found {
+    pub list: [i64; 4],
+    pub rest: [i64; 4],
 }
 
 // Is e below the list of zeros?
@@ -125,4 +133,62 @@ fn next_step(b: [[i64; 4]; 4], r: [i64; 4]) -> Step
         return s;
     }
     walk(b, r)
+}
+
+// The nearest of four: steps to a smaller value until there is none.
+fn closest_of_four(b: [[i64; 4]; 4], t: [i64; 4]) -> Found
+    requires { ⌜ Near 4 b t ⌝ }
+    ensures { λ c. ⌜ c .list ≡ nearest (take 4 b) t ⌝ }
+    ensures { λ c. ⌜ c .rest ≈ t ⊖ comb (nearest (take 4 b) t) (take 4 b) ⌝ }
+{
+    let mut x = [0; 4];
+    let mut r = t;
+    loop {
+        let s = next_step(b, r);
+        if !s.better {
+            break Found { list: x, rest: r };
+        }
+        let e = s.list;
+        let y = rows::minus_multiple(x, -1, e);
+        x = y;
+        r = s.rest;
+    }
+}
+
+// The nearest vector in the lattice of the first d vectors.
+pub fn closest(b: [[i64; 4]; 4], d: usize, t: [i64; 4]) -> Found
+    requires { ⌜ d ≤ 4 ⌝ }
+    requires { ⌜ Near d b t ⌝ }
+    ensures { λ c. ⌜ c .list ≡ padded 4 (nearest (take d b) t) ⌝ }
+    ensures { λ c. ⌜ c .rest ≈ t ⊖ comb (nearest (take d b) t) (take d b) ⌝ }
+{
+    if d == 4 {
+        return closest_of_four(b, t);
+    }
+    let y = search::search(b, d, t);
+    Found {
+        list: [y[0], y[1], y[2], 0],
+        rest: left(b, d, y, t),
+    }
+}
+
+// Its coefficients.
+pub fn nearest(b: [[i64; 4]; 4], d: usize, t: [i64; 4]) -> [i64; 4]
+    requires { ⌜ d ≤ 4 ⌝ }
+    requires { ⌜ Near d b t ⌝ }
+    ensures { λ r. ⌜ r ≡ padded 4 (nearest (take d b) t) ⌝ }
+{
+    let c = closest(b, d, t);
+    c.list
+}
+
+// Whether v is in the lattice of the first d vectors: the nearest vector leaves nothing of it.
+pub fn member(b: [[i64; 4]; 4], d: usize, v: [i64; 4]) -> bool
+    requires { ⌜ d ≤ 4 ⌝ }
+    requires { ⌜ Near d b v ⌝ }
+    ensures { λ r. ⌜ r ≡ isMember (take d b) v ⌝ }
+{
+    let c = closest(b, d, v);
+    let r = c.rest;
+    rows::dot(r, r) <= 0
 }
