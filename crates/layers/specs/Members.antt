@@ -1,18 +1,17 @@
 -- Membership: the nearest lattice vector leaves nothing of v exactly when v, but for trailing zeros, is a combination with whole coefficients.
-use mathlib.Core.Path.{_≡_, refl, sym, ap, _∙_, subst}
+use mathlib.Core.Path.{_≡_, sym, _∙_, subst}
 use mathlib.Core.Logic.{_⊎_, inl, inr}
-use mathlib.Core.Bool.{Bool, true, false, false≢true}
+use mathlib.Core.Bool.{Bool, true, false≢true}
 use mathlib.Core.List.{List, [], _∷_}
-use Prim.Native.Nat.{ℕ, zero, suc, _≤_}
-use native.Mathlib.Omega.{arith}
+use Prim.Native.Nat.{_≤_}
 use lib.IntN.{ℤ, pos, negsuc, _+ℤ_, _*ℤ_}
 use lib.ListN.{length}
 use lib.Signed.{leZ, _≤ℤ_, _<ℤ_}
 use Rattle.integers.specs.Identity.{by-ring, by-eq, reads}
-use Rattle.integers.specs.Order.{≤ℤ-or-<ℤ, ≤ℤ-of-≡, ≤ℤ-antisymm, leZ-true, ≤ℤ-leZ}
+use Rattle.integers.specs.Order.{≤ℤ-or-<ℤ, ≤ℤ-antisymm, leZ-true, ≤ℤ-leZ}
 use Rattle.integers.specs.Lex.{below-<}
 use Rattle.lattices.specs.Vector.{Vec, N, In, dot, comb, _⊙_, _⊖_, distance}
-use Rattle.lattices.specs.VectorLaws.{_≈_, ≈-sym, ≈-≡, ≈-of-≡, ≈-⊕, ≈-⊙, ≈-refl, ≈-N, bilinear, zero-dot, definite, nil-dot, N-nonneg}
+use Rattle.lattices.specs.VectorLaws.{_≈_, ≈-sym, ≈-≡, ≈-of-≡, ≈-⊕, ≈-refl, ≈-N, bilinear, zero-dot, definite, N-nonneg}
 use Rattle.lattices.specs.Nearest.{nearest}
 use Rattle.minima.specs.Reduced.{Reduced}
 use Rattle.minima.specs.NearestLaws.{nearest-least, nearest-count}

@@ -11,15 +11,15 @@ use lib.Signed.{_≤ℤ_, _<ℤ_, leZ-yes, ltZ-yes}
 use Rattle.integers.specs.Identity.{by-ring, reads}
 use Rattle.integers.specs.Order.{≤ℤ-trans, ≤ℤ-of-≡}
 use Rattle.integers.specs.Certificate.{NN, _⊞_, _⊠_, le, eq, nn-pos, nn-cancel, nn-ring, by-nn, le-of-nn}
-use Rattle.integers.specs.Size.{Within, within-le, within-mul, within-upper, root, root-within, load}
+use Rattle.integers.specs.Size.{Within, within-mul, within-upper, root, root-within, load}
 use Rattle.lattices.specs.Vector.{Vec, N, nth, dot, comb, _⊕_, _⊙_, _⊖_}
 use Rattle.lattices.specs.VectorLaws.{_≈_, ≈-refl, ≈-sym, ≈-trans, ≈-⊕, ≈-⊙, ≈-N, bilinear, dot-comm, nil-dot, N-nonneg, square-≤, comb-cons, comb-none}
 use Rattle.lattices.specs.Nearest.{nearest}
 use Rattle.lattices.specs.Answer.{padded}
 use Rattle.lattices.specs.AnswerLaws.{nth-padded, take-padded}
 use Rattle.volumes.specs.Cramer.{sizes}
-use Rattle.volumes.specs.Sizes.{Short, power, product-put-≤, near-le}
-use Rattle.minima.specs.Reduced.{Top, Reduced}
+use Rattle.volumes.specs.Sizes.{Short, product-put-≤, near-le}
+use Rattle.minima.specs.Reduced.{Reduced}
 use Rattle.minima.specs.ReducedLaws.{reduced-last}
 use Rattle.minima.specs.NearestLaws.{nearest-count, nearest-shorter}
 use Rattle.minima.specs.Digits.{Bounded}

@@ -1,14 +1,13 @@
 -- The walk through the layers: coefficients x so far, and the residual r that they leave of the target. It starts at 0, a step to a smaller
 -- value leads to the next state and lowers a measure, and where none of the five layers has one, x is the nearest.
-use mathlib.Core.Path.{_≡_, refl, sym, ap, ap₂, _∙_, subst}
+use mathlib.Core.Path.{_≡_, refl, sym, ap, _∙_, subst}
 use mathlib.Core.Logic.{_⊎_, inl, inr}
-use mathlib.Core.Bool.{true, false}
 use mathlib.Core.List.{List, [], _∷_, _++_}
 use Prim.Native.Nat.{ℕ, zero, suc, _+_, _≤_, _<_}
 use native.Mathlib.Omega.{arith}
 use native.Mathlib.Decide.{decLt}
 use lib.Dec.{T, ltb→lt}
-use lib.IntN.{ℤ, pos, negsuc, negℤ, natAbs, _+ℤ_, _-ℤ_, _*ℤ_}
+use lib.IntN.{ℤ, pos, negsuc, negℤ, natAbs, _+ℤ_, _*ℤ_}
 use lib.ListN.{length, getD, take, replicate, length-append, List·getD-eq-default}
 use lib.Signed.{_≤ℤ_, _<ℤ_, ≤ℤ-refl}
 use Rattle.integers.specs.Identity.{by-ring, reads}
@@ -21,9 +20,8 @@ use Rattle.lattices.specs.Vector.{Vec, N, nth, comb, _⊕_, _⊙_, _⊖_}
 use Rattle.lattices.specs.VectorLaws.{_≈_, ≈-refl, ≈-sym, ≈-trans, ≈-N, ≈-⊕, comb-zero, ⊖-zero, N-nonneg}
 use Rattle.lattices.specs.Nearest.{nearest}
 use Rattle.volumes.specs.Sizes.{coefficient-≤, near-le}
-use Rattle.minima.specs.Values.{Least, gain, change}
+use Rattle.minima.specs.Values.{gain, change}
 use Rattle.minima.specs.ValueLaws.{gain-is, residual-⊕, least-of}
-use Rattle.minima.specs.Reduced.{Top}
 use Rattle.minima.specs.ReducedLaws.{reduced-last}
 use Rattle.minima.specs.Digits.{Bounded, zeros, power, number, falls}
 use Rattle.minima.specs.Layers.{Layer, layers}

@@ -1,7 +1,7 @@
 -- What a layer's best list and its residual are, and what they say of the value: a step to a smaller one, or that no list of the layer has one.
-use mathlib.Core.Path.{_≡_, refl, sym, ap, ap₂, _∙_, subst}
+use mathlib.Core.Path.{_≡_, sym, ap, ap₂, _∙_, subst}
 use mathlib.Core.Logic.{_⊎_, inl, inr}
-use mathlib.Core.Bool.{Bool, true, false}
+use mathlib.Core.Bool.{true, false}
 use mathlib.Core.List.{List, [], _∷_, _++_}
 use Prim.Native.Nat.{ℕ, zero, suc, _≤_, _<_}
 use native.Mathlib.Omega.{arith}
@@ -15,20 +15,18 @@ use Rattle.integers.specs.Certificate.{le, lt, by-nn, by-lt}
 use Rattle.integers.specs.Size.{Within}
 use Rattle.integers.specs.Lex.{below, Nonneg}
 use Rattle.lattices.specs.Vector.{Vec, N, nth, dot, comb, _⊙_, _⊖_}
-use Rattle.lattices.specs.VectorLaws.{_≈_, ≈-refl, ≈-sym, ≈-trans, ≈-of-≡, ≈-dot, ≈-N, bilinear, comb-snoc}
+use Rattle.lattices.specs.VectorLaws.{_≈_, ≈-refl, ≈-trans, ≈-of-≡, ≈-dot, ≈-N, bilinear, comb-snoc}
 use Rattle.lattices.specs.Nearest.{nearest}
 use Rattle.lattices.specs.Answer.{padded}
 use Rattle.minima.specs.Values.{gain, change}
 use Rattle.minima.specs.ValueLaws.{gain-is, least-is}
-use Rattle.minima.specs.Reduced.{Reduced}
-use Rattle.minima.specs.ReducedLaws.{reduced-last}
 use Rattle.minima.specs.NearestLaws.{nearest-least, nearest-count}
 use Rattle.minima.specs.Digits.{Bounded, zeros, not-below-nonneg}
 use Rattle.minima.specs.Layers.{Layer, layer-by-search}
 use Rattle.search.specs.Numbers.{negative}
 use Rattle.search.specs.Searchable.{Given}
 use Rattle.layers.specs.declared.Step.{Step}
-use Rattle.layers.specs.Near.{Four, Reachable, nearest-small}
+use Rattle.layers.specs.Near.{nearest-small}
 
 -- the best of layer j, and the test of its value
 pub record Solved (vs : List Vec) (b r : Vec) (j : ℤ) (s : Step) : Type 0 where

@@ -2,10 +2,10 @@
 // one for each multiple of the last vector, and the search finds the best of a layer.
 ghost use mathlib.Core.Path.{_≡_};
 ghost use mathlib.Core.List.{[], _∷_};
-ghost use Prim.Native.Nat.{ℕ, _+_, _≤_, _<_};
-ghost use lib.IntN.{pos, natAbs};
+ghost use Prim.Native.Nat.{ℕ, _+_, _≤_};
+ghost use lib.IntN.{natAbs};
 ghost use lib.ListN.{getD, take};
-ghost use Rattle.integers.specs.Size.{Within, load};
+ghost use Rattle.integers.specs.Size.{load};
 ghost use Rattle.lattices.specs.Vector.{nth, N, comb, _⊖_};
 ghost use Rattle.lattices.specs.VectorLaws.{_≈_};
 ghost use Rattle.lattices.specs.Nearest.{nearest, below};

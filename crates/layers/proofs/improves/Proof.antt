@@ -1,13 +1,12 @@
 -- `improves` compares from the first number on: the squared lengths, then the step with zeros.
 use borrow.Author.Needs.{needs}
-use mathlib.Core.Path.{_≡_, sym, ap₂, _∙_, subst₂}
-use lib.Signed.{_<ℤ_, _≤ℤ_}
+use mathlib.Core.Path.{sym, _∙_, subst₂}
+use lib.Signed.{_<ℤ_}
 use mir.Syntax.{w64}
 use mir.Val.{SFits}
 use mir.Facts.{toZ-ofZ}
 use Rattle.integers.specs.Order.{ltZ-true, ltZ-false, ≤ℤ-antisymm}
 use Rattle.integers.specs.Lex.{below-<, below->, below-≡}
-use Rattle.lattices.specs.Vector.{N}
 use Rattle.minima.specs.Digits.{zeros}
 use Rattle.layers.proofs.improves.Statement.{statement}
 use Rattle.layers.proofs.improves.Tie as tie

@@ -1,6 +1,5 @@
 -- `next_step` gives the best of the nearest multiple's layer if that improves, and else what the walk finds.
 use mathlib.Core.Path.{_≡_}
-use mathlib.Core.List.{[]}
 use borrow.Author.Needs.{needs}
 use lib.ListN.{length}
 use mir.Syntax.{w64}

@@ -1,11 +1,10 @@
 -- `walk` passes layers that do not improve until one does.
-use mathlib.Core.Path.{_≡_, sym, _∙_}
+use mathlib.Core.Path.{_≡_}
 use mathlib.Core.List.{[]}
 use Prim.Native.Nat.{ℕ, _≤_, _<_, _-_}
 use native.Mathlib.Omega.{arith}
 use borrow.Author.Needs.{needs}
 use borrow.Author.Count.{below-more}
-use lib.IntN.{ℤ}
 use lib.ListN.{length, getD, take}
 use mir.Syntax.{w64}
 use mir.Val.{SFits}
