@@ -123,7 +123,7 @@ fn walk(b: [[i64; 4]; 4], r: [i64; 4]) -> Step
     }
 }
 
-// A step to a smaller value. Where r is many layers away from the lattice, the nearest multiple of the last vector spares as many steps.
+// A step to a smaller value. The nearest vector may be many layers away: the nearest multiple of the last vector leads there in few steps.
 fn next_step(b: [[i64; 4]; 4], r: [i64; 4]) -> Step
     requires { ⌜ Near 4 b r ⌝ }
     ensures { λ s. ⌜ Decided (take 3 b) (getD b 3 []) r s ⌝ }
