@@ -3,7 +3,7 @@ use mathlib.Core.Path.{_≡_, refl, sym, ap, _∙_}
 use mathlib.Core.Bool.{true, false}
 use mathlib.Core.List.{List, [], _∷_}
 use Prim.Native.Nat.{ℕ}
-use Rattle.lattices.specs.Refusal.{Input, Check, firstOf, vectorChecks}
+use Rattle.lattices.specs.Refusal.{Input, Check, firstOf}
 
 pub data First (i : Input) : List Check → ℕ → Type 0 where
   none : First i [] 0
@@ -15,5 +15,5 @@ first-of none = refl
 first-of {i} (here {k} {ks} e) = ap (λ t. elim t [ true ↦ k .number | false ↦ firstOf ks i ]) e
 first-of {i} (later {k} {ks} e p) = ap (λ t. elim t [ true ↦ k .number | false ↦ firstOf ks i ]) e ∙ first-of p
 
-pub found : (i : Input) {n : ℕ} → First i vectorChecks n → n ≡ firstOf vectorChecks i
-found i p = sym (first-of p)
+pub found : (i : Input) (ks : List Check) {n : ℕ} → First i ks n → n ≡ firstOf ks i
+found i ks p = sym (first-of p)

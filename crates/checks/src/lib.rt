@@ -8,7 +8,7 @@ ghost use lib.Signed.{_≤ℤ_};
 ghost use Rattle.integers.specs.Size.{Within};
 ghost use Rattle.lattices.specs.Vector.{N, nth};
 ghost use Rattle.lattices.specs.Volume.{isDependent};
-ghost use Rattle.lattices.specs.Refusal.{vectorsOf, any, tooLong, oneTo, firstOf, vectorChecks};
+ghost use Rattle.lattices.specs.Refusal.{vectorsOf, any, tooLong, oneTo, firstOf, vectorChecks, targetChecks};
 ghost use Rattle.lattices.specs.Answer.{padded, table};
 ghost use Rattle.checks.specs.Any.{beyond};
 ghost use Rattle.checks.specs.Minors.{wedged};
@@ -186,6 +186,20 @@ pub fn refusal(numbers: &[i64], d: usize, m: usize) -> u64
     }
     if dependent(b, d) {
         return 5;
+    }
+    0
+}
+
+// The first refusal that applies to a target of vectors of m coordinates, and 0 for none.
+pub fn target_refusal(target: &[i64], m: usize) -> u64
+    requires { ⌜ m ≤ 4 ⌝ }
+    ensures { λ r. ⌜ r ≡ firstOf targetChecks (record { numbers = []; d = 0; m = m; target = now (target .entry) }) ⌝ }
+{
+    if target.len() != m {
+        return 6;
+    }
+    if long(vector(target, 0, m)) {
+        return 7;
     }
     0
 }

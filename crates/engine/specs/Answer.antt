@@ -57,7 +57,7 @@ begun i = record {
   passes = 0;
 }
 
-vectors-back : (l : List (List ℤ)) → map (λ r. r .at) (map vectorRow l) ≡ l
+pub vectors-back : (l : List (List ℤ)) → map (λ r. r .at) (map vectorRow l) ≡ l
 vectors-back [] = refl
 vectors-back (x ∷ l) = ap (λ t. x ∷ t) (vectors-back l)
 

@@ -1,5 +1,5 @@
 -- The rows with which the engine ends, as the definition's answer: the padded reduction, V written out by rows, squared lengths.
-use mathlib.Core.Path.{_≡_, refl, sym, ap, ap₂, _∙_}
+use mathlib.Core.Path.{_≡_, refl, sym, ap, ap₂, _∙_, subst}
 use mathlib.Core.List.{List, [], _∷_, _++_, map}
 use Prim.Native.Nat.{ℕ, zero, suc, _+_, _≤_}
 use native.Mathlib.Omega.{arith}
@@ -18,9 +18,11 @@ use Rattle.reductions.specs.Start.{Sized, sized-start, length-units}
 use Rattle.reductions.specs.Exactness.{reduction-length, reduction-sized}
 use Rattle.reductions.specs.Padding.{pad, pad-counted, greedy-padded, padded-N}
 use Rattle.reductions.specs.Accepted.{Accepted, accepted}
+use Rattle.minima.specs.Reduced.{Reduced}
 use Rattle.rows.specs.Rows.{transposed}
 use Rattle.engine.specs.State.{greedyRows, greedyPasses}
-use Rattle.engine.specs.Begin.{table-is, zeroRow, length-start, first, first-is, unused, four-rows, bs-count, wide-count, ins-count}
+use Rattle.engine.specs.Fine.{fine-reduced}
+use Rattle.engine.specs.Begin.{table-is, zeroRow, length-start, first, first-is, first-fine, unused, four-rows, bs-count, wide-count, ins-count}
 
 -- padded rows begin as the padded start
 pad-start : (m d : ℕ) (a : m ≤ 4) (b : d ≤ 4) (bs : List Vec) (es : List (List ℤ)) → map (pad 4 4 m d a b) (start bs es) ≡ start (map (padded 4) bs) (map (padded 4) es)
@@ -96,6 +98,15 @@ module _ (i : Input) (e : firstOf vectorChecks i ≡ 0) where
   pub last-passes : greedyPasses (i .d) (first i e) ≡ reduction (basis i) .passes
   unfolding pad-counted
   last-passes = ap (λ c. c .passes) greedy-first
+
+  -- the vectors given are reduced, padded as they are in the work
+  pub last-reduced : Reduced (map (padded 4) (vectors R))
+  unfolding pad-counted pad
+  last-reduced = subst Reduced (ap (λ c. vectors (c .rows)) greedy-first ∙ padded-vectors R) (fine-reduced (accept .most) (first-fine i e))
+    where
+      padded-vectors : (l : List Row) → vectors (map widen l) ≡ map (padded 4) (vectors l)
+      padded-vectors [] = refl
+      padded-vectors (r ∷ l) = ap (λ t. padded 4 (r .vector) ∷ t) (padded-vectors l)
 
   n : ℕ
   n = unused i e

@@ -8,6 +8,7 @@ pub mod Begin
 pub mod Finish
 pub mod Few
 pub mod Answer
+pub mod Named
 pub mod Tables
 pub mod Whole
 pub mod Repeat

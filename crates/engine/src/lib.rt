@@ -9,7 +9,9 @@ ghost use Rattle.engine.specs.State.{rowsIn, blank, greedyPasses, ordere
 ghost use Rattle.engine.specs.Fine.{Fine};
 ghost use Rattle.engine.specs.Room.{Ready};
 ghost use Rattle.engine.specs.Answer.{packed, finished};
-ghost use Rattle.lattices.specs.Answer.{noReduction, reductionOf};
+ghost use Rattle.minima.specs.Digits.{Bounded};
+ghost use Rattle.lattices.specs.Answer.{noReduction, reductionOf, noNearest, nearestOf};
+ghost use Rattle.engine.specs.Named.{packedNearest, named};
 
 // Steps 4 and 5 for row k, the rows before it being reduced: the vector nearest to it in their lattice is subtracted from it.
 fn pass(w: rows::Work, k: usize) -> rows::Work
@@ -147,4 +149,63 @@ pub fn reduce(numbers: &[i64], d: usize, m: usize) -> Reduction
         passes: 0,
     };
     finished(reduce_first(w, d))
+}
+
+// The answer of a search for the nearest vector: the vector, its coefficients on the reduced basis, its squared distance from the target.
+// Where the refusal is not 0, all else is 0; unused places hold 0.
+pub struct NearestVector {
+    pub refusal: u64,
+    pub place: u64,
+    pub vector: [i64; 4],
+    pub coefficients: [i64; 4],
+    pub square: i64,
+}
+
+// A refusal: its number, and zeros.
+fn refused_nearest(n: u64) -> NearestVector
+    ensures { λ r. ⌜ r ≡ packedNearest (noNearest n) ⌝ }
+{
+    NearestVector {
+        refusal: n,
+        place: 0,
+        vector: [0; 4],
+        coefficients: [0; 4],
+        square: 0,
+    }
+}
+
+// The answer from the coefficients and what the nearest vector leaves of the target t.
+fn named(t: [i64; 4], x: [i64; 4], rest: [i64; 4]) -> NearestVector
+    requires { ⌜ Bounded 20000 t ⌝ }
+    requires { ⌜ Bounded 100000 rest ⌝ }
+    ensures { λ r. ⌜ r ≡ named t x rest ⌝ }
+{
+    NearestVector {
+        refusal: 0,
+        place: 0,
+        vector: rows::minus_multiple(t, 1, rest),
+        coefficients: x,
+        square: rows::dot(rest, rest),
+    }
+}
+
+// Nearest: d vectors of m coordinates each, vector by vector, and a target of m coordinates. The basis is reduced first.
+pub fn nearest(numbers: &[i64], d: usize, m: usize, target: &[i64]) -> NearestVector
+    ensures { λ r. ⌜ r ≡ packedNearest (nearestOf (record { numbers = now (numbers .entry); d = d; m = m; target = now (target .entry) })) ⌝ }
+{
+    let r = reduce(numbers, d, m);
+    if r.refusal != 0 {
+        return refused_nearest(r.refusal);
+    }
+    let n = checks::target_refusal(target, m);
+    if n != 0 {
+        return refused_nearest(n);
+    }
+    let vectors = r.vectors;
+    let b = rows::vectors_of(vectors);
+    let t = checks::vector(target, 0, m);
+    let c = layers::closest(b, d, t);
+    let x = c.list;
+    let rest = c.rest;
+    named(t, x, rest)
 }

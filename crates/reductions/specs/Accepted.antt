@@ -12,7 +12,7 @@ use lib.ListN.{length, drop, length-take, length-drop}
 use Rattle.integers.specs.Order.{ltZ-false, leZ-false}
 use Rattle.lattices.specs.Vector.{Vec, N}
 use Rattle.lattices.specs.Volume.{squaredVolume, isDependent}
-use Rattle.lattices.specs.Refusal.{Input, vectorsOf, basis, oneTo, any, tooLong, Check, firstOf, vectorChecks, mostVectors, mostCoordinates, mostSquare, mostSize}
+use Rattle.lattices.specs.Refusal.{Input, vectorsOf, basis, oneTo, any, tooLong, Check, firstOf, vectorChecks, targetChecks, mostVectors, mostCoordinates, mostSquare, mostSize}
 use Rattle.integers.specs.All.{All}
 use Rattle.reductions.specs.Start.{Coordinates}
 
@@ -95,3 +95,13 @@ accepted i e =
       limit = all-short (basis i) (p .1 .1 .1 .0);
       volume = leZ-false (p .1 .1 .1 .1 .0);
     }
+
+-- what an accepted target is
+pub record Targeted (i : Input) : Type 0 where
+  pub count : length (i .target) ≡ i .m
+  pub limit : Short (i .target)
+
+pub targeted : (i : Input) → firstOf targetChecks i ≡ 0 → Targeted i
+targeted i e =
+    let p = passed targetChecks i (omega arith) e in
+    record { count = eqb→eq (length (i .target)) (i .m) (true-T (not-false (eqb (length (i .target)) (i .m)) (p .0))); limit = short (i .target) (p .1 .0) }

@@ -199,6 +199,25 @@ first-append (c ∷ cs) ds i h e = go (c .condition i) e (λ f. first-append cs 
     go true e f = e
     go false e f = f e
 
+-- a refusal of the first checks stands, and where there is none the later ones decide
+pub first-refused : (cs ds : List Check) (i : Input) → firstOf cs i ≢ 0 → firstOf (cs ++ ds) i ≡ firstOf cs i
+first-refused [] ds i h = absurd (h refl)
+first-refused (c ∷ cs) ds i h = go (c .condition i) h (λ f. first-refused cs ds i f)
+  where
+    go : (b : Bool) → _≢_ {A = ℕ} (elim b [ true ↦ c .number | false ↦ firstOf cs i ]) 0 → (firstOf cs i ≢ 0 → firstOf (cs ++ ds) i ≡ firstOf cs i)
+        → _≡_ {A = ℕ} (elim b [ true ↦ c .number | false ↦ firstOf (cs ++ ds) i ]) (elim b [ true ↦ c .number | false ↦ firstOf cs i ])
+    go true h f = refl
+    go false h f = f h
+
+pub first-passed : (cs ds : List Check) (i : Input) → All (λ c. c .number ≢ 0) cs → firstOf cs i ≡ 0 → firstOf (cs ++ ds) i ≡ firstOf ds i
+first-passed [] ds i h e = refl
+first-passed (c ∷ cs) ds i h e = go (c .condition i) e (λ f. first-passed cs ds i (h .1) f)
+  where
+    go : (b : Bool) → _≡_ {A = ℕ} (elim b [ true ↦ c .number | false ↦ firstOf cs i ]) 0 → (firstOf cs i ≡ 0 → firstOf (cs ++ ds) i ≡ firstOf ds i)
+        → _≡_ {A = ℕ} (elim b [ true ↦ c .number | false ↦ firstOf (cs ++ ds) i ]) (firstOf ds i)
+    go true e f = absurd (h .0 e)
+    go false e f = f e
+
 pub accepted-nearest : (i : Input) → firstOf (vectorChecks ++ targetChecks) i ≡ 0 → nearestOf i ≡ nearestGiven (vectors (reduction (basis i) .rows)) (i .target)
 unfolding nearestOf
 accepted-nearest i e =

@@ -44,7 +44,7 @@ pub padded-coordinates : (n : ℕ) (bs : List Vec) → Coordinates n (map (padde
 padded-coordinates n [] = tt
 padded-coordinates n (b ∷ bs) = (length-padded n b, padded-coordinates n bs)
 
-comb-padded : (n m : ℕ) → m ≤ n → (x : List ℤ) (bs : List Vec) → Coordinates m bs → comb x (map (padded n) bs) ≈ comb x bs
+pub comb-padded : (n m : ℕ) → m ≤ n → (x : List ℤ) (bs : List Vec) → Coordinates m bs → comb x (map (padded n) bs) ≈ comb x bs
 unfolding comb
 comb-padded n m k [] bs c = ≈-refl
 comb-padded n m k (x ∷ xs) [] c = ≈-refl
@@ -53,7 +53,7 @@ comb-padded n m k (x ∷ xs) (b ∷ bs) c = both (≈-⊙ x (padded-≈ n b (ome
     both : {u v y z : Vec} → u ≈ v → y ≈ z → (u ⊕ y) ≈ (v ⊕ z)
     both e f = ≈-⊕ e f
 
-padded-minus : (n m : ℕ) → m ≤ n → (a : Vec) → length a ≤ n → (x : List ℤ) (bs : List Vec) → Coordinates m bs → padded n (a ⊖ comb x bs) ≡ padded n a ⊖ comb x (map (padded n) bs)
+pub padded-minus : (n m : ℕ) → m ≤ n → (a : Vec) → length a ≤ n → (x : List ℤ) (bs : List Vec) → Coordinates m bs → padded n (a ⊖ comb x bs) ≡ padded n a ⊖ comb x (map (padded n) bs)
 padded-minus n m k a h x bs c = ≈-≡ (padded n (a ⊖ comb x bs)) (padded n a ⊖ comb x (map (padded n) bs))
     (length-padded n (a ⊖ comb x bs) ∙ sym (length-⊕ (padded n a) (negsuc 0 ⊙ comb x (map (padded n) bs))
     ∙ omega (arith, length-padded n a, length-⊙ (negsuc 0) (comb x (map (padded n) bs)), comb-places n x (map (padded n) bs) (padded-coordinates n bs))))
@@ -87,7 +87,7 @@ reverse-coordinates : (m : ℕ) (bs cs : List Vec) → Coordinates m bs → Coor
 reverse-coordinates m [] cs h k = k
 reverse-coordinates m (b ∷ bs) cs h k = reverse-coordinates m bs (b ∷ cs) (h .1) (h .0, k)
 
-nearest-padded : (n m : ℕ) → m ≤ n → (bs : List Vec) → Coordinates m bs → (t : Vec) → length t ≡ m → nearest (map (padded n) bs) (padded n t) ≡ nearest bs t
+pub nearest-padded : (n m : ℕ) → m ≤ n → (bs : List Vec) → Coordinates m bs → (t : Vec) → length t ≡ m → nearest (map (padded n) bs) (padded n t) ≡ nearest bs t
 unfolding nearest
 nearest-padded n m k bs c t e =
     ap tail (ap (λ l. least l (padded n t)) (reverse-map (padded n) bs []) ∙ least-padded n m k (reverse bs) (reverse-coordinates m bs [] c tt) t e)

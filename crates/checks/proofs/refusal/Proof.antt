@@ -50,7 +50,7 @@ one-to-requires : tie.Need-one-to-requires
 one-to-requires c κs = search needs
 
 returns : tie.Need-returns
-returns c = found (given (c .before .before)) (here (ap not (sym (c .before .one-to .ensures)) ∙ c .if1 .taken))
+returns c = found (given (c .before .before)) vectorChecks (here (ap not (sym (c .before .one-to .ensures)) ∙ c .if1 .taken))
 
 one-to-requires-2 : tie.Need-one-to-requires-2
 one-to-requires-2 c κs = search needs
@@ -58,7 +58,7 @@ one-to-requires-2 c κs = search needs
 returns-2 : tie.Need-returns-2
 returns-2 c =
     let e = c .before .before in
-    found (given (e .before .before)) (later (counted e) (here (ap not (sym (c .before .one-to2 .ensures)) ∙ c .if2 .taken)))
+    found (given (e .before .before)) vectorChecks (later (counted e) (here (ap not (sym (c .before .one-to2 .ensures)) ∙ c .if2 .taken)))
 
 mul-if3 : tie.Need-mul-if3
 mul-if3 c = omega (arith, mul-le-mul (few c) (narrow c))
@@ -66,7 +66,7 @@ mul-if3 c = omega (arith, mul-le-mul (few c) (narrow c))
 returns-3 : tie.Need-returns-3
 returns-3 c =
     let e = c .before .before .before in
-    found (given (e .before .before)) (later (counted e) (later (wide (c .before)) (here (ap not (ne-eqb _ _ (c .if3 .taken))))))
+    found (given (e .before .before)) vectorChecks (later (counted e) (later (wide (c .before)) (here (ap not (ne-eqb _ _ (c .if3 .taken))))))
 
 basis-requires : tie.Need-basis-requires
 basis-requires c κs = (few (c .before), (narrow (c .before), c .if3 .left))
@@ -77,7 +77,7 @@ any-long-requires c κs = few (c .before .before)
 returns-4 : tie.Need-returns-4
 returns-4 c =
     let f = c .before .before .before in
-    found (given (f .before .before .before .before .before)) (full f (here (long (c .before) ∙ c .if4 .taken)))
+    found (given (f .before .before .before .before .before)) vectorChecks (full f (here (long (c .before) ∙ c .if4 .taken)))
 
 dependent-requires : tie.Need-dependent-requires
 dependent-requires c κs = (few (c .before .before .before .before), short _ _ (sym (c .before .any-long .ensures) ∙ c .if4 .left))
@@ -86,13 +86,13 @@ returns-5 : tie.Need-returns-5
 returns-5 c =
     let l = c .before .before in
     let f = l .before .before .before in
-    found (given (f .before .before .before .before .before)) (full f (later (long (l .before) ∙ l .if4 .left) (here (dependence (c .before) ∙ c .if5 .taken))))
+    found (given (f .before .before .before .before .before)) vectorChecks (full f (later (long (l .before) ∙ l .if4 .left) (here (dependence (c .before) ∙ c .if5 .taken))))
 
 returns-6 : tie.Need-returns-6
 returns-6 c =
     let l = c .before .before in
     let f = l .before .before .before in
-    found (given (f .before .before .before .before .before)) (full f (later (long (l .before) ∙ l .if4 .left) (later (dependence (c .before) ∙ c .if5 .left) none)))
+    found (given (f .before .before .before .before .before)) vectorChecks (full f (later (long (l .before) ∙ l .if4 .left) (later (dependence (c .before) ∙ c .if5 .left) none)))
 
 pub refusal-spec : {M : Type 1} → statement M
 refusal-spec =
