@@ -136,9 +136,9 @@ fn finished(w: rows::Work) -> Reduction
 pub fn reduce(numbers: &[i64], d: usize, m: usize) -> Reduction
     ensures { λ r. ⌜ r ≡ packed (reductionOf (record { numbers = now (numbers .entry); d = d; m = m; target = [] })) ⌝ }
 {
-    let n = checks::refusal(numbers, d, m);
-    if n != 0 {
-        return refused(n);
+    let number = checks::refusal(numbers, d, m);
+    if number != 0 {
+        return refused(number);
     }
     let b = checks::basis(numbers, d, m);
     let e = rows::unit_table(d);
