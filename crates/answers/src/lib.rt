@@ -1,0 +1,51 @@
+// Answers written to standard output, one space between fields and a newline after every line. What is written, no contract can
+// say: the answers themselves are under contract in the engine.
+use libc::STDOUT_FILENO;
+
+// Writes `refused`, the refusal's number and its place.
+pub fn refused(number: u64, place: u64) {
+    io::write_all(STDOUT_FILENO, b"refused ");
+    printing::number(number);
+    io::write_all(STDOUT_FILENO, b" ");
+    printing::number(place);
+    printing::newline();
+}
+
+// Writes a line: its name and the first n numbers of r.
+fn line(name: &[u8], r: [i64; 4], n: usize) {
+    io::write_all(STDOUT_FILENO, name);
+    printing::row(r, n);
+    printing::newline();
+}
+
+// Writes a line for each of the first d rows of t, of n numbers each.
+fn lines(name: &[u8], t: [[i64; 4]; 4], d: usize, n: usize) {
+    for i in 0..4 {
+        if i < d {
+            line(name, t[i], n);
+        }
+    }
+}
+
+// Writes `reduced`, the passes and the squared lengths, then the reduced vectors, U and V, a line for each row.
+fn reduced(a: engine::Reduction, d: usize, m: usize) {
+    io::write_all(STDOUT_FILENO, b"reduced ");
+    printing::number(a.passes);
+    let squares = a.squares;
+    line(b"", squares, d);
+    let vectors = a.vectors;
+    lines(b"v", rows::vectors_of(vectors), d, m);
+    let u = a.u;
+    lines(b"U", rows::tables_of(u), d, d);
+    let v = a.v;
+    lines(b"V", rows::tables_of(v), d, d);
+}
+
+// Writes the answer to a reduction of d vectors of m coordinates.
+pub fn reduction(a: engine::Reduction, d: usize, m: usize) {
+    if a.refusal != 0 {
+        refused(a.refusal, a.place);
+        return;
+    }
+    reduced(a, d, m);
+}

@@ -1,0 +1,53 @@
+// The known results of document 01 on the compiled engine, with the limits of length and the refusals of the vectors.
+use libc::STDOUT_FILENO;
+
+// Writes the name of an input, then the answer to its reduction.
+fn reduced(name: &[u8], numbers: &[i64], d: usize, m: usize) {
+    io::write_all(STDOUT_FILENO, name);
+    printing::newline();
+    answers::reduction(engine::reduce(numbers, d, m), d, m);
+}
+
+// P1 to P8: what reduction gives.
+fn reductions() {
+    reduced(b"P1", &[-3], 1, 1);
+    reduced(b"P2", &[1, 0, 4, 1], 2, 2);
+    reduced(b"P3", &[2, 0, 1, 3], 2, 2);
+    reduced(b"P4", &[2, 0, -1, 3], 2, 2);
+    reduced(b"P5", &[5, 8, 8, 13], 2, 2);
+    reduced(
+        b"P6",
+        &[2, 0, 0, 0, 0, 2, 0, 0, 0, 0, 2, 0, 1, 1, 1, 1],
+        4,
+        4,
+    );
+    reduced(b"P7", &[0], 1, 1);
+    reduced(b"P8", &[1, 2, 2, 4], 2, 2);
+}
+
+// The limit of length, on both sides of it.
+fn lengths() {
+    reduced(b"(20000)", &[20000], 1, 1);
+    reduced(b"(20001)", &[20001], 1, 1);
+    reduced(b"(20000,1)", &[20000, 1], 1, 2);
+    reduced(
+        b"(10000,10000,10000,10000)",
+        &[10000, 10000, 10000, 10000],
+        1,
+        4,
+    );
+    reduced(b"the least number", &[i64::MIN], 1, 1);
+}
+
+// Counts that no list of vectors has.
+fn counts() {
+    reduced(b"d = 0", &[1], 0, 1);
+    reduced(b"m = 5", &[1, 0, 0, 0, 0], 1, 5);
+    reduced(b"three numbers for two by two", &[1, 0, 0], 2, 2);
+}
+
+fn main() {
+    reductions();
+    lengths();
+    counts();
+}
