@@ -1,0 +1,105 @@
+-- The answer is stored part by part where there is room, and nothing is where there is not.
+use mathlib.Core.Path.{refl, sym, ap, _∙_, subst}
+use mathlib.Core.List.{[], map}
+use Prim.Native.Nat.{_≤_, _<_}
+use native.Mathlib.Omega.{arith}
+use lib.ListN.{length}
+use lib.Seq.{sets}
+use denote.Ref.{now}
+use borrow.Author.Tests.{le-leb, lt-leb}
+use Rattle.lattices.specs.Refusal.{Input}
+use Rattle.lattices.specs.Answer.{reductionOf}
+use Rattle.rows.specs.Rows.{vectorRow, tableRow}
+use Rattle.exports.specs.Layout.{flat, head, layout}
+use Rattle.exports.specs.Runs.{written-short}
+use Rattle.exports.specs.Shape.{shape, unpacked, answer-stored}
+use borrow.Author.Needs.{needs}
+use Rattle.exports.proofs.raghymtos_reduce.Statement.{statement}
+use Rattle.exports.proofs.raghymtos_reduce.Tie as tie
+
+abbrev input : tie.Start → Input
+input s = record { numbers = now (s .args .numbers); d = s .args .d; m = s .args .m; target = [] }
+
+returns : tie.Need-returns
+returns c =
+    let l = now (c .before .args .out) in
+    let h : length l < 55 = c .if1 .taken in
+    (sym (lt-leb 55 (length l) h), written-short l 55 (layout (reductionOf (input (c .before)))) h)
+
+reduce-requires : tie.Need-reduce-requires
+reduce-requires c κs = search needs
+
+put-head-requires : tie.Need-put-head-requires
+put-head-requires c κs =
+    let r = c .before .before .before .before .before in
+    let i = input (r .before .before) in
+    let n = shape i in (
+      search needs,
+      subst (λ a. (a .refusal ≤ 1000000000000) × ((a .place ≤ 1000000000000) × (a .passes ≤ 1000000000000))) (sym (r .reduce .ensures))
+          (omega (arith, n .refusal), (omega (arith, n .place), n .passes)),
+    )
+
+put-row-requires : tie.Need-put-row-requires
+put-row-requires c κs = search needs
+
+vectors-of-requires : tie.Need-vectors-of-requires
+vectors-of-requires c κs = search needs
+
+put-rows-requires : tie.Need-put-rows-requires
+put-rows-requires c κs = search needs
+
+tables-of-requires : tie.Need-tables-of-requires
+tables-of-requires c κs = search needs
+
+put-rows-requires-2 : tie.Need-put-rows-requires-2
+put-rows-requires-2 c κs = search needs
+
+tables-of-requires-2 : tie.Need-tables-of-requires-2
+tables-of-requires-2 c κs = search needs
+
+put-rows-requires-3 : tie.Need-put-rows-requires-3
+put-rows-requires-3 c κs = search needs
+
+same-length : tie.Need-same-length
+same-length c = search needs
+
+returns-2 : tie.Need-returns-2
+returns-2 c =
+    let v = c .before in
+    let u = v .before .before .before .before in
+    let b = u .before .before .before .before in
+    let q = b .before .before .before .before in
+    let p = q .before .before .before in
+    let r = p .before .before .before .before .before .before in
+    let s = r .before .before in
+    let l = now (s .args .out) in
+    let e = r .reduce .ensures in
+    let h : 55 ≤ length l = search needs in
+    let x = v .before .tables-of2 .ensures ∙ ap (λ a. map (λ row. row .at) (a .v)) e ∙ unpacked tableRow (λ row. row .at) (λ t. refl) (reductionOf (input s) .v) in
+    let y = u .before .tables-of .ensures ∙ ap (λ a. map (λ row. row .at) (a .u)) e ∙ unpacked tableRow (λ row. row .at) (λ t. refl) (reductionOf (input s) .u) in
+    let z = b .before .vectors-of .ensures ∙ ap (λ a. map (λ row. row .at) (a .vectors)) e ∙ unpacked vectorRow (λ row. row .at) (λ t. refl) (reductionOf (input s) .basis) in (
+      sym (le-leb 55 (length l) h),
+      answer-stored (shape (input s)) l h
+          (p .put-head .ensures ∙ ap (λ a. sets l 0 (head (a .refusal) (a .place) (a .passes))) e)
+          (q .put-row .ensures .0 ∙ ap (λ a. sets (p .put-head .last .0) 3 (a .squares)) e)
+          (b .put-rows .ensures ∙ ap (λ t. sets (q .put-row .last .0) 7 (flat t)) z)
+          (u .put-rows2 .ensures ∙ ap (λ t. sets (b .put-rows .last .0) 23 (flat t)) y)
+          (v .put-rows3 .ensures ∙ ap (λ t. sets (u .put-rows2 .last .0) 39 (flat t)) x),
+    )
+
+pub raghymtos-reduce-spec : {M : Type 1} → statement M
+raghymtos-reduce-spec =
+    tie.close
+    (tie.spec
+    returns
+    reduce-requires
+    put-head-requires
+    put-row-requires
+    vectors-of-requires
+    put-rows-requires
+    tables-of-requires
+    put-rows-requires-2
+    tables-of-requires-2
+    put-rows-requires-3
+    same-length
+    returns-2)

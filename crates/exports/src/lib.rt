@@ -1,0 +1,68 @@
+// The engine for callers in other languages. Answers are written to lent numbers; include/raghymtos.h gives their order.
+ghost use mathlib.Core.Path.{_≡_};
+ghost use mathlib.Core.List.{[]};
+ghost use Prim.Native.Nat.{_+_, _≤_};
+ghost use lib.Dec.{leb};
+ghost use lib.ListN.{length};
+ghost use lib.Seq.{sets};
+ghost use Rattle.lattices.specs.Answer.{reductionOf};
+ghost use Rattle.exports.specs.Layout.{flat, head, layout, written};
+
+// How many numbers a reduction's answer takes.
+const REDUCTION: usize = 55;
+
+// Writes a row from `at` on. That it has four numbers tells where the next one goes.
+fn put_row(out: &mut [i64], at: usize, row: [i64; 4])
+    requires { ⌜ at + 4 ≤ length (now out) ⌝ }
+    ensures { λ _. ⌜ now (out .exit) ≡ sets (now (out .entry)) at row ⌝ }
+    ensures { λ _. ⌜ length row ≡ 4 ⌝ }
+{
+    out[at] = row[0];
+    out[at + 1] = row[1];
+    out[at + 2] = row[2];
+    out[at + 3] = row[3];
+}
+
+// Writes the rows of a table from `at` on.
+fn put_rows(out: &mut [i64], at: usize, t: [[i64; 4]; 4])
+    requires { ⌜ at + 16 ≤ length (now out) ⌝ }
+    ensures { λ _. ⌜ now (out .exit) ≡ sets (now (out .entry)) at (flat t) ⌝ }
+{
+    put_row(out, at, t[0]);
+    put_row(out, at + 4, t[1]);
+    put_row(out, at + 8, t[2]);
+    put_row(out, at + 12, t[3]);
+}
+
+// Writes what stands before an answer's tables.
+fn put_head(out: &mut [i64], refusal: u64, place: u64, passes: u64)
+    requires { ⌜ 3 ≤ length (now out) ⌝ }
+    requires { ⌜ (refusal ≤ 1000000000000) × ((place ≤ 1000000000000) × (passes ≤ 1000000000000)) ⌝ }
+    ensures { λ _. ⌜ now (out .exit) ≡ sets (now (out .entry)) 0 (head refusal place passes) ⌝ }
+{
+    out[0] = refusal as i64;
+    out[1] = place as i64;
+    out[2] = passes as i64;
+}
+
+// Reduces d vectors of m coordinates each. The answer is written to the first 55 numbers of `out`; a shorter `out` stays as it is.
+#[no_mangle]
+pub extern "C" fn raghymtos_reduce(numbers: &[i64], d: usize, m: usize, out: &mut [i64]) -> bool
+    ensures { λ r. ⌜ r ≡ leb 55 (length (now (out .entry))) ⌝ }
+    ensures { λ _. ⌜ now (out .exit) ≡ written (now (out .entry)) 55 (layout (reductionOf (record { numbers = now (numbers .entry); d = d; m = m; target = [] }))) ⌝ }
+{
+    if out.len() < REDUCTION {
+        return false;
+    }
+    let a = engine::reduce(numbers, d, m);
+    let vectors = a.vectors;
+    let u = a.u;
+    let v = a.v;
+    let squares = a.squares;
+    put_head(out, a.refusal, a.place, a.passes);
+    put_row(out, 3, squares);
+    put_rows(out, 7, rows::vectors_of(vectors));
+    put_rows(out, 23, rows::tables_of(u));
+    put_rows(out, 39, rows::tables_of(v));
+    true
+}

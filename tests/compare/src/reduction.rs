@@ -1,0 +1,102 @@
+//! One reduction: the engine's 55 numbers against the reference's answer, and the tables against the vectors.
+
+use raghymtos::{reduce, reduce_into, Table, REDUCTION_NUMBERS};
+use reference::cases::Case;
+
+/// What stands in the lent numbers before the call.
+const MARK: i64 = 0x5555_5555_5555_5555;
+
+/// The refusal's number, or what differs.
+pub fn compare(case: &Case) -> Result<usize, String> {
+    let out = written(case)?;
+    let expected = laid_out(&reference::reduce(&case.numbers, case.d, case.m));
+    if out != expected {
+        return Err(format!(
+            "the engine gave {out:?}, the reference {expected:?}"
+        ));
+    }
+    wrapped(case, &out)?;
+    if out[0] == 0 {
+        tables(case, &out)?;
+    }
+    Ok(out[0] as usize)
+}
+
+/// The engine's numbers, where those behind them and a run that is too short keep their values.
+fn written(case: &Case) -> Result<Vec<i64>, String> {
+    let mut short = [MARK; REDUCTION_NUMBERS - 1];
+    if reduce_into(&case.numbers, case.d, case.m, &mut short)
+        || short != [MARK; REDUCTION_NUMBERS - 1]
+    {
+        return Err("54 lent numbers were taken, or written to".into());
+    }
+    let mut out = [MARK; REDUCTION_NUMBERS + 3];
+    if !reduce_into(&case.numbers, case.d, case.m, &mut out) {
+        return Err("58 lent numbers were refused".into());
+    }
+    if out[REDUCTION_NUMBERS..] != [MARK; 3] {
+        return Err("more than 55 numbers were written".into());
+    }
+    Ok(out[..REDUCTION_NUMBERS].to_vec())
+}
+
+/// The reference's answer in the header's order, with zeros in unused places.
+fn laid_out(r: &reference::Reduction) -> Vec<i64> {
+    let mut all = vec![r.refusal as i64, r.place as i64, r.passes as i64];
+    all.extend(padded(&r.squares));
+    for table in [&r.vectors, &r.u, &r.v] {
+        for i in 0..4 {
+            all.extend(padded(table.get(i).map_or(&[], |row| row)));
+        }
+    }
+    all
+}
+
+fn padded(row: &[i64]) -> [i64; 4] {
+    std::array::from_fn(|i| row.get(i).copied().unwrap_or(0))
+}
+
+/// The safe wrapper gives the same answer.
+fn wrapped(case: &Case, out: &[i64]) -> Result<(), String> {
+    let same = match reduce(&case.numbers, case.d, case.m) {
+        Err(refusal) => refusal.number() == out[0],
+        Ok(r) => {
+            let mut all = vec![0, 0, r.passes as i64];
+            all.extend(r.squares);
+            all.extend([r.vectors, r.u, r.v].concat().concat());
+            all == out
+        }
+    };
+    if same {
+        Ok(())
+    } else {
+        Err("the Rust wrapper gives another answer".into())
+    }
+}
+
+/// U times the inputs is the outputs, V times the outputs the inputs.
+fn tables(case: &Case, out: &[i64]) -> Result<(), String> {
+    let mut inputs = [[0; 4]; 4];
+    for (i, v) in case.numbers.chunks(case.m).enumerate() {
+        inputs[i] = padded(v);
+    }
+    let table =
+        |at: usize| -> Table { std::array::from_fn(|i| padded(&out[at + 4 * i..at + 4 * i + 4])) };
+    let (outputs, u, v) = (table(7), table(23), table(39));
+    if product(&u, &inputs) != wide(&outputs) {
+        return Err("U times the inputs is not the outputs".into());
+    }
+    if product(&v, &outputs) != wide(&inputs) {
+        return Err("V times the outputs is not the inputs".into());
+    }
+    Ok(())
+}
+
+fn wide(t: &Table) -> [[i128; 4]; 4] {
+    t.map(|row| row.map(i128::from))
+}
+
+fn product(a: &Table, b: &Table) -> [[i128; 4]; 4] {
+    let (a, b) = (wide(a), wide(b));
+    std::array::from_fn(|i| std::array::from_fn(|j| (0..4).map(|k| a[i][k] * b[k][j]).sum()))
+}
