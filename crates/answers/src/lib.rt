@@ -49,3 +49,23 @@ pub fn reduction(a: engine::Reduction, d: usize, m: usize) {
     }
     reduced(a, d, m);
 }
+
+// Writes `nearest` and the squared distance, then a line with the coefficients and one with the vector.
+fn found(a: engine::NearestVector, d: usize, m: usize) {
+    io::write_all(STDOUT_FILENO, b"nearest ");
+    printing::signed(a.square);
+    printing::newline();
+    let x = a.coefficients;
+    line(b"c", x, d);
+    let v = a.vector;
+    line(b"v", v, m);
+}
+
+// Writes the answer to a search for the vector nearest to a target.
+pub fn nearest(a: engine::NearestVector, d: usize, m: usize) {
+    if a.refusal != 0 {
+        refused(a.refusal, a.place);
+        return;
+    }
+    found(a, d, m);
+}

@@ -1,4 +1,5 @@
-// The known results of document 01 on the compiled engine, with the limits of length and the refusals of the vectors.
+// The known results of document 01 on the compiled engine, with the limits of length, the refusals, and targets that tell wrong readings
+// of "nearest" apart.
 use libc::STDOUT_FILENO;
 
 // Writes the name of an input, then the answer to its reduction.
@@ -46,8 +47,49 @@ fn counts() {
     reduced(b"three numbers for two by two", &[1, 0, 0], 2, 2);
 }
 
+// Writes the name of an input, then the answer to the search for the vector nearest to the target.
+fn near(name: &[u8], numbers: &[i64], d: usize, m: usize, target: &[i64]) {
+    io::write_all(STDOUT_FILENO, name);
+    printing::newline();
+    answers::nearest(engine::nearest(numbers, d, m, target), d, m);
+}
+
+// P9 and P10, and cases where a hasty search ends elsewhere.
+fn targets() {
+    near(b"P9", &[2, 0, 0, 2], 2, 2, &[1, 1]);
+    near(b"P10", &[20, 0, 10, 20], 2, 2, &[14, 9]);
+    near(
+        b"a tie beyond the table",
+        &[1, 1, 0, 1, 0, 1, 1, 0, -1],
+        3,
+        3,
+        &[0, -1, 0],
+    );
+    near(
+        b"two layers away",
+        &[10, 10, 0, 0, 10, -10, 0, 0, 0, 0, 10, 10, 10, 0, 10, 0],
+        4,
+        4,
+        &[0, 0, 6, -6],
+    );
+    near(b"outside the span", &[2, 0, 0], 1, 3, &[3, 5, -7]);
+    near(b"in the lattice", &[5, 8, 8, 13], 2, 2, &[13, 21]);
+}
+
+// The limit of a target's length, a wrong count, and vectors that are refused before their target.
+fn target_refusals() {
+    near(b"at the limit", &[1], 1, 1, &[20000]);
+    near(b"beyond the limit", &[1], 1, 1, &[-20001]);
+    near(b"too long", &[1, 0], 1, 2, &[20000, 1]);
+    near(b"too few numbers", &[1, 0], 1, 2, &[1]);
+    near(b"too many numbers, too long", &[1, 0], 1, 2, &[20001, 0, 0]);
+    near(b"dependent vectors, no target", &[1, 2, 2, 4], 2, 2, &[]);
+}
+
 fn main() {
     reductions();
     lengths();
     counts();
+    targets();
+    target_refusals();
 }
