@@ -12,9 +12,10 @@ use Rattle.lattices.specs.VectorLaws.{nil-dot}
 use Rattle.lattices.specs.Greedy.{Row, vectors, units, start, greedy, reduction}
 use Rattle.lattices.specs.Refusal.{Input, basis, firstOf, vectorChecks}
 use Rattle.lattices.specs.Answer.{padded, table, rowOfV, rowsOfV}
-use Rattle.lattices.specs.AnswerLaws.{length-padded, nth-padded}
+use Rattle.lattices.specs.AnswerLaws.{length-padded, nth-padded, table-rows}
 use Rattle.integers.specs.All.{All, map-append, map-replicate}
-use Rattle.reductions.specs.Start.{Sized, sized-start, length-units}
+use Rattle.reductions.specs.Moves.{length-vectors}
+use Rattle.reductions.specs.Start.{Sized, Coordinates, sized-start, sized-vectors, length-units}
 use Rattle.reductions.specs.Exactness.{reduction-length, reduction-sized}
 use Rattle.reductions.specs.Padding.{pad, pad-counted, greedy-padded, padded-N}
 use Rattle.reductions.specs.Accepted.{Accepted, accepted}
@@ -70,6 +71,16 @@ module _ (i : Input) (e : firstOf vectorChecks i ≡ 0) where
 
   pub R-count : length R ≡ i .d
   R-count = reduction-length (i .m) (basis i) (accept .full) some ∙ bs-count i e
+
+  -- the vectors given
+  pub outs-count : length (vectors R) ≡ i .d
+  outs-count = length-vectors R ∙ R-count
+
+  pub outs-full : Coordinates (i .m) (vectors R)
+  outs-full = sized-vectors (i .m) (length (basis i)) R (reduction-sized (i .m) (basis i) (accept .full) some)
+
+  pub outs-rows : take (i .d) (table 4 4 (vectors R)) ≡ map (padded 4) (vectors R)
+  outs-rows = ap (λ n. take n (table 4 4 (vectors R))) (sym outs-count) ∙ table-rows 4 4 (vectors R) (omega (arith, outs-count, accept .most))
 
   abbrev start-rows : List Row
   start-rows = start (map (padded 4) (basis i)) (map (padded 4) (units (length (basis i))))

@@ -9,6 +9,7 @@ pub mod Finish
 pub mod Few
 pub mod Answer
 pub mod Named
+pub mod Membership
 pub mod Tables
 pub mod Whole
 pub mod Repeat

@@ -18,14 +18,12 @@ use Rattle.lattices.specs.Greedy.{vectors, reduction}
 use Rattle.lattices.specs.Refusal.{Input, basis, firstOf, vectorChecks, targetChecks}
 use Rattle.lattices.specs.Answer as Definition
 use Rattle.lattices.specs.Answer.{padded, table, noNearest, nearestGiven, nearestOf, noReduction, reductionGiven, reductionOf}
-use Rattle.lattices.specs.AnswerLaws.{length-padded, padded-≈, table-rows}
+use Rattle.lattices.specs.AnswerLaws.{length-padded, padded-≈}
 use Rattle.minima.specs.Digits.{Bounded}
 use Rattle.minima.specs.Reduced.{Reduced}
 use Rattle.rows.specs.Minus.{room}
 use Rattle.minima.specs.NearestLaws.{nearest-count}
-use Rattle.reductions.specs.Moves.{length-vectors}
-use Rattle.reductions.specs.Start.{Coordinates, sized-vectors}
-use Rattle.reductions.specs.Exactness.{comb-full, reduction-sized}
+use Rattle.reductions.specs.Exactness.{comb-full}
 use Rattle.reductions.specs.Padding.{padded-N, comb-padded, padded-minus, nearest-padded}
 use Rattle.reductions.specs.Accepted.{targeted}
 use Rattle.reductions.specs.Demand.{accepted-nearest, first-passed}
@@ -34,7 +32,7 @@ use Rattle.engine.specs.declared.NearestVector.{NearestVector}
 use Rattle.engine.specs.Fine.{fine-greedy}
 use Rattle.engine.specs.Room.{short-rows}
 use Rattle.engine.specs.Begin.{first-fine}
-use Rattle.engine.specs.Finish.{R, R-count, accept, some, last-vectors, last-reduced}
+use Rattle.engine.specs.Finish.{R, accept, some, outs-count, outs-full, outs-rows, last-vectors, last-reduced}
 
 -- the definition's answer in the struct
 abbrev pub packedNearest : Definition.Nearest → NearestVector
@@ -83,19 +81,10 @@ module _ (i : Input) (e : firstOf vectorChecks i ≡ 0) (f : firstOf targetCheck
   pub target-read : padded 4 (take (i .m) (drop 0 (i .target))) ≡ target
   target-read = ap (padded 4) (take-all (i .m) (i .target) (omega (arith, t-count)))
 
-  count : length bs ≡ i .d
-  count = length-vectors (R i e) ∙ R-count i e
-
-  full : Coordinates (i .m) bs
-  full = sized-vectors (i .m) (length (basis i)) (R i e) (reduction-sized (i .m) (basis i) (accept i e .full) (some i e))
-
-  rows-are : take (i .d) array ≡ map (padded 4) bs
-  rows-are = ap (λ n. take n array) (sym count) ∙ table-rows 4 4 bs (omega (arith, count, accept i e .most))
-
   -- what the search for the nearest vector asks
   pub near : Near (i .d) array target
   near = record {
-    reduced = subst Reduced (sym rows-are) (last-reduced i e);
+    reduced = subst Reduced (sym (outs-rows i e)) (last-reduced i e);
     short = λ k h. subst (λ l. N (getD l k []) ≤ℤ pos 400000000) (last-vectors i e) (short-rows (fine-greedy (first-fine i e) (i .d) (le-refl (i .d))) k);
     target = subst (λ n. n ≤ℤ pos 400000000) (sym (padded-N 4 (i .target) t-few)) (targeted i f .limit);
   }
@@ -105,25 +94,25 @@ module _ (i : Input) (e : firstOf vectorChecks i ≡ 0) (f : firstOf targetCheck
 
   nearest-is : nearest (take (i .d) array) target ≡ x
   unfolding x
-  nearest-is = ap (λ l. nearest l target) rows-are ∙ nearest-padded 4 (i .m) (accept i e .few) bs full (i .target) t-count
+  nearest-is = ap (λ l. nearest l target) (outs-rows i e) ∙ nearest-padded 4 (i .m) (accept i e .few) bs (outs-full i e) (i .target) t-count
 
   module _ (y rest : List ℤ) (places : length rest ≡ 4) (list : y ≡ padded 4 (nearest (take (i .d) array) target))
       (left : rest ≈ target ⊖ comb (nearest (take (i .d) array) target) (take (i .d) array)) where
     left-is : rest ≈ target ⊖ comb x (map (padded 4) bs)
-    left-is = subst (λ z. rest ≈ target ⊖ comb z (map (padded 4) bs)) nearest-is (subst (λ l. rest ≈ target ⊖ comb (nearest (take (i .d) array) target) l) rows-are left)
+    left-is = subst (λ z. rest ≈ target ⊖ comb z (map (padded 4) bs)) nearest-is (subst (λ l. rest ≈ target ⊖ comb (nearest (take (i .d) array) target) l) (outs-rows i e) left)
 
     combination-few : length (comb x bs) ≤ 4
     unfolding x
-    combination-few = omega (arith, comb-full (i .m) x bs full (nearest-count bs (i .target)) (omega (arith, count, accept i e .some)), accept i e .few)
+    combination-few = omega (arith, comb-full (i .m) x bs (outs-full i e) (nearest-count bs (i .target)) (omega (arith, outs-count i e, accept i e .some)), accept i e .few)
 
     vector-is : target ⊖ pos 1 ⊙ rest ≡ padded 4 (comb x bs)
     vector-is = ≈-≡ (target ⊖ pos 1 ⊙ rest) (padded 4 (comb x bs))
         (length-⊕ target (negsuc 0 ⊙ pos 1 ⊙ rest) ∙ omega (arith, length-padded 4 (i .target), length-⊙ (negsuc 0) (pos 1 ⊙ rest), length-⊙ (pos 1) rest, places, length-padded 4 (comb x bs)))
         (≈-trans (left-of-left target (comb x (map (padded 4) bs)) rest left-is)
-        (≈-trans (comb-padded 4 (i .m) (accept i e .few) x bs full) (≈-sym (padded-≈ 4 (comb x bs) combination-few))))
+        (≈-trans (comb-padded 4 (i .m) (accept i e .few) x bs (outs-full i e)) (≈-sym (padded-≈ 4 (comb x bs) combination-few))))
 
     square-is : dot rest rest ≡ distance (i .target) (comb x bs)
-    square-is = ≈-N left-is ∙ ap N (sym (padded-minus 4 (i .m) (accept i e .few) (i .target) t-few x bs full)) ∙ padded-N 4 (i .target ⊖ comb x bs) (omega (arith, length-⊕ (i .target) (negsuc 0 ⊙ comb x bs), length-⊙ (negsuc 0) (comb x bs), t-few, combination-few))
+    square-is = ≈-N left-is ∙ ap N (sym (padded-minus 4 (i .m) (accept i e .few) (i .target) t-few x bs (outs-full i e))) ∙ padded-N 4 (i .target ⊖ comb x bs) (omega (arith, length-⊕ (i .target) (negsuc 0 ⊙ comb x bs), length-⊙ (negsuc 0) (comb x bs), t-few, combination-few))
 
     given-answer : named target y rest ≡ packedNearest (nearestGiven bs (i .target))
     unfolding named x

@@ -2,7 +2,7 @@
 ghost use mathlib.Core.Path.{_≡_};
 ghost use Prim.Native.Nat.{suc, _+_, _-_, _≤_, _<_};
 ghost use mathlib.Core.List.{[]};
-ghost use lib.ListN.{getD};
+ghost use lib.ListN.{getD, take};
 ghost use lib.Signed.{ltZ};
 ghost use Rattle.lattices.specs.Vector.{N};
 ghost use Rattle.engine.specs.State.{rowsIn, blank, greedyPasses, ordered, passed, reduced};
@@ -10,6 +10,8 @@ ghost use Rattle.engine.specs.Fine.{Fine};
 ghost use Rattle.engine.specs.Room.{Ready};
 ghost use Rattle.engine.specs.Answer.{packed, finished};
 ghost use Rattle.minima.specs.Digits.{Bounded};
+ghost use Rattle.layers.specs.Near.{Near};
+ghost use Rattle.layers.specs.Members.{isMember};
 ghost use Rattle.lattices.specs.Answer.{noReduction, reductionOf, noNearest, nearestOf};
 ghost use Rattle.engine.specs.Named.{packedNearest, named};
 
@@ -208,4 +210,13 @@ pub fn nearest(numbers: &[i64], d: usize, m: usize, target: &[i64]) -> NearestVe
     let x = c.list;
     let rest = c.rest;
     named(t, x, rest)
+}
+
+// Membership: whether v is in the lattice of the first d vectors, which are reduced already, so that many vectors can be tested on one basis.
+pub fn member(b: [[i64; 4]; 4], d: usize, v: [i64; 4]) -> bool
+    requires { ⌜ d ≤ 4 ⌝ }
+    requires { ⌜ Near d b v ⌝ }
+    ensures { λ r. ⌜ r ≡ isMember (take d b) v ⌝ }
+{
+    layers::member(b, d, v)
 }
