@@ -1,6 +1,5 @@
 -- `blanks` reads within its slice and ends.
-use Prim.Native.Nat.{_≤_, _-_, _+_}
-use native.Mathlib.Omega.{arith}
+use Prim.Native.Nat.{_≤_, _-_}
 use lib.ListN.{length}
 use borrow.Author.Needs.{needs}
 use Rattle.requests.proofs.blanks.Statement.{statement}

@@ -1,10 +1,9 @@
 -- Each way through the tests gives its case of the definition.
-use mathlib.Core.Path.{_≡_, ap, sym}
+use mathlib.Core.Path.{ap, sym}
 use mathlib.Core.Bool.{cond}
 use borrow.Author.Tests.{eq-eqb, ne-eqb}
 use Rattle.requests.specs.NumberLaws.{minus-none}
 use native.Mathlib.Omega.{arith}
-use borrow.Author.Needs.{needs}
 use borrow.Author.Needs.{needs}
 use Rattle.requests.proofs.minus.Statement.{statement}
 use Rattle.requests.proofs.minus.Tie as tie

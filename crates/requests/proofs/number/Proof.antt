@@ -7,7 +7,6 @@ use Rattle.requests.specs.Numbers.{signedAt, numberAt}
 use Rattle.requests.specs.NumberLaws.{number-bound}
 use native.Mathlib.Omega.{arith}
 use borrow.Author.Needs.{needs}
-use borrow.Author.Needs.{needs}
 use Rattle.requests.proofs.number.Statement.{statement}
 use Rattle.requests.proofs.number.Tie as tie
 

@@ -1,7 +1,6 @@
 -- A token lies within its bytes.
 use native.Mathlib.Omega.{arith}
 use borrow.Author.Needs.{needs}
-use borrow.Author.Needs.{needs}
 use Rattle.requests.proofs.read_token.Statement.{statement}
 use Rattle.requests.proofs.read_token.Tie as tie
 
