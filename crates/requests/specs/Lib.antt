@@ -1,0 +1,3 @@
+-- Numbers as text.
+pub mod Numbers
+pub mod NumberLaws
