@@ -140,8 +140,10 @@ fn walk(g: [[i64; 3]; 3], h: [i64; 3], k: usize) -> Step
     ensures { λ r. ⌜ Decided k g h r ⌝ }
 {
     let n = COUNTS[k];
+    // once before the loop: a constant is built wherever it is named
+    let lists = LISTS;
     for i in 0..n {
-        let e = LISTS[i];
+        let e = lists[i];
         if improves(g, h, e) {
             return Step {
                 list: e,
