@@ -8,7 +8,8 @@ type Table = [[i64; 4]; 4];
 const MOST_SIZE: i64 = 20_000;
 const MOST_SQUARE: i64 = 400_000_000;
 
-/// Reduces d vectors of m coordinates each.
+/// Reduces d vectors of m coordinates each. Kept a function of its own, so that its instructions can be counted.
+#[inline(never)]
 pub fn reduce(numbers: &[i64], d: usize, m: usize, out: &mut Answer) {
     *out = [0; 55];
     match begin(numbers, d, m) {

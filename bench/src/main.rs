@@ -1,4 +1,5 @@
-//! Reductions per second: the proved engine against plain Rust, in one process, on fixed inputs.
+//! Reductions per second: the proved engine against plain Rust, in one process, on fixed inputs. Arguments, all optional: how many
+//! runs, the only set and the only d to be timed.
 
 mod baseline;
 mod sets;
@@ -8,8 +9,8 @@ use std::time::Instant;
 
 use sets::{Input, SETS};
 
-const INPUTS: usize = 2_000;
-const RUNS: usize = 21;
+const INPUTS: usize = 1_000;
+const RUNS: usize = 101;
 const SEED: u64 = 1;
 
 fn engine(input: &Input, out: &mut baseline::Answer) {
@@ -36,24 +37,40 @@ fn median(mut times: Vec<f64>) -> f64 {
     times[times.len() / 2]
 }
 
-/// Both must give the same 55 numbers, or the times compare nothing.
-fn check(inputs: &[Input]) {
+/// Both must give the same 55 numbers, or the times compare nothing. Gives the passes of a reduction in the mean.
+fn check(inputs: &[Input]) -> f64 {
+    let mut passes = 0;
     for input in inputs {
         let (mut a, mut b) = ([0; 55], [0; 55]);
         engine(input, &mut a);
         plain(input, &mut b);
         assert_eq!(a, b, "{input:?}");
+        passes += a[2];
     }
+    passes as f64 / inputs.len() as f64
+}
+
+fn argument(n: usize) -> Option<String> {
+    std::env::args().nth(n)
 }
 
 fn main() {
+    let runs = argument(1).map_or(RUNS, |word| word.parse().expect("runs is a number"));
+    let only_set = argument(2);
+    let only_d = argument(3).map(|word| word.parse().expect("d is a number"));
     println!("{:<12} d   engine/s     Rust/s  engine:Rust  passes", "set");
     for set in SETS {
+        if only_set.as_ref().is_some_and(|name| name != set.name()) {
+            continue;
+        }
         for d in 2..=4 {
+            if only_d.is_some_and(|only: usize| only != d) {
+                continue;
+            }
             let inputs = sets::inputs(set, d, INPUTS, SEED);
-            check(&inputs);
+            let passes = check(&inputs);
             // the two take turns, so that what else the machine does falls on both
-            let pairs: Vec<(f64, f64)> = (0..RUNS)
+            let pairs: Vec<(f64, f64)> = (0..runs)
                 .map(|_| (timed(&inputs, engine), timed(&inputs, plain)))
                 .collect();
             let ours = median(pairs.iter().map(|p| p.0).collect());
@@ -65,19 +82,8 @@ fn main() {
                 INPUTS as f64 / ours,
                 INPUTS as f64 / theirs,
                 ratio,
-                passes(&inputs),
+                passes,
             );
         }
     }
-}
-
-/// Passes in the mean.
-fn passes(inputs: &[Input]) -> f64 {
-    let mut out = [0; 55];
-    let mut sum = 0;
-    for input in inputs {
-        engine(input, &mut out);
-        sum += out[2];
-    }
-    sum as f64 / inputs.len() as f64
 }

@@ -41,7 +41,7 @@ pub fn inputs(set: Set, d: usize, count: usize, seed: u64) -> Vec<Input> {
             Set::Generator => generator(d, &mut random),
         }
         .concat();
-        if raghymtos::reduce(&numbers, d, d).is_ok() {
+        if reference::reduce(&numbers, d, d).refusal == 0 {
             all.push(Input { d, numbers });
         }
     }
