@@ -1,5 +1,5 @@
--- Demand 3 for the services Reduction and Nearest, about the answers that the contracts of the engine name: the theorem of each
--- service is the last declaration, and the record before it says what holds.
+-- Demand 3 for the services Reduction and Nearest, about the answers that the contracts of the engine name: the last declaration says it
+-- in one statement, and the records `Reduces` and `Nears` say what holds.
 use mathlib.Core.Path.{_≡_, refl, sym, ap, ap₂, _∙_, subst}
 use mathlib.Core.Logic.{_≢_, _↔_}
 use mathlib.Core.Bool.{Bool, true, false}
@@ -229,3 +229,7 @@ unfolding near-given outs rows
 nearest-theorem i e =
     let v = first-append vectorChecks targetChecks i (omega arith) e in
     subst (Nears i) (sym (accepted-nearest i e)) (given-nears i (accepted i v) v)
+
+-- demand 3 for both services: every accepted basis is reduced, and for every accepted target the nearest vector is named
+pub both-services : (i : Input) → (firstOf vectorChecks i ≡ 0 → Reduces i (reductionOf i)) × (firstOf (vectorChecks ++ targetChecks) i ≡ 0 → Nears i (nearestOf i))
+both-services i = (reduction-theorem i, nearest-theorem i)
