@@ -17,12 +17,12 @@ use Rattle.integers.specs.Order.{≤ℤ-trans, pos-nonneg}
 use Rattle.integers.specs.Certificate.{NN}
 use Rattle.integers.specs.Size.{Within, root-within}
 use Rattle.lattices.specs.Vector.{Vec, N, nth, dot}
-use Rattle.lattices.specs.VectorLaws.{N-nonneg}
+use Rattle.lattices.specs.VectorLaws.{square-≤}
 use Rattle.lattices.specs.Volume.{Index, Form, volume, inner, squaredVolume, isDependent}
 use Rattle.lattices.specs.Refusal.{any}
 use Rattle.volumes.specs.Forms.{half}
 use Rattle.volumes.specs.Exterior.{inner-nonneg}
-use Rattle.volumes.specs.Hadamard.{head-≤, rest-≤, minor}
+use Rattle.volumes.specs.Hadamard.{minor}
 use Rattle.volumes.specs.Sizes.{Short, product-≤}
 use Rattle.checks.specs.Minors.{entries, wedged}
 
@@ -36,13 +36,8 @@ minors-cons b bs = refl
 
 -- ---- sizes
 
-pub nth-≤ : (v : Vec) (i : ℕ) → (nth v i *ℤ nth v i) ≤ℤ N v
-nth-≤ [] i = N-nonneg []
-nth-≤ (x ∷ v) zero = head-≤ (x ∷ v)
-nth-≤ (x ∷ v) (suc i) = ≤ℤ-trans (nth-≤ v i) (rest-≤ (x ∷ v))
-
 pub short-within : (v : Vec) → N v ≤ℤ pos 400000000 → (i : ℕ) → Within 20000 (nth v i)
-short-within v h i = root-within (≤ℤ-trans (nth-≤ v i) h)
+short-within v h i = root-within (≤ℤ-trans (square-≤ v i) h)
 
 module _ (P : ℤ → Type 0) (z : P (pos 0)) where
   nth-append-all : (u v : List ℤ) → ((i : ℕ) → P (nth u i)) → ((i : ℕ) → P (nth v i)) → (i : ℕ) → P (nth (u ++ v) i)

@@ -3,7 +3,7 @@
 use mathlib.Core.Path.{_≡_, refl, sym, ap, ap₂, _∙_}
 use mathlib.Core.List.{List, [], _∷_, _++_, reverse, reverse-cons}
 use Prim.Native.Nat.{ℕ, zero, suc}
-use lib.IntN.{ℤ, pos, negsuc, _+ℤ_, _*ℤ_, zero-*ℤ, *ℤ-zero, *ℤ-comm, +ℤ-comm, +ℤ-idl, +ℤ-idr}
+use lib.IntN.{ℤ, pos, negsuc, _+ℤ_, _-ℤ_, _*ℤ_, zero-*ℤ, *ℤ-zero, *ℤ-comm, +ℤ-comm, +ℤ-idl, +ℤ-idr}
 use lib.Signed.{_≤ℤ_, ≤ℤ-refl}
 use native.Mathlib.Omega.{arith}
 use lib.ListN.{length, length-reverse}
@@ -56,6 +56,10 @@ pub dot-⊙ʳ : (k : ℤ) (u w : Vec) → dot w (k ⊙ u) ≡ k *ℤ dot w u
 dot-⊙ʳ k u w = dot-comm w (k ⊙ u) ∙ dot-⊙ k u w ∙ ap (λ s. k *ℤ s) (dot-comm u w)
 
 pub ruleset bilinear = (dot-⊕, dot-⊙, dot-⊕ʳ, dot-⊙ʳ)
+
+-- the squared length of a difference
+pub N-⊖ : (u v : Vec) → N (u ⊖ v) ≡ N u -ℤ pos 2 *ℤ dot u v +ℤ N v
+N-⊖ u v = simp (bilinear, dot-comm v u) (by-ring (N u ∷ N v ∷ dot u v ∷ []) (search reads depth 20) (search reads depth 20) tt)
 
 pub N-nonneg : (u : Vec) → pos 0 ≤ℤ N u
 unfolding dot

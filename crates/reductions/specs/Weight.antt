@@ -4,7 +4,7 @@ use mathlib.Core.Path.{_≡_, sym, ap, _∙_, subst, subst₂}
 use mathlib.Core.List.{List, [], _∷_, _++_, map, reverse, reverse-append}
 use Prim.Native.Nat.{ℕ, zero, suc, _+_, _*_, _≤_}
 use native.Mathlib.Omega.{arith}
-use lib.IntN.{ℤ, pos, negsuc, natAbs, _+ℤ_, _-ℤ_, _*ℤ_}
+use lib.IntN.{ℤ, pos, negsuc, natAbs, _+ℤ_, _*ℤ_}
 use lib.Signed.{_≤ℤ_, ≤ℤ-refl, ltZ-yes}
 use lib.ListN.{length, length-append, length-map, length-reverse}
 use Rattle.integers.specs.Identity.{by-ring, reads}
@@ -12,7 +12,7 @@ use Rattle.integers.specs.Order.{≤ℤ-trans, *ℤ-mono, *ℤ-cancel-≤}
 use Rattle.integers.specs.Certificate.{nn-pos, _⊞_, _⊠_, le, eq, by-nn}
 use Rattle.integers.specs.Size.{load, load-snoc}
 use Rattle.lattices.specs.Vector.{Vec, N, nth, dot, _⊕_, _⊙_, _⊖_, comb}
-use Rattle.lattices.specs.VectorLaws.{_≈_, ≈-N, ≈-refl, ≈-sym, ≈-trans, ≈-⊕, bilinear, dot-comm, N-nonneg, comb-cons, comb-snoc, comb-reverse}
+use Rattle.lattices.specs.VectorLaws.{N-⊖, _≈_, ≈-N, ≈-refl, ≈-sym, ≈-trans, ≈-⊕, bilinear, dot-comm, N-nonneg, comb-cons, comb-snoc, comb-reverse}
 use Rattle.lattices.specs.Greedy.{Row, vectors, lastOf, before}
 use Rattle.minima.specs.Reduced.{Top, Descending, Reduced}
 use Rattle.minima.specs.ReducedLaws.{pinned}
@@ -24,11 +24,8 @@ use Rattle.integers.specs.All.{All, all-left, all-right, map-append}
 -- a difference of vectors of lengths a and 2·a is at most 3·a long
 third : (s : ℤ) (u v : Vec) → N u ≤ℤ s → N v ≤ℤ (pos 4 *ℤ s) → N (u ⊖ v) ≤ℤ (pos 9 *ℤ s)
 third s u v h k = *ℤ-cancel-≤ {c = pos 2} (ltZ-yes tt) (by-nn (N u ∷ N v ∷ dot u v ∷ s ∷ N (u ⊖ v) ∷ N (pos 2 ⊙ u ⊕ v) ∷ [])
-    (nn-pos 6 ⊠ le h ⊞ nn-pos 3 ⊠ le k ⊞ N-nonneg (pos 2 ⊙ u ⊕ v) ⊞ eq (negsuc 0) double ⊞ eq (negsuc 1) difference) (search reads depth 20) (search reads depth 20) tt)
+    (nn-pos 6 ⊠ le h ⊞ nn-pos 3 ⊠ le k ⊞ N-nonneg (pos 2 ⊙ u ⊕ v) ⊞ eq (negsuc 0) double ⊞ eq (negsuc 1) (N-⊖ u v)) (search reads depth 20) (search reads depth 20) tt)
   where
-    difference : N (u ⊖ v) ≡ N u -ℤ pos 2 *ℤ dot u v +ℤ N v
-    difference = simp (bilinear, dot-comm v u) (by-ring (N u ∷ N v ∷ dot u v ∷ []) (search reads depth 20) (search reads depth 20) tt)
-
     double : N (pos 2 ⊙ u ⊕ v) ≡ pos 4 *ℤ N u +ℤ pos 4 *ℤ dot u v +ℤ N v
     double = simp (bilinear, dot-comm v u) (by-ring (N u ∷ N v ∷ dot u v ∷ []) (search reads depth 20) (search reads depth 20) tt)
 

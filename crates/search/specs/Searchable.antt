@@ -10,10 +10,10 @@ use lib.Seq.{getD-take}
 use lib.Signed.{_≤ℤ_, _<ℤ_, leZ-yes, ltZ-yes}
 use Rattle.integers.specs.Identity.{by-ring, reads}
 use Rattle.integers.specs.Order.{≤ℤ-trans, leZ-false}
-use Rattle.integers.specs.Certificate.{NN, _⊞_, le, eq, nn-pos, nn-sq, nn-cancel, nn-ring, by-nn, le-of-nn}
+use Rattle.integers.specs.Certificate.{NN, _⊞_, le, eq, nn-pos, nn-cancel, nn-ring, by-nn, le-of-nn}
 use Rattle.integers.specs.Size.{Within, within-le, within-of-bounds, root-within}
-use Rattle.lattices.specs.Vector.{Vec, N, nth, dot, _⊕_, _⊖_}
-use Rattle.lattices.specs.VectorLaws.{bilinear, dot-comm, nil-dot, N-nonneg}
+use Rattle.lattices.specs.Vector.{Vec, N, dot, _⊕_, _⊖_}
+use Rattle.lattices.specs.VectorLaws.{bilinear, dot-comm, nil-dot, N-nonneg, square-≤}
 use Rattle.lattices.specs.Volume.{squaredVolume, isDependent}
 use Rattle.volumes.specs.Dependence.{Fit, independent-exactly}
 use Rattle.volumes.specs.Sizes.{Short}
@@ -44,18 +44,6 @@ given k b t h l s = record { few = h; count = omega (arith, length-take k b); re
     pick i (no m) = rw (behind k i b (omega (arith, m)), nil-dot []) (nn-pos 400000000)
 
 -- ---- coordinates
-
-square-≤ : (v : Vec) (i : ℕ) → (nth v i *ℤ nth v i) ≤ℤ N v
-unfolding dot
-square-≤ [] i = nn-pos 0
-square-≤ (x ∷ v) zero = law (x *ℤ x) (N v) (N-nonneg v)
-  where
-    law : (a n : ℤ) → NN n → a ≤ℤ (a +ℤ n)
-    law a n h = by-nn (a ∷ n ∷ []) h (search reads) (search reads) tt
-square-≤ (x ∷ v) (suc i) = law (x *ℤ x) (nth v i *ℤ nth v i) (N v) (nn-sq x) (square-≤ v i)
-  where
-    law : (a b n : ℤ) → NN a → b ≤ℤ n → b ≤ℤ (a +ℤ n)
-    law a b n h k = by-nn (a ∷ b ∷ n ∷ []) (h ⊞ le k) (search reads) (search reads) tt
 
 pub coordinates : (v : Vec) → N v ≤ℤ pos 3600000000 → Bounded 100000 v
 coordinates v h i = within-le (omega arith) (root-within {B = 60000} (≤ℤ-trans (square-≤ v i) h))

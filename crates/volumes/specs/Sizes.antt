@@ -1,6 +1,6 @@
 -- The sizes in numbers: a combination, of squared length at most r²·400,000,000, of at most four independent vectors of squared
 -- length at most 400,000,000 has coefficients of at most r·20,000⁴. For a nearest vector r = 2, by `near-le`.
-use mathlib.Core.Path.{_≡_, subst}
+use mathlib.Core.Path.{_≡_, sym, subst}
 use mathlib.Core.List.{List, [], _∷_}
 use Prim.Native.Nat.{ℕ, zero, suc, _*_, _≤_, _<_}
 use native.Mathlib.Nat.{le-of-suc-le-suc, not-suc-le-zero}
@@ -12,8 +12,8 @@ use Rattle.integers.specs.Ring.{*ℤ-assoc, *ℤ-left-comm}
 use Rattle.integers.specs.Order.{≤ℤ-trans, ≤ℤ-of-≡, pos-nonneg}
 use Rattle.integers.specs.Certificate.{NN, _⊞_, _⊠_, nn-pos, le, eq, by-nn}
 use Rattle.integers.specs.Size.{root}
-use Rattle.lattices.specs.Vector.{Vec, N, nth, dot, comb, _⊙_, _⊖_}
-use Rattle.lattices.specs.VectorLaws.{bilinear, dot-comm, N-nonneg}
+use Rattle.lattices.specs.Vector.{Vec, N, nth, dot, comb, _⊕_, _⊙_, _⊖_}
+use Rattle.lattices.specs.VectorLaws.{bilinear, dot-comm, N-⊖, N-nonneg, _≈_, ≈-refl, ≈-trans, ≈-⊕, ≈-N, comb-⊕, comb-⊙}
 use Rattle.lattices.specs.Volume.{squaredVolume}
 use Rattle.volumes.specs.Hadamard.{product, product-nonneg, *ℤ-mono-both}
 use Rattle.volumes.specs.Cramer.{put, sizes}
@@ -71,11 +71,25 @@ coefficient-≤ r m j x bs l h p k b = root (nth x j) (pos (r * 1600000000000000
 pub near-le : (t v : Vec) → N (t ⊖ v) ≤ℤ N t → N v ≤ℤ (pos 4 *ℤ N t)
 near-le t v h =
     by-nn (N t ∷ N v ∷ dot t v ∷ N (t ⊖ v) ∷ N (pos 2 ⊙ t ⊖ v) ∷ [])
-    (nn-pos 2 ⊠ le h ⊞ N-nonneg (pos 2 ⊙ t ⊖ v) ⊞ eq (pos 2) difference ⊞ eq (negsuc 0) twice)
+    (nn-pos 2 ⊠ le h ⊞ N-nonneg (pos 2 ⊙ t ⊖ v) ⊞ eq (pos 2) (N-⊖ t v) ⊞ eq (negsuc 0) twice)
     (search reads depth 20) (search reads depth 20) tt
   where
-    difference : N (t ⊖ v) ≡ N t -ℤ pos 2 *ℤ dot t v +ℤ N v
-    difference = simp (bilinear, dot-comm v t) (by-ring (N t ∷ N v ∷ dot t v ∷ []) (search reads depth 20) (search reads depth 20) tt)
-
     twice : N (pos 2 ⊙ t ⊖ v) ≡ pos 4 *ℤ N t -ℤ pos 4 *ℤ dot t v +ℤ N v
     twice = simp (bilinear, dot-comm v t) (by-ring (N t ∷ N v ∷ dot t v ∷ []) (search reads depth 20) (search reads depth 20) tt)
+
+-- the difference of two vectors of the lattice that are each within the limit
+pub difference-≤ : (m j : ℕ) (x y : List ℤ) (bs : List Vec) → length bs ≤ 4 → Short (pos 400000000) bs → pos 0 <ℤ squaredVolume m bs
+    → j < length bs → N (comb x bs) ≤ℤ pos 400000000 → N (comb y bs) ≤ℤ pos 400000000 → natAbs (nth (x ⊖ y) j) ≤ 320000000000000000
+difference-≤ m j x y bs l h p k a b = coefficient-≤ 2 m j (x ⊖ y) bs l h p k (subst (λ n. n ≤ℤ pos 1600000000) (sym (≈-N combined)) (apart (comb x bs) (comb y bs) a b))
+  where
+    combined : comb (x ⊖ y) bs ≈ comb x bs ⊖ comb y bs
+    combined = ≈-trans (comb-⊕ x (negsuc 0 ⊙ y) bs) (≈-⊕ (≈-refl {u = comb x bs}) (comb-⊙ (negsuc 0) y bs))
+
+    apart : (u v : Vec) → N u ≤ℤ pos 400000000 → N v ≤ℤ pos 400000000 → N (u ⊖ v) ≤ℤ pos 1600000000
+    apart u v a b =
+        by-nn (N u ∷ N v ∷ dot u v ∷ N (u ⊖ v) ∷ N (u ⊕ v) ∷ [])
+        (nn-pos 2 ⊠ le a ⊞ nn-pos 2 ⊠ le b ⊞ N-nonneg (u ⊕ v) ⊞ eq (negsuc 0) (N-⊖ u v) ⊞ eq (negsuc 0) plus)
+        (search reads depth 20) (search reads depth 20) tt
+      where
+        plus : N (u ⊕ v) ≡ N u +ℤ pos 2 *ℤ dot u v +ℤ N v
+        plus = simp (bilinear, dot-comm v u) (by-ring (N u ∷ N v ∷ dot u v ∷ []) (search reads depth 20) (search reads depth 20) tt)
