@@ -1,0 +1,2 @@
+-- The code of the catalogue against its definitions.
+pub mod Words
