@@ -1,2 +1,6 @@
 -- The code of the catalogue against its definitions.
 pub mod Words
+pub mod Parts
+pub mod Catalogues
+pub mod Filled
+pub mod Shown

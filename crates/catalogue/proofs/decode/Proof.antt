@@ -1,8 +1,15 @@
 -- One case for each kind.
+use borrow.Author.Needs.{needs}
 use Rattle.catalogues.specs.Word as words
 use Rattle.catalogue.specs.Words.{other-word}
 use Rattle.catalogue.proofs.decode.Statement.{statement}
 use Rattle.catalogue.proofs.decode.Tie as tie
+
+cast-t8 : tie.Need-cast-t8
+cast-t8 c = search needs
+
+cast-t10 : tie.Need-cast-t10
+cast-t10 c = search needs
 
 returns : tie.Need-returns
 unfolding words.decode
@@ -27,4 +34,4 @@ returns-5 c =
     other-word _ _ (r .0 .0 .0 .1) (r .0 .0 .1) (r .0 .1) (r .1)
 
 pub decode-spec : {M : Type 1} → statement M
-decode-spec = tie.close (tie.spec returns returns-2 returns-3 returns-4 returns-5)
+decode-spec = tie.close (tie.spec cast-t8 cast-t10 returns returns-2 returns-3 returns-4 returns-5)
