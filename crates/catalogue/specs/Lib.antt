@@ -4,3 +4,5 @@ pub mod Parts
 pub mod Catalogues
 pub mod Filled
 pub mod Shown
+pub mod Readings
+pub mod Turns
