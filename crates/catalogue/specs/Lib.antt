@@ -6,3 +6,4 @@ pub mod Filled
 pub mod Shown
 pub mod Readings
 pub mod Turns
+pub mod States
