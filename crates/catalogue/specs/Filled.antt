@@ -17,6 +17,11 @@ pub filled-none : {A : Type 0} (z : A) (n : ℕ) → replicate n z ≡ filled z 
 filled-none z zero = refl
 filled-none z (suc n) = ap (λ l. z ∷ l) (filled-none z n)
 
+pub length-filled : {A : Type 0} (z : A) (n : ℕ) (l : List A) → length (filled z n l) ≡ n
+length-filled z zero l = refl
+length-filled z (suc n) [] = ap suc (length-filled z n [])
+length-filled z (suc n) (x ∷ l) = ap suc (length-filled z n l)
+
 -- the next place is filled
 pub filled-next : {A : Type 0} (z : A) (n : ℕ) (l : List A) (x : A) → length l < n → set (filled z n l) (length l) x ≡ filled z n (l ++ (x ∷ []))
 filled-next z zero l x h = absurd (not-suc-le-zero h)

@@ -7,3 +7,4 @@ pub mod Shown
 pub mod Readings
 pub mod Turns
 pub mod States
+pub mod Room
