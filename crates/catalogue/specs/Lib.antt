@@ -8,3 +8,4 @@ pub mod Readings
 pub mod Turns
 pub mod States
 pub mod Room
+pub mod Store

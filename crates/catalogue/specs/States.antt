@@ -109,7 +109,7 @@ end-step es f p count = step-rows ((not (eqb count (length es)), 13) ∷ []) (cl
 
 -- ---- a whole entry
 
-last-snoc : (z : Entry) (es : List definition.Entry) (e : definition.Entry) → entryOf e ≡ lastOf z (es ++ (e ∷ []))
+pub last-snoc : (z : Entry) (es : List definition.Entry) (e : definition.Entry) → entryOf e ≡ lastOf z (es ++ (e ∷ []))
 last-snoc z [] e = refl
 last-snoc z (x ∷ es) e = last-snoc (entryOf x) es e
 
