@@ -1,6 +1,6 @@
 -- Arrays of which the first places are filled: the given members, then the empty one.
 use mathlib.Core.Path.{_≡_, refl, sym, ap}
-use mathlib.Core.List.{List, [], _∷_, _++_}
+use mathlib.Core.List.{List, [], _∷_, _++_, map}
 use Prim.Native.Nat.{ℕ, zero, suc, _<_}
 use native.Mathlib.Nat.{le-of-suc-le-suc, not-suc-le-zero}
 use lib.IntN.{ℤ, pos}
@@ -33,3 +33,7 @@ pub filled-padded : (n : ℕ) (l : List ℤ) → filled (pos 0) n l ≡ padded n
 filled-padded zero l = refl
 filled-padded (suc n) [] = ap (λ k. pos 0 ∷ k) (filled-padded n [])
 filled-padded (suc n) (x ∷ l) = ap (λ k. x ∷ k) (filled-padded n l)
+
+pub map-snoc : {A B : Type 0} (f : A → B) (l : List A) (x : A) → map f l ++ (f x ∷ []) ≡ map f (l ++ (x ∷ []))
+map-snoc f [] x = refl
+map-snoc f (y ∷ l) x = ap (λ k. f y ∷ k) (map-snoc f l x)

@@ -23,7 +23,7 @@ use Rattle.catalogue.specs.declared.Phase.the-variants.{Outside, Inside,
 use Rattle.catalogue.specs.declared.Entry.{Entry}
 use Rattle.catalogue.specs.declared.Part.{Part}
 use Rattle.catalogue.specs.declared.Reading.{Reading}
-use Rattle.catalogue.specs.Filled.{filled, filled-padded}
+use Rattle.catalogue.specs.Filled.{filled, filled-padded, map-snoc}
 use Rattle.catalogue.specs.Parts.{noEntry, noPart, started, putVector, whole}
 use Rattle.catalogue.specs.Shown.{partOf, entryOf, part-coordinate, part-vector}
 use Rattle.catalogue.specs.Readings.{isNumber, going, stopped, headRead, vectorPhase, vectorRead, columnRead, coordinateRead, entryRead, endRead, outsideRead, stepRead}
@@ -52,8 +52,8 @@ numbers es = map (λ e. e .head .number) es
 
 abbrev pub numbersOf : State → List ℕ
 numbersOf (outside es) = numbers es
-numbersOf (inside es h vs v) = numbers (withEntry es h vs none)
-numbersOf (after es h vs) = numbers (withEntry es h vs none)
+numbersOf (inside es h vs v) = numbers es ++ (h .number ∷ [])
+numbersOf (after es h vs) = numbers es ++ (h .number ∷ [])
 numbersOf (closed es) = numbers es
 
 -- what a step relies on
@@ -81,7 +81,7 @@ take-filled z n [] h = refl
 take-filled z zero (x ∷ l) h = absurd (not-suc-le-zero h)
 take-filled z (suc n) (x ∷ l) h = ap (λ k. x ∷ k) (take-filled z n l (le-of-suc-le-suc h))
 
-length-numbers : (es : List definition.Entry) → length (numbers es) ≡ length es
+pub length-numbers : (es : List definition.Entry) → length (numbers es) ≡ length es
 length-numbers [] = refl
 length-numbers (e ∷ es) = ap suc (length-numbers es)
 
@@ -164,7 +164,7 @@ step-shown (inside es h vs v) i (end count) fine = refl
 step-shown (inside es h vs v) i (other k l) fine = refl
 step-shown (after es h vs) i (head number d m) fine =
     let e : definition.Entry = record { head = h; vectors = vs; see = none } in
-    ap (λ s. headRead (filled 0 256 (numbers (withEntry es h vs none))) s number d m i) (entry-step es h vs none)
+    ap₂ (λ ns s. headRead (filled 0 256 ns) s number d m i) (map-snoc (λ e. e .head .number) es e) (entry-step es h vs none)
     ∙ head-step (withEntry es h vs none) Outside noPart number d m i (omega (arith, length-append es (e ∷ []), fine))
 step-shown (after es h vs) i (coordinate l) fine = refl
 step-shown (after es h vs) i (see number) fine = entry-step es h vs (some (record { number = number; place = i }))
