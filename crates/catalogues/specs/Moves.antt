@@ -46,7 +46,7 @@ pub data Moves : State → ℕ → Word → State → Type 0 where
   by-end : {s : State} {es : List Entry} {i : ℕ} → Between s es → Moves s i (end (length es)) (closed es)
 
 -- a step goes on so that Q holds, or stops with a number
-abbrev Going : (State → Type 0) → Step → Type 0
+abbrev pub Going : (State → Type 0) → Step → Type 0
 Going Q (next t) = Q t
 Going Q (stop n) = n ≢ 0
 
@@ -63,7 +63,7 @@ coordinate-moves es h vs v i l =
     checked-case (Going (Moves (inside es h vs v) i (coordinate l))) stop (coordinateRows h (v ++ (coordinateOf l ∷ [])) l) (next (withCoordinate es h vs (v ++ (coordinateOf l ∷ [])))) (λ n h. h) (omega arith)
     (λ p. by-coordinate es h vs v l p)
 
-moved : (s : State) (i : ℕ) (w : Word) → Going (Moves s i w) (step s i w)
+pub moved : (s : State) (i : ℕ) (w : Word) → Going (Moves s i w) (step s i w)
 unfolding step
 moved (outside es) i (head number d m) = head-moves (outside es) es (between es) (record { number = number; d = d; m = m; place = i })
 moved (outside es) i (coordinate l) = omega arith

@@ -44,13 +44,13 @@ eqb-turned a b e = ne-eqb b a (λ p. eqb-false a b e (sym p))
 -- ---- an entry more
 
 -- a head has been read after these entries
-record Headed (es : List Entry) (h : Head) : Type 0 where
-  entered : Entered es
-  few : length es < mostEntries
-  head : HeadFits h
-  new : any (isNumbered (h .number)) es ≡ false
+pub record Headed (es : List Entry) (h : Head) : Type 0 where
+  pub entered : Entered es
+  pub few : length es < mostEntries
+  pub head : HeadFits h
+  pub new : any (isNumbered (h .number)) es ≡ false
 
-abbrev Known : State → Type 0
+abbrev pub Known : State → Type 0
 Known (outside es) = Entered es
 Known (inside es h vs v) = Headed es h × All (VectorFits (h .m)) vs × (any (λ x. ltb mostSize (natAbs x)) v ≡ false)
 Known (after es h vs) = Headed es h × All (VectorFits (h .m)) vs × (length vs ≡ h .d)
@@ -73,7 +73,7 @@ with-entry es h vs s k =
 
 -- ---- a coordinate more
 
-load-within : (l : ℕ) → ltb mostLoad l ≡ false → ltb mostSize (natAbs (coordinateOf l)) ≡ false
+pub load-within : (l : ℕ) → ltb mostLoad l ≡ false → ltb mostSize (natAbs (coordinateOf l)) ≡ false
 load-within l e =
     let h = ltb-false mostLoad l e in
     le-ltb mostSize _ (sub-ind (λ z. natAbs z ≤ mostSize) l mostSize (λ k. omega arith) (λ k. omega arith))
@@ -103,7 +103,7 @@ number-fits n h e =
     let z : n ≢ 0 = eqb-false n 0 e in
     ap₂ _&&_ (le-leb 1 n (omega arith)) (le-leb n mostNumber (omega arith))
 
-known-moves : {s t : State} {i : ℕ} {w : Word} → Moves s i w t → InRange w → Known s → Known t
+pub known-moves : {s t : State} {i : ℕ} {w : Word} → Moves s i w t → InRange w → Known s → Known t
 known-moves (by-head {es} h b p) r k =
     let n = neither (eqb (h .number) 0) (any (isNumbered (h .number)) es) (p .1 .1 .1 .0) in (
       record {

@@ -161,7 +161,7 @@ pub fn dependent(b: [[i64; 4]; 4], d: usize) -> bool
 }
 
 // Whether a count is from 1 to the most that is allowed.
-fn one_to(most: usize, n: usize) -> bool
+pub fn one_to(most: usize, n: usize) -> bool
     ensures { λ r. ⌜ r ≡ oneTo most n ⌝ }
 {
     1 <= n && n <= most
