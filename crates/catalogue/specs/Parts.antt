@@ -1,6 +1,5 @@
 -- An entry while it is read, and when it is whole, as the code stores them: what each operation does to the stored fields.
 use mathlib.Core.Bool.{Bool, false}
-use mathlib.Core.List.{List, [], _∷_}
 use Prim.Native.Nat.{ℕ, _+_}
 use lib.IntN.{ℤ, pos}
 use lib.ListN.{set, replicate}

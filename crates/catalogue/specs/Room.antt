@@ -1,22 +1,22 @@
 -- A state reached by steps has room for the next one.
-use mathlib.Core.Path.{_≡_, refl, sym, ap, _∙_}
+use mathlib.Core.Path.{_≡_, refl}
 use mathlib.Core.Logic.{_≢_}
-use mathlib.Core.Bool.{Bool, true, false, not, _&&_}
+use mathlib.Core.Bool.{Bool, true, false}
 use mathlib.Core.List.{List, [], _∷_, _++_}
-use mathlib.Core.Option.{Option, none, some}
-use Prim.Native.Nat.{ℕ, zero, suc, _+_, _*_, _≤_, _<_}
+use mathlib.Core.Option.{some}
+use Prim.Native.Nat.{ℕ, _*_, _≤_, _<_}
 use native.Mathlib.Nat.{mul-le-mul-right}
 use native.Mathlib.Omega.{arith}
-use lib.Dec.{leb, eqb}
+use lib.Dec.{eqb}
 use lib.ListN.{length, length-append}
-use borrow.Author.Tests.{eqb-false, leb-true, not-false}
+use borrow.Author.Tests.{eqb-false, not-false}
 use Rattle.lattices.specs.Vector.{Vec}
-use Rattle.lattices.specs.Refusal.{oneTo}
 use Rattle.integers.specs.All.{All}
+use Rattle.lattices.specs.RefusalLaws.{one-to}
 use Rattle.catalogues.specs.Word.{Word}
 use Rattle.catalogues.specs.Catalogue as definition
 use Rattle.catalogues.specs.Catalogue.{Head, coordinates}
-use Rattle.catalogues.specs.Read.{State, outside, inside, after, closed, coordinateOf, withEntry, withVector, withCoordinate}
+use Rattle.catalogues.specs.Read.{State, outside, inside, after, closed, coordinateOf, withVector, withCoordinate}
 use Rattle.catalogues.specs.Form.{VectorFits}
 use Rattle.catalogues.specs.Moves.{Moves, by-head, by-coordinate, by-see, by-end}
 use Rattle.catalogues.specs.WellFormed.{Known}
@@ -32,16 +32,6 @@ Due (after es h vs) = Unit {0}
 Due (closed es) = Unit {0}
 
 -- ---- limits of a head
-
-both : (s t : Bool) → (s && t) ≡ true → (s ≡ true) × (t ≡ true)
-both true t e = (refl, e)
-both false t e = absurd (let z : _≡_ {A = ℕ} 0 1 = cc in omega arith)
-
-pub at-least : (n : ℕ) → oneTo 4 n ≡ true → 1 ≤ n
-at-least n e = leb-true 1 n (both (leb 1 n) (leb n 4) e .0)
-
-pub at-most : (n : ℕ) → oneTo 4 n ≡ true → n ≤ 4
-at-most n e = leb-true n 4 (both (leb 1 n) (leb n 4) e .1)
 
 -- ---- what is due is kept
 
@@ -65,9 +55,9 @@ module _ (es : List definition.Entry) (h : Head) (vs : List Vec) (u : Vec) (some
           (rows, omega (arith, columns, n))
 
 pub due-moves : {s t : State} {i : ℕ} {w : Word} → Moves s i w t → Known s → Due s → Due t
-due-moves (by-head h b p) k d = (at-least (h .d) (not-false _ (p .1 .0)), at-least (h .m) (not-false _ (p .1 .1 .0)))
+due-moves (by-head h b p) k d = (one-to 4 (h .d) (not-false _ (p .1 .0)) .0, one-to 4 (h .m) (not-false _ (p .1 .1 .0)) .0)
 due-moves (by-coordinate es h vs v l p) k d =
-    due-coordinate es h vs (v ++ (coordinateOf l ∷ [])) (at-least (h .m) (k .0 .head .m)) (d .0) (omega (arith, length-append v (coordinateOf l ∷ []), d .1))
+    due-coordinate es h vs (v ++ (coordinateOf l ∷ [])) (one-to 4 (h .m) (k .0 .head .m) .0) (d .0) (omega (arith, length-append v (coordinateOf l ∷ []), d .1))
 due-moves (by-see es h vs s) k d = tt
 due-moves (by-end b) k d = tt
 
@@ -79,19 +69,19 @@ length-coordinates m (v ∷ vs) f = omega (arith, length-append v (coordinates v
 
 places : (es : List definition.Entry) (h : Head) (vs : List Vec) (v : Vec) → Known (inside es h vs v) → Due (inside es h vs v) → length (coordinates vs ++ v) < 16
 places es h vs v k d =
-    let dm = at-most (h .d) (k .0 .head .d) in
-    let mm = at-most (h .m) (k .0 .head .m) in
+    let dm = one-to 4 (h .d) (k .0 .head .d) .1 in
+    let mm = one-to 4 (h .m) (k .0 .head .m) .1 in
     let r : length vs ≤ 3 = omega (arith, d .0, dm) in
     omega (arith, length-append (coordinates vs) v, length-coordinates (h .m) vs (k .1), mul-le-mul-right (h .m) r, d .1, mm)
 
 pub fine : (s : State) → Known s → Due s → Fine s
 fine (outside es) k d = k .few
-fine (inside es h vs v) k d = (omega (arith, d .1, at-most (h .m) (k .0 .head .m)), places es h vs v k d, k .2)
+fine (inside es h vs v) k d = (omega (arith, d .1, one-to 4 (h .m) (k .0 .head .m) .1), places es h vs v k d, k .2)
 fine (after es h vs) k d = k .0 .few
 fine (closed es) k d = k .few
 
 pub ready : (s : State) → Known s → Due s → Ready (filled 0 256 (numbersOf s)) (readingOf s)
 ready (outside es) k d = record { room = omega (arith, length-filled 0 256 (numbersOf (outside es)), k .few) }
-ready (inside es h vs v) k d = record { room = (omega (arith, d .0, at-most (h .d) (k .0 .head .d)), (omega (arith, d .1, at-most (h .m) (k .0 .head .m)), places es h vs v k d)) }
+ready (inside es h vs v) k d = record { room = (omega (arith, d .0, one-to 4 (h .d) (k .0 .head .d) .1), (omega (arith, d .1, one-to 4 (h .m) (k .0 .head .m) .1), places es h vs v k d)) }
 ready (after es h vs) k d = record { room = (k .0 .few, omega (arith, length-filled 0 256 (numbersOf (after es h vs)), k .0 .few)) }
 ready (closed es) k d = record { room = tt }

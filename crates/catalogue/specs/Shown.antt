@@ -3,9 +3,7 @@ use mathlib.Core.Path.{_≡_, refl, sym, ap, ap₂, _∙_}
 use mathlib.Core.Bool.{Bool, true, false}
 use mathlib.Core.List.{List, [], _∷_, _++_, append-nil, append-assoc}
 use mathlib.Core.Option.{Option, none, some}
-use Prim.Native.Nat.{ℕ, zero, suc, _+_, _<_}
-use native.Mathlib.Numerals.{add-one}
-use native.Mathlib.Omega.{arith}
+use Prim.Native.Nat.{ℕ, _+_, _<_}
 use lib.IntN.{ℤ, pos}
 use lib.ListN.{length, set, length-append}
 use Rattle.lattices.specs.Vector.{Vec}
@@ -14,7 +12,7 @@ use Rattle.catalogues.specs.Catalogue.{Head, See, coordinates}
 use Rattle.catalogue.specs.declared.Entry.{Entry}
 use Rattle.catalogue.specs.declared.Part.{Part}
 use Rattle.catalogue.specs.Filled.{filled, filled-next}
-use Rattle.catalogue.specs.Parts.{noEntry, noPart, started, putCoordinate, putVector, whole}
+use Rattle.catalogue.specs.Parts.{started, putCoordinate, putVector, whole}
 
 -- an entry's head, its whole vectors and the vector being read
 abbrev pub partOf : Head → List Vec → Vec → Part

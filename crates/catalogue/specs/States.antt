@@ -7,7 +7,7 @@ use Prim.Native.Nat.{ℕ, zero, suc, _+_, _≤_, _<_}
 use native.Mathlib.Nat.{le-of-suc-le-suc, not-suc-le-zero}
 use native.Mathlib.Omega.{arith}
 use lib.Dec.{leb, ltb, eqb}
-use lib.IntN.{ℤ, pos, natAbs}
+use lib.IntN.{pos, natAbs}
 use lib.ListN.{length, take, length-append}
 use lib.Signed.{ltZ}
 use Rattle.lattices.specs.Vector.{Vec, N}
@@ -16,7 +16,7 @@ use Rattle.checks.specs.Padded.{tooLong-padded}
 use Rattle.catalogues.specs.Word.{Word, head, coordinate, see, end, other}
 use Rattle.catalogues.specs.Catalogue as definition
 use Rattle.catalogues.specs.Catalogue.{Head, See, coordinates}
-use Rattle.catalogues.specs.Read.{State, outside, inside, after, closed, Step, next, stop, checked, isNumbered, withEntry, headRows, atHead, coordinateOf, withVector, withCoordinate, atCoordinate, atEnd, step}
+use Rattle.catalogues.specs.Read.{State, outside, inside, after, closed, Step, next, stop, checked, isNumbered, withEntry, headRows, atHead, coordinateOf, withVector, atCoordinate, atEnd, step}
 use Rattle.catalogues.specs.WellFormed.{any-snoc, load-within}
 use Rattle.catalogue.specs.declared.Phase.{Phase}
 use Rattle.catalogue.specs.declared.Phase.the-variants.{Outside, Inside, After, Closed}
@@ -24,9 +24,9 @@ use Rattle.catalogue.specs.declared.Entry.{Entry}
 use Rattle.catalogue.specs.declared.Part.{Part}
 use Rattle.catalogue.specs.declared.Reading.{Reading}
 use Rattle.catalogue.specs.Filled.{filled, filled-padded, map-snoc}
-use Rattle.catalogue.specs.Parts.{noEntry, noPart, started, putVector, whole}
+use Rattle.catalogue.specs.Parts.{noEntry, noPart, started, whole}
 use Rattle.catalogue.specs.Shown.{partOf, entryOf, part-coordinate, part-vector}
-use Rattle.catalogue.specs.Readings.{isNumber, going, stopped, headRead, vectorPhase, vectorRead, columnRead, coordinateRead, entryRead, endRead, outsideRead, stepRead}
+use Rattle.catalogue.specs.Readings.{isNumber, going, stopped, headRead, vectorPhase, vectorRead, columnRead, coordinateRead, endRead, stepRead}
 
 -- the last of some entries, or z
 abbrev pub lastOf : Entry → List definition.Entry → Entry

@@ -2,17 +2,17 @@
 use mathlib.Core.Path.{_≡_, refl, sym, ap, ap₂, _∙_}
 use mathlib.Core.Bool.{Bool, true, false, cond}
 use mathlib.Core.List.{List, [], _∷_, _++_, map}
-use mathlib.Core.Option.{Option, none, some}
-use Prim.Native.Nat.{ℕ, zero, suc, _+_, _≤_, _<_}
+use mathlib.Core.Option.{none, some}
+use Prim.Native.Nat.{ℕ, _<_}
 use native.Mathlib.Omega.{arith}
 use lib.Dec.{ltb, eqb}
-use lib.ListN.{length, set, length-append}
+use lib.ListN.{length, set, length-append, length-map}
 use borrow.Author.Tests.{lt-ltb, le-ltb, leb-false}
 use Rattle.lattices.specs.Vector.{Vec}
 use Rattle.catalogues.specs.Word.{Word, head, coordinate, see, end, other}
 use Rattle.catalogues.specs.Catalogue as definition
-use Rattle.catalogues.specs.Catalogue.{Head, See}
-use Rattle.catalogues.specs.Read.{State, outside, inside, after, closed, coordinateOf, withEntry, withVector, withCoordinate}
+use Rattle.catalogues.specs.Catalogue.{Head}
+use Rattle.catalogues.specs.Read.{State, outside, inside, after, closed, coordinateOf, withVector, withCoordinate}
 use Rattle.catalogues.specs.Moves.{Moves, by-head, by-coordinate, by-see, by-end, Between, between, unreferred}
 use Rattle.catalogue.specs.declared.Entry.{Entry}
 use Rattle.catalogue.specs.declared.Reading.{Reading}
@@ -35,10 +35,6 @@ stored es = filled noEntry 256 (map entryOf es)
 abbrev pub put : List Entry → Reading → Reading → List Entry
 put l s t = cond (ltb (s .count) (t .count)) (set l (s .count) (t .last)) l
 
-length-mapped : {A B : Type 0} (f : A → B) (l : List A) → length (map f l) ≡ length l
-length-mapped f [] = refl
-length-mapped f (x ∷ l) = ap suc (length-mapped f l)
-
 -- no entry more, or one
 module _ (es : List definition.Entry) where
   same : cond (ltb (length es) (length es)) (set (stored es) (length es) (lastOf noEntry es)) (stored es) ≡ stored es
@@ -48,8 +44,8 @@ module _ (es : List definition.Entry) where
       → cond (ltb (length es) (length (es ++ (e ∷ [])))) (set (stored es) (length es) (lastOf noEntry (es ++ (e ∷ [])))) (stored es) ≡ stored (es ++ (e ∷ []))
   more e h =
       ap (λ t. cond t (set (stored es) (length es) (lastOf noEntry (es ++ (e ∷ [])))) (stored es)) (lt-ltb (length es) (length (es ++ (e ∷ []))) (omega (arith, length-append es (e ∷ []))))
-      ∙ ap₂ (λ n x. set (stored es) n x) (sym (length-mapped entryOf es)) (sym (last-snoc noEntry es e))
-      ∙ filled-next noEntry 256 (map entryOf es) (entryOf e) (omega (arith, length-mapped entryOf es))
+      ∙ ap₂ (λ n x. set (stored es) n x) (sym (length-map es entryOf)) (sym (last-snoc noEntry es e))
+      ∙ filled-next noEntry 256 (map entryOf es) (entryOf e) (omega (arith, length-map es entryOf))
       ∙ ap (filled noEntry 256) (map-snoc entryOf es e)
 
 module _ (es : List definition.Entry) (h : Head) (vs : List Vec) (v u : Vec) where

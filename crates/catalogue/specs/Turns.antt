@@ -1,17 +1,17 @@
 -- The turns that the code takes, each with what it has tested, against the stored state of reading.
-use mathlib.Core.Path.{_≡_, refl, sym, ap, ap₂, _∙_, subst}
+use mathlib.Core.Path.{_≡_, sym, ap, ap₂, _∙_, subst}
 use mathlib.Core.Bool.{Bool, true, false, not, _||_}
 use mathlib.Core.List.{List, [], _∷_}
 use Prim.Native.Nat.{ℕ, _+_, _^_, _<_}
 use native.Mathlib.Omega.{arith}
 use lib.Dec.{leb, ltb, eqb}
-use lib.IntN.{ℤ, pos, _-ℤ_}
+use lib.IntN.{pos, _-ℤ_}
 use lib.ListN.{take}
 use mir.Syntax.{w64}
 use mir.Val.{SFits, ofZ, toZ}
 use mir.Facts.{toZ-ofZ, toZ-pos}
 use borrow.Author.Tests.{eq-eqb, ne-eqb}
-use Rattle.integers.specs.Size.{Within, within-sub, fits-within}
+use Rattle.integers.specs.Size.{within-sub, fits-within}
 use Rattle.lattices.specs.Refusal.{any, oneTo, tooLong}
 use Rattle.catalogues.specs.Read.{checked, coordinateOf}
 use Rattle.catalogue.specs.declared.Phase.{Phase}

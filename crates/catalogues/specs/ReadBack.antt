@@ -19,7 +19,8 @@ use Rattle.catalogues.specs.Moves.{Between, between}
 use Rattle.catalogues.specs.RoundTrip.{same-entries}
 use Rattle.catalogues.specs.WellFormed.{well-formed}
 use Rattle.catalogues.specs.ReadVectors.{passes, one-word, at-end}
-use Rattle.catalogues.specs.ReadEntries.{SeeFits, one-to, pastEntries, New, entries-read}
+use Rattle.lattices.specs.RefusalLaws.{one-to}
+use Rattle.catalogues.specs.ReadEntries.{SeeFits, pastEntries, New, entries-read}
 use Rattle.catalogues.specs.WrittenSize.{words-small, length-written}
 
 -- ---- see words

@@ -1,16 +1,17 @@
 -- Reading entries that were written: a head, its vectors and its see word, entry by entry, each at its place.
 use mathlib.Core.Path.{_≡_, refl, sym, ap, ap₂, _∙_, subst}
-use mathlib.Core.Bool.{Bool, true, false, not, _&&_, _||_, true≢false}
+use mathlib.Core.Bool.{false, not, _||_}
 use mathlib.Core.List.{List, [], _∷_, _++_, map, append-assoc, append-nil, map-append}
 use mathlib.Core.Option.{Option, none, some}
 use Prim.Native.Nat.{ℕ, suc, _+_, _^_, _≤_, _<_}
 use native.Mathlib.Omega.{arith}
-use lib.Dec.{leb}
 use lib.ListN.{length, length-append}
 use lib.Seq.{append-snoc}
-use borrow.Author.Tests.{ne-eqb, lt-leb, leb-true}
+use borrow.Author.Tests.{ne-eqb, lt-leb}
 use Rattle.lattices.specs.Vector.{Vec}
-use Rattle.lattices.specs.Refusal.{any, oneTo, mostVectors, mostCoordinates}
+use Rattle.lattices.specs.Refusal.{any, mostVectors, mostCoordinates}
+use Rattle.integers.specs.Tests.{neither}
+use Rattle.lattices.specs.RefusalLaws.{one-to}
 use Rattle.integers.specs.All.{All}
 use Rattle.catalogues.specs.Word.{head, see, encode}
 use Rattle.catalogues.specs.WordLaws.{InRange}
@@ -20,7 +21,7 @@ use Rattle.catalogues.specs.Write.{headWord, coordinateWord, seeWords, e
 use Rattle.catalogues.specs.Form.{mostNumber, HeadFits, EntryFits, Distinct, seeAt, pastSee, pastVectors, headAt, entryAt, placed}
 use Rattle.catalogues.specs.Moves.{NoneOf, Between, between, unreferred}
 use Rattle.catalogues.specs.ReadVectors.{encoded, one-word, at-head, all-vectors}
-use Rattle.catalogues.specs.WellFormed.{neither, any-snoc, eqb-turned}
+use Rattle.catalogues.specs.WellFormed.{any-snoc, eqb-turned}
 
 -- ---- an entry
 
@@ -41,13 +42,6 @@ seen es h vs i none words p = record { state = after es h vs; here = unreferred 
 seen es h vs i (some s) words p =
     let fs = withEntry es h vs (seeAt i (some s)) in
     record { state = outside fs; here = between fs; same = one-word (after es h vs) (outside fs) i (see (s .number)) words p refl }
-
-both : (s t : Bool) → (s && t) ≡ true → (s ≡ true) × (t ≡ true)
-both true t e = (refl, e)
-both false t e = absurd (true≢false (sym e))
-
-pub one-to : (most n : ℕ) → oneTo most n ≡ true → (1 ≤ n) × (n ≤ most)
-one-to most n e = let p = both (leb 1 n) (leb n most) e in (leb-true 1 n (p .0), leb-true n most (p .1))
 
 head-passes : (es : List Entry) (h : Head) → HeadFits h → length es < mostEntries → any (isNumbered (h .number)) es ≡ false → NoneOf (headRows es h)
 head-passes es h p few new =

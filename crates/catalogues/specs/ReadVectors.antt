@@ -23,7 +23,7 @@ use Rattle.catalogues.specs.Read.{State, inside, after, closed, next, st
 use Rattle.catalogues.specs.Write.{headWord, coordinateWord}
 use Rattle.catalogues.specs.Form.{VectorFits}
 use Rattle.catalogues.specs.Moves.{NoneOf, Between, between, unreferred}
-use Rattle.catalogues.specs.WellFormed.{neither}
+use Rattle.integers.specs.Tests.{neither}
 
 -- ---- one word
 

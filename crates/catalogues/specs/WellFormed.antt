@@ -15,6 +15,7 @@ use Rattle.integers.specs.Order.{sub-ind}
 use Rattle.lattices.specs.Vector.{Vec, N}
 use Rattle.lattices.specs.Volume.{isDependent}
 use Rattle.lattices.specs.Refusal.{any, oneTo, mostSquare, mostSize}
+use Rattle.integers.specs.Tests.{neither}
 use Rattle.integers.specs.All.{All}
 use Rattle.catalogues.specs.All.{all-snoc}
 use Rattle.catalogues.specs.Word.{Word, head}
@@ -25,10 +26,6 @@ use Rattle.catalogues.specs.WordLaws.{InRange, decode-range}
 use Rattle.catalogues.specs.Moves.{Between, between, unreferred, Moves, by-head, by-coordinate, by-see, by-end, kept-to-end}
 
 -- ---- tests
-
-pub neither : (s t : Bool) → (s || t) ≡ false → (s ≡ false) × (t ≡ false)
-neither true t e = absurd (true≢false e)
-neither false t e = (refl, e)
 
 rest-false : (s t : Bool) → (s && t) ≡ false → s ≡ true → t ≡ false
 rest-false true t e f = e

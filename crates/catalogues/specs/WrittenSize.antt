@@ -18,9 +18,10 @@ use Rattle.catalogues.specs.WordLaws.{length-bytes}
 use Rattle.catalogues.specs.Catalogue.{Head, See, Entry, coordinates, mostEntries, mostBytes}
 use Rattle.catalogues.specs.Write.{headWord, coordinateWord, seeWords, entryWords, entriesWords, catalogueWords}
 use Rattle.catalogues.specs.Form.{HeadFits, VectorFits, EntryFits}
-use Rattle.catalogues.specs.WellFormed.{neither}
+use Rattle.integers.specs.Tests.{neither}
 use Rattle.catalogues.specs.ReadVectors.{load-most}
-use Rattle.catalogues.specs.ReadEntries.{SeeFits, one-to, head-range}
+use Rattle.lattices.specs.RefusalLaws.{one-to}
+use Rattle.catalogues.specs.ReadEntries.{SeeFits, head-range}
 
 abbrev pub Small : Word → Type 0
 Small w = encode w < 2 ^ 32

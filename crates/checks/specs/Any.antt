@@ -1,6 +1,6 @@
 -- `any` of a list, as a loop decides it from place to place, and a coordinate's limit as code tests it.
 use mathlib.Core.Path.{_≡_, refl, ap}
-use mathlib.Core.Bool.{Bool, true, false, _||_}
+use mathlib.Core.Bool.{Bool, true, false}
 use mathlib.Core.List.{List, [], _∷_}
 use Prim.Native.Nat.{ℕ, zero, suc, _+_, _≤_, _<_}
 use native.Mathlib.Numerals.{add-one}
@@ -13,6 +13,7 @@ use lib.Signed.{ltZ}
 use borrow.Author.Tests.{ltb-true, ltb-false, lt-ltb, le-ltb}
 use Rattle.integers.specs.Size.{Within}
 use Rattle.lattices.specs.Vector.{Vec, nth}
+use Rattle.integers.specs.Tests.{neither}
 use Rattle.lattices.specs.Refusal.{any, mostSize}
 
 -- ---- from place i on
@@ -27,10 +28,6 @@ pub any-end : {A : Type 0} (f : A → Bool) (l : List A) (i : ℕ) → length l 
 any-end f l i h = ap (any f) (drop-of-length-le l h)
 
 -- where none is, no entry is one; the default stands beyond the end
-pub neither : (s t : Bool) → (s || t) ≡ false → (s ≡ false) × (t ≡ false)
-neither true t e = absurd (let z : _≡_ {A = ℕ} 0 1 = cc in omega arith)
-neither false t e = (refl, e)
-
 pub any-none : {A : Type 0} (f : A → Bool) (x : A) → f x ≡ false → (l : List A) → any f l ≡ false → (i : ℕ) → f (getD l i x) ≡ false
 any-none f x d [] e i = d
 any-none f x d (y ∷ l) e zero = neither (f y) (any f l) e .0

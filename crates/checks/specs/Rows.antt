@@ -1,32 +1,23 @@
 -- The rows of the array against the vectors of the input: the same are too long, and the same lists are dependent.
 use mathlib.Core.Path.{_≡_, refl, sym, ap, _∙_, subst}
-use mathlib.Core.Bool.{Bool, true, false, _&&_}
+use mathlib.Core.Bool.{false}
 use mathlib.Core.List.{List, [], map}
 use Prim.Native.Nat.{ℕ, _≤_, _<_}
 use native.Mathlib.Nat.{le-trans}
-use native.Mathlib.Omega.{arith}
-use lib.Dec.{leb}
 use lib.IntN.{ℤ, pos}
 use lib.ListN.{getD, take}
 use lib.Seq.{getD-take}
 use lib.Signed.{_≤ℤ_}
-use borrow.Author.Tests.{leb-true}
 use Rattle.integers.specs.Order.{ltZ-false}
 use Rattle.lattices.specs.Vector.{Vec, N, dot}
 use Rattle.lattices.specs.Volume.{isDependent}
-use Rattle.lattices.specs.Refusal.{any, tooLong, oneTo, vectorsOf}
+use Rattle.lattices.specs.Refusal.{any, tooLong, vectorsOf}
 use Rattle.lattices.specs.Answer.{padded, table}
 use Rattle.volumes.specs.Dependence.{Fit}
-use Rattle.checks.specs.Any.{beyond, neither, any-none}
+use Rattle.checks.specs.Any.{beyond, any-none}
+use Rattle.integers.specs.Tests.{neither}
 use Rattle.checks.specs.Padded.{fit-vectorsOf, any-long-padded, isDependent-padded}
 use Rattle.lattices.specs.AnswerLaws.{length-vectorsOf, table-rows}
-
-both : (s t : Bool) → (s && t) ≡ true → t ≡ true
-both true t e = e
-both false t e = absurd (let z : _≡_ {A = ℕ} 0 1 = cc in omega arith)
-
-pub one-to-≤ : (most n : ℕ) → oneTo most n ≡ true → n ≤ most
-one-to-≤ most n e = leb-true n most (both (leb 1 n) (leb n most) e)
 
 nil-short : tooLong [] ≡ false
 unfolding dot

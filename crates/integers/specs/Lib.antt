@@ -9,6 +9,7 @@ pub mod Division
 pub mod Sign
 pub mod Size
 pub mod All
+pub mod Tests
 pub mod Lists
 pub mod Lex
 pub mod Examples

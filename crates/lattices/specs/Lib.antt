@@ -7,5 +7,6 @@ pub mod Nearest
 pub mod Greedy
 pub mod Refusal
 pub mod Answer
+pub mod RefusalLaws
 pub mod AnswerLaws
 pub mod KnownResults

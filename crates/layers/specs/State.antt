@@ -6,7 +6,7 @@ use mathlib.Core.List.{List, [], _∷_, _++_}
 use Prim.Native.Nat.{ℕ, zero, suc, _+_, _≤_, _<_}
 use native.Mathlib.Omega.{arith}
 use native.Mathlib.Decide.{decLt}
-use lib.Dec.{T, ltb→lt}
+use lib.Dec.{T}
 use lib.IntN.{ℤ, pos, negsuc, negℤ, natAbs, _+ℤ_, _*ℤ_}
 use lib.ListN.{length, getD, take, replicate, length-append, List·getD-eq-default}
 use lib.Signed.{_≤ℤ_, _<ℤ_, ≤ℤ-refl}
@@ -23,15 +23,16 @@ use Rattle.volumes.specs.Sizes.{coefficient-≤, near-le}
 use Rattle.minima.specs.Values.{gain, change}
 use Rattle.minima.specs.ValueLaws.{gain-is, residual-⊕, least-of}
 use Rattle.minima.specs.ReducedLaws.{reduced-last}
-use Rattle.minima.specs.Digits.{Bounded, zeros, power, number, falls}
+use Rattle.minima.specs.Digits.{Bounded, zeros, power, number, falls, power-nonneg}
 use Rattle.minima.specs.Layers.{Layer, layers}
 use Rattle.minima.specs.NearestLaws.{ended, nearest-only}
 use Rattle.search.specs.Filled.{zero-row}
+use Rattle.search.specs.State.{smaller, gain-residual}
 use Rattle.search.specs.Searchable.{width, volume-positive}
 use Rattle.rows.specs.Minus.{room}
 use Rattle.layers.specs.declared.Step.{Step}
 use Rattle.layers.specs.Near.{Near, Four, four, four-is}
-use Rattle.layers.specs.Steps.{Better, gain-residual}
+use Rattle.layers.specs.Steps.{Better}
 
 pub record State (vs : List Vec) (b t : Vec) (x r : List ℤ) : Type 0 where
   pub rest : r ≈ t ⊖ comb x (vs ++ (b ∷ []))
@@ -54,22 +55,13 @@ lift (suc n) = pos 320000000000000000 *ℤ power base n +ℤ lift n
 pub measure : List ℤ → Vec → ℕ
 measure x r = natAbs (number base (N r ∷ x) +ℤ lift (length x))
 
-power-nonneg : (n : ℕ) → NN (power base n)
-power-nonneg zero = nn-pos 1
-power-nonneg (suc n) = nn-pos 48000000000001 ⊠ power-nonneg n
-
 number-lower : (x : List ℤ) → Bounded 320000000000000000 x → NN (number base x +ℤ lift (length x))
 unfolding lift
 number-lower [] h = nn-pos 0
-number-lower (y ∷ x) h = law y (pos 320000000000000000) (power base (length x)) (number base x) (lift (length x)) (within-lower (h 0)) (power-nonneg (length x)) (number-lower x (λ i. h (suc i)))
+number-lower (y ∷ x) h = law y (pos 320000000000000000) (power base (length x)) (number base x) (lift (length x)) (within-lower (h 0)) (power-nonneg 48000000000000 (length x)) (number-lower x (λ i. h (suc i)))
   where
     law : (y c p n l : ℤ) → negℤ c ≤ℤ y → NN p → NN (n +ℤ l) → NN (y *ℤ p +ℤ n +ℤ (c *ℤ p +ℤ l))
     law y c p n l h k m = nn-ring (y ∷ c ∷ p ∷ n ∷ l ∷ []) (le h ⊠ k ⊞ m) (search reads depth 8) (search reads depth 8) tt
-
-smaller : {a b : ℤ} → NN a → a <ℤ b → natAbs a < natAbs b
-smaller {a = pos m} {b = pos n} h l = ltb→lt m n (l .lt)
-smaller {a = pos m} {b = negsuc n} h l = absurd (l .lt)
-smaller {a = negsuc m} h l = absurd (h .le)
 
 module _ (vs : List Vec) (b t : Vec) (v : Four vs b) (short : N t ≤ℤ pos 400000000) where
   bs : List Vec
@@ -121,7 +113,7 @@ module _ (vs : List Vec) (b t : Vec) (v : Four vs b) (short : N t ≤ℤ pos 400
     pub descends : measure (x ⊕ e .list) (e .rest) < measure x r
     unfolding measure
     descends = smaller
-        (above (N (e .rest)) (power base (length (x ⊕ e .list))) (number base (x ⊕ e .list)) (lift (length (x ⊕ e .list))) (N-nonneg (e .rest)) (power-nonneg (length (x ⊕ e .list))) (number-lower (x ⊕ e .list) (small (x ⊕ e .list) (e .rest) next)))
+        (above (N (e .rest)) (power base (length (x ⊕ e .list))) (number base (x ⊕ e .list)) (lift (length (x ⊕ e .list))) (N-nonneg (e .rest)) (power-nonneg 48000000000000 (length (x ⊕ e .list))) (number-lower (x ⊕ e .list) (small (x ⊕ e .list) (e .rest) next)))
         (raised (number base (N (e .rest) ∷ (x ⊕ e .list))) (number base (N r ∷ x)) (ap lift (length-⊕-same x (e .list) counted)) fewer)
       where
         fewer : number base (N (e .rest) ∷ (x ⊕ e .list)) <ℤ number base (N r ∷ x)

@@ -5,7 +5,6 @@ use mathlib.Core.Bool.{true, false}
 use mathlib.Core.List.{List, [], _∷_, _++_}
 use Prim.Native.Nat.{ℕ, zero, suc, _≤_, _<_}
 use native.Mathlib.Omega.{arith}
-use lib.Dec.{T}
 use lib.IntN.{ℤ, pos, negsuc, natAbs, _+ℤ_, _-ℤ_, _*ℤ_}
 use lib.ListN.{length, length-append}
 use lib.Signed.{ltZ, _≤ℤ_, _<ℤ_}
@@ -15,7 +14,7 @@ use Rattle.integers.specs.Certificate.{le, lt, by-nn, by-lt}
 use Rattle.integers.specs.Size.{Within}
 use Rattle.integers.specs.Lex.{below, Nonneg}
 use Rattle.lattices.specs.Vector.{Vec, N, nth, dot, comb, _⊙_, _⊖_}
-use Rattle.lattices.specs.VectorLaws.{_≈_, ≈-refl, ≈-trans, ≈-of-≡, ≈-dot, ≈-N, bilinear, comb-snoc}
+use Rattle.lattices.specs.VectorLaws.{_≈_, ≈-trans, ≈-of-≡, ≈-N, bilinear, comb-snoc}
 use Rattle.lattices.specs.Nearest.{nearest}
 use Rattle.lattices.specs.Answer.{padded}
 use Rattle.minima.specs.Values.{gain, change}
@@ -24,6 +23,8 @@ use Rattle.minima.specs.NearestLaws.{nearest-least, nearest-count}
 use Rattle.minima.specs.Digits.{Bounded, zeros, not-below-nonneg}
 use Rattle.minima.specs.Layers.{Layer, layer-by-search}
 use Rattle.search.specs.Numbers.{negative}
+use Rattle.search.specs.State.{gain-residual}
+use Rattle.search.specs.Found.{no-such}
 use Rattle.search.specs.Searchable.{Given}
 use Rattle.layers.specs.declared.Step.{Step}
 use Rattle.layers.specs.Near.{nearest-small}
@@ -76,10 +77,6 @@ more n m = pick (≤ℤ-or-<ℤ n m)
 
 leveled : (n m : ℤ) (k l : List ℤ) → below (n ∷ k) (m ∷ l) ≡ below ((n -ℤ m) ∷ k) (pos 0 ∷ l)
 leveled n m k l = ap₂ (λ s t. elim s [ true ↦ true | false ↦ elim t [ true ↦ false | false ↦ below k l ] ]) (less n m) (more n m)
-
-pub gain-residual : {r s : Vec} (u : Vec) → r ≈ s → gain r u ≡ gain s u
-unfolding gain
-gain-residual u e = ap (λ p. N u -ℤ pos 2 *ℤ p) (≈-dot (≈-refl {u = u}) e)
 
 -- ---- a layer
 
@@ -155,9 +152,6 @@ fiveLayers-all P f (pos (suc (suc (suc n)))) h = absurd (omega arith)
 fiveLayers-all P f (negsuc zero) h = f 2 (omega arith)
 fiveLayers-all P f (negsuc (suc zero)) h = f 4 (omega arith)
 fiveLayers-all P f (negsuc (suc (suc n))) h = absurd (omega arith)
-
-no-such {ℓ} : {X : Type ℓ} → true ≡ false → X
-no-such e = absurd (subst T e tt)
 
 pub decided-found : {vs : List Vec} {b r : Vec} {s : Step} → s .better ≡ true → Better vs b r s → Decided vs b r s
 decided-found e h = record { found = λ t. h; none = λ f. no-such (sym e ∙ f) }

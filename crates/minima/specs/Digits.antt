@@ -111,7 +111,7 @@ module _ (B : ℕ) where
   abbrev W : ℤ
   W = pos (B + 1)
 
-  power-nonneg : (n : ℕ) → NN (power W n)
+  pub power-nonneg : (n : ℕ) → NN (power W n)
   power-nonneg zero = nn-pos 1
   power-nonneg (suc n) = nn-pos (B + 1) ⊠ power-nonneg n
 

@@ -1,14 +1,16 @@
 -- What an accepted input is: the checks of the table of refusals, read as facts.
-use mathlib.Core.Path.{_≡_, refl, sym, _∙_, subst}
+use mathlib.Core.Path.{_≡_, refl, _∙_}
 use mathlib.Core.Logic.{_≢_}
-use mathlib.Core.Bool.{Bool, true, false, not, _&&_, _||_, false≢true, true≢false}
+use mathlib.Core.Bool.{Bool, true, false, not}
 use mathlib.Core.List.{List, [], _∷_}
 use Prim.Native.Nat.{ℕ, zero, suc, _*_, _≤_}
 use native.Mathlib.Omega.{arith}
 use lib.IntN.{ℤ, pos, natAbs}
 use lib.Signed.{ltZ, _≤ℤ_, _<ℤ_}
-use lib.Dec.{T, leb, ltb, eqb, leb→le, eqb→eq}
+use lib.Dec.{ltb, eqb, eqb→eq}
 use lib.ListN.{length, drop, length-take, length-drop}
+use Rattle.integers.specs.Tests.{true-T, not-false, neither}
+use Rattle.lattices.specs.RefusalLaws.{one-to}
 use Rattle.integers.specs.Order.{ltZ-false, leZ-false}
 use Rattle.lattices.specs.Vector.{Vec, N}
 use Rattle.lattices.specs.Volume.{squaredVolume, isDependent}
@@ -25,42 +27,16 @@ passed (c ∷ cs) i h e = go (c .condition i) refl e (λ f. passed cs i (h .1) f
     go true q e f = absurd (h .0 e)
     go false q e f = (q, f e)
 
-true-T : {b : Bool} → b ≡ true → T b
-true-T e = subst T (sym e) tt
-
-not-false : (b : Bool) → not b ≡ false → b ≡ true
-not-false true e = refl
-not-false false e = absurd (true≢false e)
-
-and-left : (a b : Bool) → a && b ≡ true → a ≡ true
-and-left true b e = refl
-and-left false b e = absurd (false≢true e)
-
-and-right : (a b : Bool) → a && b ≡ true → b ≡ true
-and-right true b e = e
-and-right false b e = absurd (false≢true e)
-
-or-left : (a b : Bool) → a || b ≡ false → a ≡ false
-or-left true b e = absurd (true≢false e)
-or-left false b e = refl
-
-or-right : (a b : Bool) → a || b ≡ false → b ≡ false
-or-right true b e = absurd (true≢false e)
-or-right false b e = e
-
-one-to : (most n : ℕ) → oneTo most n ≡ true → (1 ≤ n) × (n ≤ most)
-one-to most n e = (leb→le 1 n (true-T (and-left (leb 1 n) (leb n most) e)), leb→le n most (true-T (and-right (leb 1 n) (leb n most) e)))
-
 -- the length limit
 abbrev pub Short : Vec → Type 0
 Short v = N v ≤ℤ pos mostSquare
 
 pub short : (v : Vec) → tooLong v ≡ false → Short v
-short v e = ltZ-false (or-right (any (λ x. ltb mostSize (natAbs x)) v) (ltZ (pos mostSquare) (N v)) e)
+short v e = ltZ-false (neither (any (λ x. ltb mostSize (natAbs x)) v) (ltZ (pos mostSquare) (N v)) e .1)
 
 all-short : (vs : List Vec) → any tooLong vs ≡ false → All Short vs
 all-short [] e = tt
-all-short (v ∷ vs) e = (short v (or-left (tooLong v) (any tooLong vs) e), all-short vs (or-right (tooLong v) (any tooLong vs) e))
+all-short (v ∷ vs) e = (short v (neither (tooLong v) (any tooLong vs) e .0), all-short vs (neither (tooLong v) (any tooLong vs) e .1))
 
 -- ---- the vectors of an input
 pub vectorsOf-full : (d m : ℕ) (l : List ℤ) → length l ≡ d * m → Coordinates m (vectorsOf d m l)

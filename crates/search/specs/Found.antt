@@ -32,7 +32,7 @@ pub record Decided (k : ℕ) (g : List (List ℤ)) (h : List ℤ) (s : Step) : T
   pub found : s .better ≡ true → Better k g h (s .list)
   pub none : s .better ≡ false → None (count k) g h
 
-no-such {ℓ} : {X : Type ℓ} → true ≡ false → X
+pub no-such {ℓ} : {X : Type ℓ} → true ≡ false → X
 no-such e = absurd (subst T e tt)
 
 module _ (k : ℕ) (short : k ≤ 3) (g : List (List ℤ)) (h : List ℤ) where

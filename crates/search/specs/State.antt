@@ -22,6 +22,7 @@ use Rattle.integers.specs.Lex.{below->, nonneg-ext}
 use Rattle.lattices.specs.Vector.{Vec, N, nth, comb, _⊕_, _⊖_}
 use Rattle.lattices.specs.VectorLaws.{_≈_, ≈-refl, ≈-sym, ≈-dot, ≈-N, ≈-⊕, ≈-⊙, nth-≈, comb-≈, comb-zero, ⊖-zero, N-nonneg}
 use Rattle.lattices.specs.Nearest.{nearest, value}
+use Rattle.lattices.specs.AnswerLaws.{length-padded, nth-padded}
 use Rattle.lattices.specs.Answer.{padded}
 use Rattle.volumes.specs.Sizes.{coefficient-≤, near-le}
 use Rattle.minima.specs.Values.{Least, gain, change}
@@ -79,27 +80,14 @@ number-lower (a ∷ []) e h = absurd (omega arith)
 number-lower (a ∷ b ∷ []) e h = absurd (omega arith)
 number-lower (a ∷ b ∷ c ∷ d ∷ x) e h = absurd (omega arith)
 
-smaller : {a b : ℤ} → NN a → a <ℤ b → natAbs a < natAbs b
+pub smaller : {a b : ℤ} → NN a → a <ℤ b → natAbs a < natAbs b
 smaller {a = pos m} {b = pos n} h l = ltb→lt m n (l .lt)
 smaller {a = pos m} {b = negsuc n} h l = absurd (l .lt)
 smaller {a = negsuc m} h l = absurd (h .le)
 
-gain-residual : {r s : Vec} (u : Vec) → r ≈ s → gain r u ≡ gain s u
+pub gain-residual : {r s : Vec} (u : Vec) → r ≈ s → gain r u ≡ gain s u
 unfolding gain
 gain-residual u e = ap (λ p. N u -ℤ pos 2 *ℤ p) (≈-dot (≈-refl {u = u}) e)
-
-pub length-padded : (n : ℕ) (l : List ℤ) → length (padded n l) ≡ n
-length-padded zero l = refl
-length-padded (suc n) [] = ap suc (length-padded n [])
-length-padded (suc n) (x ∷ l) = ap suc (length-padded n l)
-
-pub nth-padded : (n : ℕ) (l : List ℤ) → length l ≤ n → (i : ℕ) → nth (padded n l) i ≡ nth l i
-nth-padded zero [] h i = refl
-nth-padded zero (x ∷ l) h i = absurd (omega arith)
-nth-padded (suc n) [] h zero = refl
-nth-padded (suc n) [] h (suc i) = nth-padded n [] (omega arith) i
-nth-padded (suc n) (x ∷ l) h zero = refl
-nth-padded (suc n) (x ∷ l) h (suc i) = nth-padded n l (omega arith) i
 
 module _ (k : ℕ) (bs : List Vec) (t : Vec) (v : Given k bs t) (g : List (List ℤ)) where
   -- ---- sizes

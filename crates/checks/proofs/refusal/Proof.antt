@@ -8,10 +8,11 @@ use native.Mathlib.Omega.{arith}
 use lib.ListN.{drop}
 use borrow.Author.Needs.{needs}
 use borrow.Author.Tests.{not-false, eq-eqb, ne-eqb}
+use Rattle.lattices.specs.RefusalLaws.{one-to}
 use Rattle.lattices.specs.Refusal.{Input, basis, vectorChecks, any, tooLong, oneTo, mostVectors, mostCoordinates}
 use Rattle.lattices.specs.Volume.{isDependent}
 use Rattle.checks.specs.First.{First, found, none, here, later}
-use Rattle.checks.specs.Rows.{one-to-≤, short, long-rows, dependent-rows}
+use Rattle.checks.specs.Rows.{short, long-rows, dependent-rows}
 use Rattle.checks.proofs.refusal.Statement.{statement}
 use Rattle.checks.proofs.refusal.Tie as tie
 
@@ -26,10 +27,10 @@ wide : (c : tie.Else2) → not (oneTo mostCoordinates (c .before .before .before
 wide c = ap not (sym (c .before .one-to2 .ensures)) ∙ c .if2 .left
 
 few : (c : tie.Else2) → c .before .before .before .before .args .d ≤ 4
-few c = one-to-≤ 4 _ (not-false _ (counted (c .before .before)))
+few c = one-to 4 _ (not-false _ (counted (c .before .before))) .1
 
 narrow : (c : tie.Else2) → c .before .before .before .before .args .m ≤ 4
-narrow c = one-to-≤ 4 _ (not-false _ (wide c))
+narrow c = one-to 4 _ (not-false _ (wide c)) .1
 
 full : (c : tie.Else3) {n : ℕ} → First (given (c .before .before .before .before .before)) (drop 3 vectorChecks) n → First (given (c .before .before .before .before .before)) vectorChecks n
 full c p = later (counted (c .before .before .before)) (later (wide (c .before)) (later (ap not (eq-eqb _ _ (c .if3 .left))) p))
