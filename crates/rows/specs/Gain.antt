@@ -1,17 +1,15 @@
 -- Rows that each gain a multiple of one row, one row after the other.
-use mathlib.Core.Path.{_≡_, refl, sym, ap, ap₂, _∙_}
+use mathlib.Core.Path.{_≡_, refl, ap, ap₂}
 use mathlib.Core.List.{List, [], _∷_}
 use Prim.Native.Nat.{ℕ, zero, suc, _≤_, _<_}
 use native.Mathlib.Omega.{arith}
-use lib.IntN.{ℤ, pos, negsuc, negℤ, natAbs, _*ℤ_}
+use lib.IntN.{ℤ, negsuc, negℤ, natAbs, _*ℤ_}
 use lib.ListN.{length, getD, set, take}
-use lib.Seq.{set-getD}
 use Rattle.integers.specs.Ring.{negℤ-*ℤ}
 use Rattle.integers.specs.Identity.{by-ring, reads}
 use Rattle.integers.specs.Size.{size-neg}
 use Rattle.lattices.specs.Vector.{nth, _⊕_, _⊙_, _⊖_}
 use Rattle.rows.specs.Rows.{gained}
-use Rattle.rows.specs.Loss.{⊖-nothing}
 
 -- to take a multiple away with the other sign is to add it
 pub minus-opposite : (a : List ℤ) (q : ℤ) (b : List ℤ) → a ⊖ negℤ q ⊙ b ≡ a ⊕ q ⊙ b
@@ -46,9 +44,3 @@ module _ (v : List ℤ) where
   getD-gained (suc j) i (y ∷ x) [] h = refl
   getD-gained (suc j) zero (y ∷ x) (r ∷ t) h = absurd (omega arith)
   getD-gained (suc j) (suc i) (y ∷ x) (r ∷ t) h = getD-gained j i x t (omega arith)
-
-  pub gained-same : (j : ℕ) (x : List ℤ) (t : List (List ℤ)) → nth x j ≡ pos 0 → j < length x → j < length t → length v ≤ length (getD t j []) → gained (take j x) v t ≡ gained (take (suc j) x) v t
-  gained-same j x t e h k w =
-      sym (set-getD (gained (take j x) v t) j [])
-      ∙ ap (set (gained (take j x) v t) j) (getD-gained j j x t (omega arith) ∙ sym (⊖-nothing (getD t j []) v w) ∙ minus-opposite (getD t j []) (pos 0) v ∙ ap (λ q. getD t j [] ⊕ q ⊙ v) (sym e))
-      ∙ gained-suc j x t h k

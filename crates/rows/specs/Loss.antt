@@ -8,7 +8,7 @@ use lib.ListN.{length, getD, set, take}
 use lib.Seq.{set-getD}
 use Rattle.integers.specs.Ring.{*ℤ-+ℤ, negsuc-zero-*ℤ}
 use Rattle.integers.specs.Size.{load, size-add, size-sub}
-use Rattle.integers.specs.Lists.{entries, length-⊕}
+use Rattle.integers.specs.Lists.{entries}
 use Rattle.integers.specs.Identity.{by-ring, reads}
 use Rattle.lattices.specs.Vector.{nth, comb, _⊕_, _⊙_, _⊖_}
 
@@ -82,12 +82,6 @@ module _ (x : List ℤ) (t : List (List ℤ)) (k : ℕ) where
 
   pub left-suc : (j : ℕ) → j < length x → j < length t → left j ⊖ nth x j ⊙ getD t j [] ≡ left (suc j)
   left-suc j h l = sym (ap (λ s. getD t k [] ⊖ s) (comb-suc j x t h l) ∙ ⊖-⊕ (getD t k []) (comb (take j x) (take j t)) (nth x j ⊙ getD t j []))
-
-  pub left-same : (j : ℕ) → nth x j ≡ pos 0 → j < length x → j < length t → length (getD t j []) ≤ length (getD t k []) → left j ≡ left (suc j)
-  left-same j e h l w =
-      sym (⊖-nothing (left j) (getD t j []) (omega (arith, w, length-⊕ (getD t k []) (negsuc 0 ⊙ comb (take j x) (take j t)))))
-      ∙ ap (λ q. left j ⊖ q ⊙ getD t j []) (sym e)
-      ∙ left-suc j h l
 
   pub left-room : (j i : ℕ) → j < k → natAbs (nth (left j) i) + natAbs (nth x j *ℤ nth (getD t j []) i) ≤ natAbs (nth (getD t k []) i) + load (take k x) (take k t) i
   left-room j i h =

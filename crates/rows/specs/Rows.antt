@@ -1,7 +1,7 @@
 -- The rows of the work as three tables, one after the other: vectors, rows of U and columns of V.
 use mathlib.Core.Path.{_≡_, refl, sym, ap, _∙_}
 use mathlib.Core.List.{List, [], _∷_, map, map-map}
-use Prim.Native.Nat.{ℕ, zero, suc, _<_}
+use Prim.Native.Nat.{ℕ, zero, suc}
 use native.Mathlib.Omega.{arith}
 use lib.IntN.{ℤ}
 use lib.ListN.{length, getD, set, take, drop, length-map}
@@ -48,11 +48,6 @@ pub record Four (bs us vs : List (List ℤ)) : Type 0 where
   pub vectors : length bs ≡ 4
   pub u : length us ≡ 4
   pub v : length vs ≡ 4
-
--- a table of four rows of four numbers
-pub record Square (t : List (List ℤ)) : Type 0 where
-  pub count : length t ≡ 4
-  pub width : (i : ℕ) → i < 4 → length (getD t i []) ≡ 4
 
 -- ---- the three tables of rows, and the rows of three tables
 

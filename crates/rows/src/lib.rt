@@ -10,7 +10,7 @@ ghost use Rattle.integers.specs.Size.{Within, load};
 ghost use Rattle.lattices.specs.Vector.{dot, N, comb, _⊖_, _⊙_};
 ghost use Rattle.lattices.specs.Greedy.{order, units};
 ghost use Rattle.lattices.specs.Answer.{table};
-ghost use Rattle.rows.specs.Rows.{Four, Square, rowsOf, workOf, gained, transposed, tableRow};
+ghost use Rattle.rows.specs.Rows.{Four, rowsOf, workOf, gained, transposed, tableRow};
 ghost use Rattle.rows.specs.Order.{Small, exchanged, insertAt};
 ghost use Rattle.rows.specs.Minus.{room};
 
@@ -45,11 +45,14 @@ pub fn dot(a: [i64; 4], b: [i64; 4]) -> i64
     sum
 }
 
-// What is left of a when q times b is taken away.
+// What is left of a when q times b is taken away. Most multiples in the tables are by 0.
 pub fn minus_multiple(a: [i64; 4], q: i64, b: [i64; 4]) -> [i64; 4]
     requires { ⌜ ((i : ℕ) → natAbs (nth a i) + natAbs (q *ℤ nth b i) ≤ room) ⌝ }
     ensures { λ r. ⌜ r ≡ a ⊖ q ⊙ b ⌝ }
 {
+    if q == 0 {
+        return a;
+    }
     let mut r = a;
     for i in 0..4 {
         r[i] -= q * b[i];
@@ -57,17 +60,14 @@ pub fn minus_multiple(a: [i64; 4], q: i64, b: [i64; 4]) -> [i64; 4]
     r
 }
 
-// Row k loses the combination x of the rows before it. Many numbers of x are 0: their rows are left out.
+// Row k loses the combination x of the rows before it.
 pub fn minus_rows(t: &mut [[i64; 4]; 4], k: usize, x: [i64; 3])
     requires { ⌜ k ≤ 3 ⌝ }
-    requires { ⌜ Square (now t) ⌝ }
+    requires { ⌜ length (now t) ≡ 4 ⌝ }
     requires { ⌜ ((i : ℕ) → natAbs (nth (getD (now t) k []) i) + load (take k x) (take k (now t)) i ≤ room) ⌝ }
     ensures { λ _. ⌜ now (t .exit) ≡ set (now (t .entry)) k (getD (now (t .entry)) k [] ⊖ comb (take k x) (take k (now (t .entry)))) ⌝ }
 {
     for j in 0..k {
-        if x[j] == 0 {
-            continue;
-        }
         t[k] = minus_multiple(t[k], x[j], t[j]);
     }
 }
@@ -75,15 +75,12 @@ pub fn minus_rows(t: &mut [[i64; 4]; 4], k: usize, x: [i64; 3])
 // Each row before row k gains its number of x times row k: taken away with the other sign.
 pub fn credit_rows(t: &mut [[i64; 4]; 4], k: usize, x: [i64; 3])
     requires { ⌜ k ≤ 3 ⌝ }
-    requires { ⌜ Square (now t) ⌝ }
+    requires { ⌜ length (now t) ≡ 4 ⌝ }
     requires { ⌜ ((j : ℕ) → Within room (nth x j)) ⌝ }
     requires { ⌜ ((j i : ℕ) → j < k → natAbs (nth (getD (now t) j []) i) + natAbs (nth x j *ℤ nth (getD (now t) k []) i) ≤ room) ⌝ }
     ensures { λ _. ⌜ now (t .exit) ≡ gained (take k x) (getD (now (t .entry)) k []) (now (t .entry)) ⌝ }
 {
     for j in 0..k {
-        if x[j] == 0 {
-            continue;
-        }
         t[j] = minus_multiple(t[j], -x[j], t[k]);
     }
 }

@@ -1,19 +1,19 @@
 -- `credit_rows` gives each row its multiple of row k: after j turns the first j rows have theirs.
-use mathlib.Core.Path.{_≡_, refl, sym, ap, ap₂, _∙_}
+use mathlib.Core.Path.{_≡_, refl, ap, ap₂, _∙_}
 use mathlib.Core.List.{[]}
 use Prim.Native.Nat.{ℕ, _≤_, _-_}
 use native.Mathlib.Numerals.{add-one}
 use native.Mathlib.Omega.{arith}
 use lib.ListN.{getD, set, take}
-use lib.IntN.{pos, negℤ, +ℤ-idl}
+use lib.IntN.{negℤ, +ℤ-idl}
 use mir.Syntax.{w64}
-use mir.Val.{SFits, toZ}
+use mir.Val.{SFits}
 use mir.Facts.{toZ-ofZ}
 use denote.Ref.{now}
 use Rattle.integers.specs.Size.{fits-within, within-neg}
 use Rattle.lattices.specs.Vector.{nth, _⊕_, _⊙_}
 use Rattle.rows.specs.Rows.{gained}
-use Rattle.rows.specs.Gain.{minus-opposite, size-opposite, gained-suc, gained-same, getD-gained}
+use Rattle.rows.specs.Gain.{minus-opposite, size-opposite, gained-suc, getD-gained}
 use borrow.Author.Needs.{needs}
 use Rattle.rows.proofs.credit_rows.Statement.{statement}
 use Rattle.rows.proofs.credit_rows.Tie as tie
@@ -29,41 +29,20 @@ loop-holds : tie.Need-loop-holds Inv-loop μ-loop
 unfolding gained
 loop-holds c = (search needs, refl)
 
-mul-if1 : tie.Need-mul-if1 Inv-loop μ-loop
-mul-if1 c = search needs
-
-array-copy-out-if1 : tie.Need-array-copy-out-if1 Inv-loop μ-loop
-array-copy-out-if1 c = search needs
-
-add-j : tie.Need-add-j Inv-loop μ-loop
-add-j c = search needs
-
-loop-less : tie.Need-loop-less Inv-loop μ-loop
-loop-less c = search needs
-
-loop-again : tie.Need-loop-again Inv-loop μ-loop
-loop-again c =
-    let l = c .before .before .before in
-    let s = l .before in
-    let j = l .loop .j in
-    let e : nth (s .args .t3) j ≡ pos 0 = sym (toZ-ofZ (fits-within (s .pre .1 .1 .0 j) tt)) ∙ ap (toZ w64) (c .if1 .taken) in
-    let w = s .pre .1 .0 in
-    (search needs, rw add-one (l .loop .inv .1 ∙ gained-same (getD (now (s .args .t)) (s .args .k) []) j (s .args .t3) (now (s .args .t)) e (search needs) (omega (arith, w .count)) (omega (arith, w .width j (omega arith), w .width (s .args .k) (omega arith)))))
-
 -- what the call reads: rows j and k as they were, and the number with the other sign
 row : (c : tie.After-minus-multiple-arg2 Inv-loop μ-loop) (i : ℕ) →
-    let l = c .before .before .before .before .before in
+    let l = c .before .before .before in
     l .loop .j ≤ i → getD (l .loop .t) i [] ≡ getD (now (l .before .args .t)) i []
 row c i h =
-    let l = c .before .before .before .before .before in
+    let l = c .before .before .before in
     let s = l .before in
     ap (λ t. getD t i []) (l .loop .inv .1) ∙ getD-gained (getD (now (s .args .t)) (s .args .k) []) (l .loop .j) i (s .args .t3) (now (s .args .t)) h
 
-number : (c : tie.After-minus-multiple-arg2 Inv-loop μ-loop) → SFits w64 (nth (c .before .before .before .before .before .before .args .t3) (c .before .before .before .before .before .loop .j))
-number c = fits-within (c .before .before .before .before .before .before .pre .1 .1 .0 _) tt
+number : (c : tie.After-minus-multiple-arg2 Inv-loop μ-loop) → SFits w64 (nth (c .before .before .before .before .args .t3) (c .before .before .before .loop .j))
+number c = fits-within (c .before .before .before .before .pre .1 .1 .0 _) tt
 
-opposite : (c : tie.After-minus-multiple-arg2 Inv-loop μ-loop) → SFits w64 (negℤ (nth (c .before .before .before .before .before .before .args .t3) (c .before .before .before .before .before .loop .j)))
-opposite c = fits-within (within-neg (c .before .before .before .before .before .before .pre .1 .1 .0 _)) tt
+opposite : (c : tie.After-minus-multiple-arg2 Inv-loop μ-loop) → SFits w64 (negℤ (nth (c .before .before .before .before .args .t3) (c .before .before .before .loop .j)))
+opposite c = fits-within (within-neg (c .before .before .before .before .pre .1 .1 .0 _)) tt
 
 mul-minus-multiple : tie.Need-mul-minus-multiple Inv-loop μ-loop
 mul-minus-multiple c = search needs
@@ -89,32 +68,32 @@ element-copy-out-minus-multiple-2 c = search needs
 minus-multiple-requires : tie.Need-minus-multiple-requires Inv-loop μ-loop
 minus-multiple-requires c κs =
     let b = c .before in
-    let l = b .before .before .before .before .before in
+    let l = b .before .before .before in
     let s = l .before in
     λ i. simp (row b (l .loop .j) (search needs), row b (s .args .k) (search needs), toZ-ofZ, number b, +ℤ-idl, opposite b, size-opposite) (s .pre .1 .1 .1 (l .loop .j) i (search needs))
 
-mul-t23 : tie.Need-mul-t23 Inv-loop μ-loop
-mul-t23 c = search needs
+mul-t21 : tie.Need-mul-t21 Inv-loop μ-loop
+mul-t21 c = search needs
 
 element-set-from-t : tie.Need-element-set-from-t Inv-loop μ-loop
 element-set-from-t c = search needs
 
-add-j-2 : tie.Need-add-j-2 Inv-loop μ-loop
-add-j-2 c = search needs
+add-j : tie.Need-add-j Inv-loop μ-loop
+add-j c = search needs
 
-loop-less-2 : tie.Need-loop-less-2 Inv-loop μ-loop
-loop-less-2 c = search needs
+loop-less : tie.Need-loop-less Inv-loop μ-loop
+loop-less c = search needs
 
-loop-again-2 : tie.Need-loop-again-2 Inv-loop μ-loop
-loop-again-2 c =
+loop-again : tie.Need-loop-again Inv-loop μ-loop
+loop-again c =
     let b = c .before .before in
-    let l = b .before .before .before .before .before in
+    let l = b .before .before .before in
     let s = l .before in
     let j = l .loop .j in
     let v = getD (now (s .args .t)) (s .args .k) [] in
     let e : c .minus-multiple .result ≡ getD (now (s .args .t)) j [] ⊕ nth (s .args .t3) j ⊙ v =
     c .minus-multiple .ensures ∙ simp (row b j (search needs), row b (s .args .k) (search needs), toZ-ofZ, number b, +ℤ-idl, opposite b, minus-opposite) in
-    (search needs, rw add-one (ap₂ (λ t a. set t j a) (l .loop .inv .1) e ∙ gained-suc v j (s .args .t3) (now (s .args .t)) (search needs) (omega (arith, s .pre .1 .0 .count))))
+    (search needs, rw add-one (ap₂ (λ t a. set t j a) (l .loop .inv .1) e ∙ gained-suc v j (s .args .t3) (now (s .args .t)) (search needs) (omega (arith, s .pre .1 .0))))
 
 returns : tie.Need-returns Inv-loop μ-loop
 returns c =
@@ -129,11 +108,6 @@ credit-rows-spec =
     Inv-loop
     μ-loop
     loop-holds
-    mul-if1
-    array-copy-out-if1
-    add-j
-    loop-less
-    loop-again
     mul-minus-multiple
     element-copy-out-minus-multiple
     mul-minus-multiple-2
@@ -142,9 +116,9 @@ credit-rows-spec =
     mul-minus-multiple-3
     element-copy-out-minus-multiple-2
     minus-multiple-requires
-    mul-t23
+    mul-t21
     element-set-from-t
-    add-j-2
-    loop-less-2
-    loop-again-2
+    add-j
+    loop-less
+    loop-again
     returns)

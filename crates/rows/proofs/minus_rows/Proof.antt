@@ -9,10 +9,10 @@ use lib.ListN.{getD, set}
 use lib.Seq.{set-set, getD-set-same, getD-set-other}
 use lib.IntN.{pos}
 use mir.Syntax.{w64}
-use mir.Val.{SFits, toZ}
+use mir.Val.{SFits}
 use mir.Facts.{toZ-ofZ}
 use denote.Ref.{now}
-use Rattle.rows.specs.Loss.{left, left-zero, left-suc, left-same, left-room}
+use Rattle.rows.specs.Loss.{left, left-zero, left-suc, left-room}
 use borrow.Author.Needs.{needs}
 use Rattle.rows.proofs.minus_rows.Statement.{statement}
 use Rattle.rows.proofs.minus_rows.Tie as tie
@@ -27,48 +27,26 @@ abbrev μ-loop : tie.MeasureT-loop
 loop-holds : tie.Need-loop-holds Inv-loop μ-loop
 loop-holds c = (search needs, sym (left-zero (c .args .t3) (now (c .args .t)) (c .args .k)))
 
-mul-if1 : tie.Need-mul-if1 Inv-loop μ-loop
-mul-if1 c = search needs
-
-array-copy-out-if1 : tie.Need-array-copy-out-if1 Inv-loop μ-loop
-array-copy-out-if1 c = search needs
-
-add-j : tie.Need-add-j Inv-loop μ-loop
-add-j c = search needs
-
-loop-less : tie.Need-loop-less Inv-loop μ-loop
-loop-less c = search needs
-
-loop-again : tie.Need-loop-again Inv-loop μ-loop
-loop-again c =
-    let l = c .before .before .before in
-    let s = l .before in
-    let j = l .loop .j in
-    let f : SFits w64 (getD (s .args .t3) j (pos 0)) = record { sfits = c .before .if12 .given } in
-    let e : getD (s .args .t3) j (pos 0) ≡ pos 0 = sym (toZ-ofZ f) ∙ ap (toZ w64) (c .if1 .taken) in
-    let w = s .pre .1 .0 in
-    (search needs, rw add-one (l .loop .inv .1 ∙ ap (set (now (s .args .t)) (s .args .k)) (left-same (s .args .t3) (now (s .args .t)) (s .args .k) j e (search needs) (omega (arith, w .count)) (omega (arith, w .width j (omega arith), w .width (s .args .k) (omega arith))))))
-
 -- what the call reads: row k as it is after j turns, row j as it was, and a number that fits
 own : (c : tie.After-minus-multiple-arg3 Inv-loop μ-loop) →
-    let l = c .before .before .before .before .before .before in
+    let l = c .before .before .before .before in
     let s = l .before in
     getD (l .loop .t) (s .args .k) [] ≡ left (s .args .t3) (now (s .args .t)) (s .args .k) (l .loop .j)
 own c =
-    let l = c .before .before .before .before .before .before in
+    let l = c .before .before .before .before in
     let s = l .before in
-    ap (λ t. getD t (s .args .k) []) (l .loop .inv .1) ∙ getD-set-same (now (s .args .t)) (s .args .k) _ [] (omega (arith, s .pre .1 .0 .count))
+    ap (λ t. getD t (s .args .k) []) (l .loop .inv .1) ∙ getD-set-same (now (s .args .t)) (s .args .k) _ [] (omega (arith, s .pre .1 .0))
 
 other : (c : tie.After-minus-multiple-arg3 Inv-loop μ-loop) →
-    let l = c .before .before .before .before .before .before in
+    let l = c .before .before .before .before in
     let s = l .before in
     getD (l .loop .t) (l .loop .j) [] ≡ getD (now (s .args .t)) (l .loop .j) []
 other c =
-    let l = c .before .before .before .before .before .before in
+    let l = c .before .before .before .before in
     let s = l .before in
     ap (λ t. getD t (l .loop .j) []) (l .loop .inv .1) ∙ getD-set-other (now (s .args .t)) (s .args .k) (l .loop .j) _ [] (λ e. omega arith)
 
-fits : (c : tie.After-minus-multiple-arg3 Inv-loop μ-loop) → SFits w64 (getD (c .before .before .before .before .before .before .before .args .t3) (c .before .before .before .before .before .before .loop .j) (pos 0))
+fits : (c : tie.After-minus-multiple-arg3 Inv-loop μ-loop) → SFits w64 (getD (c .before .before .before .before .before .args .t3) (c .before .before .before .before .loop .j) (pos 0))
 fits c = record { sfits = c .before .minus-multiple-arg2 .given }
 
 mul-minus-multiple : tie.Need-mul-minus-multiple Inv-loop μ-loop
@@ -91,30 +69,30 @@ element-copy-out-minus-multiple-2 c = search needs
 
 minus-multiple-requires : tie.Need-minus-multiple-requires Inv-loop μ-loop
 minus-multiple-requires c κs =
-    let l = c .before .before .before .before .before .before in
+    let l = c .before .before .before .before in
     let s = l .before in
     λ i. simp (own c, other c, toZ-ofZ, fits c) (le-trans (left-room (s .args .t3) (now (s .args .t)) (s .args .k) (l .loop .j) i (search needs)) (s .pre .1 .1 i))
 
-mul-t22 : tie.Need-mul-t22 Inv-loop μ-loop
-mul-t22 c = search needs
+mul-t20 : tie.Need-mul-t20 Inv-loop μ-loop
+mul-t20 c = search needs
 
 element-set-from-t : tie.Need-element-set-from-t Inv-loop μ-loop
 element-set-from-t c = search needs
 
-add-j-2 : tie.Need-add-j-2 Inv-loop μ-loop
-add-j-2 c = search needs
+add-j : tie.Need-add-j Inv-loop μ-loop
+add-j c = search needs
 
-loop-less-2 : tie.Need-loop-less-2 Inv-loop μ-loop
-loop-less-2 c = search needs
+loop-less : tie.Need-loop-less Inv-loop μ-loop
+loop-less c = search needs
 
-loop-again-2 : tie.Need-loop-again-2 Inv-loop μ-loop
-loop-again-2 c =
+loop-again : tie.Need-loop-again Inv-loop μ-loop
+loop-again c =
     let b = c .before in
-    let l = b .before .before .before .before .before .before in
+    let l = b .before .before .before .before in
     let s = l .before in
     let j = l .loop .j in
     let e : c .minus-multiple .result ≡ left (s .args .t3) (now (s .args .t)) (s .args .k) (suc j) =
-    c .minus-multiple .ensures ∙ simp (own b, other b, toZ-ofZ, fits b) (left-suc (s .args .t3) (now (s .args .t)) (s .args .k) j (search needs) (omega (arith, s .pre .1 .0 .count))) in
+    c .minus-multiple .ensures ∙ simp (own b, other b, toZ-ofZ, fits b) (left-suc (s .args .t3) (now (s .args .t)) (s .args .k) j (search needs) (omega (arith, s .pre .1 .0))) in
     (search needs, rw add-one (ap₂ (λ t a. set t (s .args .k) a) (l .loop .inv .1) e ∙ set-set (now (s .args .t)) (s .args .k) _ _))
 
 returns : tie.Need-returns Inv-loop μ-loop
@@ -130,11 +108,6 @@ minus-rows-spec =
     Inv-loop
     μ-loop
     loop-holds
-    mul-if1
-    array-copy-out-if1
-    add-j
-    loop-less
-    loop-again
     mul-minus-multiple
     element-copy-out-minus-multiple
     mul-minus-multiple-2
@@ -142,9 +115,9 @@ minus-rows-spec =
     mul-minus-multiple-3
     element-copy-out-minus-multiple-2
     minus-multiple-requires
-    mul-t22
+    mul-t20
     element-set-from-t
-    add-j-2
-    loop-less-2
-    loop-again-2
+    add-j
+    loop-less
+    loop-again
     returns)
