@@ -246,6 +246,7 @@ pub fn order(b: &mut [[i64; 4]; 4], u: &mut [[i64; 4]; 4], v: &mut [[i64; 4]; 4]
     requires { ⌜ n ≤ 4 ⌝ }
     requires { ⌜ Four (now b) (now u) (now v) ⌝ }
     requires { ⌜ Small (now b) ⌝ }
+    ensures { λ _. ⌜ Four (now (b .exit)) (now (u .exit)) (now (v .exit)) ⌝ }
     ensures { λ _. ⌜ rowsOf (now (b .exit)) (now (u .exit)) (now (v .exit)) ≡ order (take n (rowsOf (now (b .entry)) (now (u .entry)) (now (v .entry)))) ++ drop n (rowsOf (now (b .entry)) (now (u .entry)) (now (v .entry))) ⌝ }
 {
     let mut i = n;

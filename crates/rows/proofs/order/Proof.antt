@@ -48,7 +48,7 @@ returns c =
     let a = c .before in
     let s = a .before in
     let e : a .loop .i ≡ 0 = search needs in
-    a .loop .inv .1 .1 .1 ∙ ap (λ i. orderedFrom (s .args .n) i (rowsOf (now (s .args .b)) (now (s .args .u)) (now (s .args .v)))) e
+    (a .loop .inv .1 .0, a .loop .inv .1 .1 .1 ∙ ap (λ i. orderedFrom (s .args .n) i (rowsOf (now (s .args .b)) (now (s .args .u)) (now (s .args .v)))) e)
 
 pub order-spec : {M : Type 1} → statement M
 order-spec =
