@@ -3,19 +3,20 @@ use mathlib.Core.Path.{_≡_, refl, sym, ap, _∙_, subst}
 use mathlib.Core.List.{List, [], _∷_}
 use Prim.Native.Nat.{ℕ, zero, suc, _*_, _≤_}
 use native.Mathlib.Omega.{arith}
-use lib.IntN.{ℤ, pos, _+ℤ_, _-ℤ_, _*ℤ_}
+use lib.IntN.{ℤ, pos, negsuc, _+ℤ_, _-ℤ_, _*ℤ_}
 use lib.ListN.{length, getD, take}
 use lib.Seq.{ext-getD}
 use mir.Syntax.{w64}
 use mir.Val.{SFits}
 use Rattle.integers.specs.Ring.{negsuc-zero-*ℤ}
-use Rattle.integers.specs.Size.{Within, within-add, within-sub, within-mul, within-le, fits-within}
+use Rattle.integers.specs.Identity.{by-ring, reads}
+use Rattle.integers.specs.Size.{Within, within-add, within-sub, within-neg, within-mul, within-le, fits-within}
 use Rattle.integers.specs.Lists.{entries, nth-⊕, length-⊕-same, length-⊖-same}
-use Rattle.lattices.specs.Vector.{Vec, nth, dot, _⊕_}
-use Rattle.lattices.specs.VectorLaws.{against, dot-comm}
+use Rattle.lattices.specs.Vector.{Vec, nth, dot, _⊕_, _⊙_}
+use Rattle.lattices.specs.VectorLaws.{against, bilinear, dot-comm, comb-dot}
 use Rattle.rows.specs.Dot.{dot-suc}
 use Rattle.minima.specs.Digits.{Bounded}
-use Rattle.search.specs.Numbers.{moved, Sized}
+use Rattle.search.specs.Numbers.{moved, gainOf, Sized}
 use Rattle.search.specs.Filled.{Filled}
 
 -- the sum of the first i products
@@ -112,3 +113,21 @@ sized-wide s = record { gram = s .gram; products = λ i. within-le (omega arith)
 
 pub sized-twice : {g : List (List ℤ)} {c : List ℤ} → Sized 2000000000 g c → Sized 4000000000 g (c ⊕ c)
 sized-twice {c} s = record { gram = s .gram; products = λ i. rw (nth-⊕ c c i) (within-add (s .products i) (s .products i)) }
+
+-- ---- the opposite of a step
+
+pub gain-opposite : (g : List (List ℤ)) (h e : List ℤ) → gainOf g h (negsuc 0 ⊙ e) ≡ gainOf g h e +ℤ pos 2 *ℤ dot h e
+unfolding gainOf
+gain-opposite g h e = simp (bilinear, turned, dot-comm h e) (by-ring (dot e h ∷ dot e (against g e) ∷ []) (search reads depth 20) (search reads depth 20) tt)
+  where
+    turned : dot e (against g (negsuc 0 ⊙ e)) ≡ negsuc 0 *ℤ dot e (against g e)
+    turned = sym (comb-dot e g (negsuc 0 ⊙ e)) ∙ simp bilinear (ap (λ x. negsuc 0 *ℤ x) (comb-dot e g e))
+
+-- ---- the numbers of a pair of lists
+
+pub change-within : (g : List (List ℤ)) (h e : List ℤ) → Sized 4000000000 g h → length e ≡ 3 → Bounded 1 e → Within 15600000000 (gainOf g h e)
+unfolding gainOf
+change-within g h e s l u = within-neg (gain-within g h e s l u)
+
+pub pair-within : (h e : List ℤ) → Bounded 4000000000 h → length e ≡ 3 → Bounded 1 e → Within 12000000000 (dot h e)
+pair-within h e f l u = within-le (omega arith) (dot-within {P = 4000000000} 3 h e (omega (arith, l)) (λ k. within-mul (f k) (u k)))

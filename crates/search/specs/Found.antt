@@ -2,7 +2,8 @@
 use mathlib.Core.Path.{_≡_, sym, _∙_, subst}
 use mathlib.Core.Bool.{true, false}
 use mathlib.Core.List.{List, []}
-use Prim.Native.Nat.{ℕ, _≤_, _<_}
+use Prim.Native.Nat.{ℕ, _+_, _*_, _≤_, _<_}
+use native.Mathlib.Decide.{decLt}
 use lib.IntN.{ℤ, pos}
 use lib.Dec.{T}
 use lib.ListN.{getD}
@@ -26,6 +27,15 @@ pub record Found (k : ℕ) (g : List (List ℤ)) (h : List ℤ) (s : Step) : Typ
 -- none of the first n lists of the table improves
 abbrev pub None : ℕ → List (List ℤ) → List ℤ → Type 0
 None n g h = (i : ℕ) → i < n → improvesOf g h (getD steps i []) ≡ false
+
+-- nor do a list and its opposite behind them
+pub none-pair : (i : ℕ) (g : List (List ℤ)) (h : List ℤ) → None (2 * i) g h → improvesOf g h (getD steps (2 * i) []) ≡ false → improvesOf g h (getD steps (2 * i + 1) []) ≡ false → None (2 * (i + 1)) g h
+none-pair i g h n e f j l = pick (decLt j (2 * i)) (decLt j (2 * i + 1))
+  where
+    pick : Dec (j < 2 * i) → Dec (j < 2 * i + 1) → improvesOf g h (getD steps j []) ≡ false
+    pick (yes m) q = n j m
+    pick (no m) (yes q) = let same : 2 * i ≡ j = omega (arith, m) in subst (λ k. improvesOf g h (getD steps k []) ≡ false) same e
+    pick (no m) (no q) = let same : 2 * i + 1 ≡ j = omega (arith, q) in subst (λ k. improvesOf g h (getD steps k []) ≡ false) same f
 
 -- found, or nothing to find
 pub record Decided (k : ℕ) (g : List (List ℤ)) (h : List ℤ) (s : Step) : Type 0 where

@@ -1,35 +1,64 @@
 -- Steps along one vector: a multiple q of vector i, where n is its squared length and p its inner product with the residual.
 use mathlib.Core.Path.{_≡_, refl, sym, ap, ap₂, _∙_, subst}
-use mathlib.Core.Logic.{_⊎_, inl}
+use mathlib.Core.Logic.{_⊎_, inl, inr}
+use mathlib.Core.Bool.{true, false}
 use mathlib.Core.List.{List, [], _∷_}
-use Prim.Native.Nat.{ℕ, zero, suc, _*_, _/_, _≤_, _<_}
+use Prim.Native.Nat.{ℕ, zero, suc, _-_, _*_, _/_, _≤_, _<_}
+use native.Mathlib.Decide.{decLt}
 use native.Mathlib.Nat.{le-refl, le-trans, div-le-self}
 use native.Mathlib.Omega.{arith}
 use lib.IntN.{ℤ, pos, negsuc, negℤ, _+ℤ_, _-ℤ_, _*ℤ_, *ℤ-zero}
 use lib.ListN.{getD, set, replicate}
-use lib.Signed.{quotZ, _<ℤ_}
+use lib.Signed.{quotZ, _≤ℤ_, _<ℤ_, ltZ-yes}
 use mir.Syntax.{w64}
 use mir.Val.{ofZ, SFits}
 use Rattle.integers.specs.Identity.{by-ring, reads}
-use Rattle.integers.specs.Certificate.{_⊞_, _⊠_, lt, by-lt, nn-pos}
+use Rattle.integers.specs.Certificate.{_⊞_, _⊠_, le, lt, by-lt, by-nn, nn-pos}
+use Rattle.integers.specs.Order.{≤ℤ-or-<ℤ, ≤ℤ-antisymm}
 use Rattle.integers.specs.Size.{Within, within-mul, within-sub, fits-within, size-neg}
 use Rattle.integers.specs.Lists.{nth-⊕}
-use Rattle.integers.specs.Lex.{below-<}
-use Rattle.lattices.specs.Vector.{nth, dot, _⊕_}
+use Rattle.integers.specs.Lex.{below-<, below->, below-≡}
+use Rattle.lattices.specs.Vector.{nth, dot, _⊕_, _⊙_}
 use Rattle.lattices.specs.VectorLaws.{dot-comm, zero-dot}
 use Rattle.minima.specs.Digits.{zeros}
-use Rattle.search.specs.Numbers.{moved, gainOf, improvesOf}
+use Rattle.search.specs.Numbers.{moved, gainOf, negative, improvesOf}
 use Rattle.search.specs.Filled.{zero-row}
 use Rattle.search.specs.Fits.{nth-moved}
-use Rattle.search.specs.Found.{Better}
+use Rattle.search.specs.Found.{Better, None}
+use Rattle.search.specs.Steps.{steps, count}
 
--- 0, or a multiple that shortens
+-- taking the multiple q away leads to a smaller value: it shortens, or it keeps the length and lowers the coefficient
+abbrev pub Lowers : ℤ → ℤ → ℤ → Type 0
+Lowers n p q = ((q <ℤ pos 0) × (pos 0 ≤ℤ (q *ℤ n -ℤ pos 2 *ℤ p))) ⊎ ((pos 0 <ℤ q) × ((q *ℤ n -ℤ pos 2 *ℤ p) <ℤ pos 0))
+
+-- neither of the multiples 1 and −1 does
+abbrev pub Still : ℤ → ℤ → Type 0
+Still n p = (negℤ n <ℤ (pos 2 *ℤ p)) × ((pos 2 *ℤ p) ≤ℤ n)
+
 pub record Multiple (n p q : ℤ) : Type 0 where
   pub bounded : Within 4400000000 q
-  pub shorter : (q ≡ pos 0) ⊎ ((q *ℤ (q *ℤ n -ℤ pos 2 *ℤ p)) <ℤ pos 0)
+  pub decided : ((q ≡ pos 0) × Still n p) ⊎ Lowers n p q
 
-pub none : (n p : ℤ) → Multiple n p (pos 0)
-none n p = record { bounded = record { within = omega arith }; shorter = inl refl }
+-- vectors settled from the last on, one more
+pub still-next : {k : ℕ} (i : ℕ) (g : List (List ℤ)) (c : List ℤ) → 0 < i → ((j : ℕ) → i ≤ j → j < k → Still (nth (getD g j []) j) (nth c j))
+    → Still (nth (getD g (i - 1) []) (i - 1)) (nth c (i - 1)) → (j : ℕ) → i - 1 ≤ j → j < k → Still (nth (getD g j []) j) (nth c j)
+still-next i g c h f s j l m = pick (decLt j i)
+  where
+    pick : Dec (j < i) → Still (nth (getD g j []) j) (nth c j)
+    pick (yes q) = let same : i - 1 ≡ j = omega arith in subst (λ n. Still (nth (getD g n []) n) (nth c n)) same s
+    pick (no q) = f j (omega (arith, q)) m
+
+-- a multiple that leads to a smaller value is not 0
+pub lowers-not : (n p q : ℤ) → q ≡ pos 0 → Lowers n p q → ⊥
+lowers-not n p q e (inl h) = subst (λ x. x <ℤ pos 0) e (h .0) .lt
+lowers-not n p q e (inr h) = subst (λ x. pos 0 <ℤ x) e (h .0) .lt
+
+-- the multiples 1 and −1
+pub one-lowers : (n p : ℤ) → n <ℤ (pos 2 *ℤ p) → Lowers n p (pos 1)
+one-lowers n p h = inr (ltZ-yes tt, by-lt (n ∷ p ∷ []) (lt h) (search reads depth 8) (search reads depth 8) tt)
+
+pub minus-one-lowers : (n p : ℤ) → (pos 2 *ℤ p) ≤ℤ negℤ n → Lowers n p (negsuc 0)
+minus-one-lowers n p h = inl (ltZ-yes tt, by-nn (n ∷ p ∷ []) (le h) (search reads depth 8) (search reads depth 8) tt)
 
 -- ---- quotients and signs
 
@@ -69,6 +98,11 @@ nth-single P (suc n) zero (suc j) q z f = subst P (sym (zero-row n j)) z
 nth-single P (suc n) (suc i) zero q z f = z
 nth-single P (suc n) (suc i) (suc j) q z f = nth-single P n i j q z (λ e. f (ap suc e))
 
+negative-single : (n i : ℕ) (q : ℤ) → i < n → q <ℤ pos 0 → negative (set (replicate n (pos 0)) i q) ≡ true
+negative-single zero i q h l = absurd (omega arith)
+negative-single (suc n) zero q h l = below-< {x = q} {y = pos 0} (replicate n (pos 0)) (zeros (replicate n (pos 0))) l
+negative-single (suc n) (suc i) q h l = below-≡ {x = pos 0} {y = pos 0} (set (replicate n (pos 0)) i q) (zeros (set (replicate n (pos 0)) i q)) refl ∙ negative-single n i q (omega arith) l
+
 module _ (g : List (List ℤ)) (c : List ℤ) (i : ℕ) (short : i < 3) (q : ℤ) where
   gain-single : gainOf g (c ⊕ c) (single i q) ≡ q *ℤ (q *ℤ nth (getD g i []) i -ℤ pos 2 *ℤ nth c i)
   unfolding gainOf
@@ -79,13 +113,65 @@ module _ (g : List (List ℤ)) (c : List ℤ) (i : ℕ) (short : i < 3) (q : ℤ
       law : (p n : ℤ) → negℤ (q *ℤ (p +ℤ p -ℤ q *ℤ n)) ≡ q *ℤ (q *ℤ n -ℤ pos 2 *ℤ p)
       law p n = by-ring (q ∷ p ∷ n ∷ []) (search reads depth 20) (search reads depth 20) tt
 
-  pub single-better : (k : ℕ) → i < k → Within 4400000000 q → (q *ℤ (q *ℤ nth (getD g i []) i -ℤ pos 2 *ℤ nth c i)) <ℤ pos 0 → Better k g (c ⊕ c) (single i q)
+  lower : Lowers (nth (getD g i []) i) (nth c i) q → improvesOf g (c ⊕ c) (single i q) ≡ true
   unfolding improvesOf
-  single-better k h b s = record {
+  lower (inr h) = below-< {x = gainOf g (c ⊕ c) (single i q)} {y = pos 0} (single i q) (zeros (single i q)) (subst (λ x. x <ℤ pos 0) (sym gain-single) (product-right (h .0) (h .1)))
+  lower (inl h) = pick (≤ℤ-or-<ℤ d (pos 0))
+    where
+      d : ℤ
+      d = q *ℤ nth (getD g i []) i -ℤ pos 2 *ℤ nth c i
+
+      pick : (d ≤ℤ pos 0) ⊎ (pos 0 <ℤ d) → negative (gainOf g (c ⊕ c) (single i q) ∷ single i q) ≡ true
+      pick (inl k) =
+          below-≡ {x = gainOf g (c ⊕ c) (single i q)} {y = pos 0} (single i q) (zeros (single i q)) (gain-single ∙ ap (λ x. q *ℤ x) (≤ℤ-antisymm k (h .1)) ∙ *ℤ-zero q)
+          ∙ negative-single 3 i q short (h .0)
+      pick (inr k) = below-< {x = gainOf g (c ⊕ c) (single i q)} {y = pos 0} (single i q) (zeros (single i q)) (subst (λ x. x <ℤ pos 0) (sym gain-single) (product-left (h .0) k))
+
+  pub single-better : (k : ℕ) → i < k → Within 4400000000 q → Lowers (nth (getD g i []) i) (nth c i) q → Better k g (c ⊕ c) (single i q)
+  single-better k h b l = record {
     bounded = λ j. nth-single (Within 4400000000) 3 i j q (record { within = omega arith }) (λ e. b);
-    behind = λ j l. nth-single (λ x. x ≡ pos 0) 3 i j q refl (λ e. absurd (omega arith));
-    improves = below-< {x = gainOf g (c ⊕ c) (single i q)} {y = pos 0} (single i q) (zeros (single i q)) (subst (λ x. x <ℤ pos 0) (sym gain-single) s);
+    behind = λ j m. nth-single (λ x. x ≡ pos 0) 3 i j q refl (λ e. absurd (omega arith));
+    improves = lower l;
   }
+
+-- ---- one vector: where neither 1 nor −1 leads to a smaller value, no list of the table does
+
+pub record Settled (k : ℕ) (g : List (List ℤ)) (c : List ℤ) : Type 0 where
+  pub still : (i : ℕ) → i < k → Still (nth (getD g i []) i) (nth c i)
+
+module _ (g : List (List ℤ)) (c : List ℤ) (s : Still (nth (getD g 0 []) 0) (nth c 0)) where
+  plus : improvesOf g (c ⊕ c) (single 0 (pos 1)) ≡ false
+  unfolding improvesOf
+  plus = pick (≤ℤ-or-<ℤ x (pos 0))
+    where
+      x : ℤ
+      x = gainOf g (c ⊕ c) (single 0 (pos 1))
+
+      nonneg : pos 0 ≤ℤ x
+      nonneg = subst (λ x. pos 0 ≤ℤ x) (sym (gain-single g c 0 (omega arith) (pos 1))) (law (nth (getD g 0 []) 0) (nth c 0) (s .1))
+        where
+          law : (n p : ℤ) → (pos 2 *ℤ p) ≤ℤ n → pos 0 ≤ℤ (pos 1 *ℤ (pos 1 *ℤ n -ℤ pos 2 *ℤ p))
+          law n p h = by-nn (n ∷ p ∷ []) (le h) (search reads depth 20) (search reads depth 20) tt
+
+      pick : (x ≤ℤ pos 0) ⊎ (pos 0 <ℤ x) → negative (x ∷ single 0 (pos 1)) ≡ false
+      pick (inl k) = below-≡ {x = x} {y = pos 0} (single 0 (pos 1)) (zeros (single 0 (pos 1))) (≤ℤ-antisymm k nonneg) ∙ refl
+      pick (inr k) = below-> {x = x} {y = pos 0} (single 0 (pos 1)) (zeros (single 0 (pos 1))) k
+
+  minus : improvesOf g (c ⊕ c) (single 0 (negsuc 0)) ≡ false
+  unfolding improvesOf
+  minus = below-> {x = gainOf g (c ⊕ c) (single 0 (negsuc 0))} {y = pos 0} (single 0 (negsuc 0)) (zeros (single 0 (negsuc 0)))
+      (subst (λ x. pos 0 <ℤ x) (sym (gain-single g c 0 (omega arith) (negsuc 0))) (law (nth (getD g 0 []) 0) (nth c 0) (s .0)))
+    where
+      law : (n p : ℤ) → negℤ n <ℤ (pos 2 *ℤ p) → pos 0 <ℤ (negsuc 0 *ℤ (negsuc 0 *ℤ n -ℤ pos 2 *ℤ p))
+      law n p h = by-lt (n ∷ p ∷ []) (lt h) (search reads depth 20) (search reads depth 20) tt
+
+pub few-none : (k : ℕ) → k < 2 → (g : List (List ℤ)) (c : List ℤ) → Settled k g c → None (count k) g (c ⊕ c)
+unfolding steps _⊙_
+few-none zero h g c s i l = absurd (omega arith)
+few-none (suc zero) h g c s zero l = plus g c (s .still 0 (omega arith))
+few-none (suc zero) h g c s (suc zero) l = minus g c (s .still 0 (omega arith))
+few-none (suc zero) h g c s (suc (suc i)) l = absurd (omega arith)
+few-none (suc (suc k)) h g c s i l = absurd (omega arith)
 
 -- ---- bits
 

@@ -1,33 +1,72 @@
--- The table of steps in the order of the walk: `lists 3` with each list reversed, so that the first 2, 8 and 26 lists are those of 1, 2 and 3
+-- The table of steps in the order of the walk: each list is followed by its opposite, and the first 2, 8 and 26 lists are those of 1, 2 and 3
 -- vectors, zeros behind. What is claimed of the table is tested by computation.
 use mathlib.Core.Path.{_≡_, refl, subst}
 use mathlib.Core.Bool.{Bool, true, false, not, _&&_, _||_}
-use mathlib.Core.List.{List, [], _∷_, map, reverse}
-use Prim.Native.Nat.{ℕ, zero, suc, _+_, _-_, _≤_, _<_}
+use mathlib.Core.List.{List, [], _∷_}
+use Prim.Native.Nat.{ℕ, zero, suc, _+_, _-_, _*_, _≤_, _<_}
 use native.Mathlib.Omega.{arith}
 use lib.Dec.{T, eqb, leb, leb→le, eqb→eq}
 use lib.IntN.{ℤ, pos, negsuc, natAbs}
 use lib.ListN.{length, getD, take, drop, length-take}
 use lib.Seq.{getD-take, getD-drop}
 use Rattle.integers.specs.Lex.{below, below-antisymm}
-use Rattle.lattices.specs.Vector.{nth}
+use Rattle.lattices.specs.Vector.{nth, _⊙_}
 use Rattle.lattices.specs.Answer.{padded}
 use Rattle.minima.specs.Grid.{lists}
 use Rattle.minima.specs.Digits.{Bounded}
 
+-- each list before its opposite
+abbrev paired : List (List ℤ) → List (List ℤ)
+paired [] = []
+paired (e ∷ l) = e ∷ (negsuc 0 ⊙ e) ∷ paired l
+
+-- one list of each pair, by how many vectors it takes
+abbrev halves : List (List ℤ)
+halves =
+    (pos 1 ∷ pos 0 ∷ pos 0 ∷ [])
+    ∷ (pos 0 ∷ pos 1 ∷ pos 0 ∷ [])
+    ∷ (pos 1 ∷ pos 1 ∷ pos 0 ∷ [])
+    ∷ (pos 1 ∷ negsuc 0 ∷ pos 0 ∷ [])
+    ∷ (pos 0 ∷ pos 0 ∷ pos 1 ∷ [])
+    ∷ (pos 1 ∷ pos 0 ∷ pos 1 ∷ [])
+    ∷ (pos 1 ∷ pos 0 ∷ negsuc 0 ∷ [])
+    ∷ (pos 0 ∷ pos 1 ∷ pos 1 ∷ [])
+    ∷ (pos 0 ∷ pos 1 ∷ negsuc 0 ∷ [])
+    ∷ (pos 1 ∷ pos 1 ∷ pos 1 ∷ [])
+    ∷ (pos 1 ∷ pos 1 ∷ negsuc 0 ∷ [])
+    ∷ (pos 1 ∷ negsuc 0 ∷ pos 1 ∷ [])
+    ∷ (pos 1 ∷ negsuc 0 ∷ negsuc 0 ∷ [])
+    ∷ []
+
 unfoldable pub steps : List (List ℤ)
-steps = map reverse (lists 3)
+steps = paired halves
 
--- how many of them are those of k vectors
+-- how many pairs, and how many lists, are those of k vectors
+abbrev pub pairs : ℕ → ℕ
+pairs k = getD (0 ∷ 1 ∷ 4 ∷ 13 ∷ []) k 0
+
 abbrev pub count : ℕ → ℕ
-count k = getD (0 ∷ 2 ∷ 8 ∷ 26 ∷ []) k 0
+count k = 2 * pairs k
 
-pub count-≤ : (k : ℕ) → k ≤ 3 → count k ≤ 26
-count-≤ zero h = omega arith
-count-≤ (suc zero) h = omega arith
-count-≤ (suc (suc zero)) h = omega arith
-count-≤ (suc (suc (suc zero))) h = omega arith
-count-≤ (suc (suc (suc (suc k)))) h = absurd (omega arith)
+pub pairs-≤ : (k : ℕ) → k ≤ 3 → pairs k ≤ 13
+pairs-≤ zero h = omega arith
+pairs-≤ (suc zero) h = omega arith
+pairs-≤ (suc (suc zero)) h = omega arith
+pairs-≤ (suc (suc (suc zero))) h = omega arith
+pairs-≤ (suc (suc (suc (suc k)))) h = absurd (omega arith)
+
+-- the list behind an even place is the opposite
+pub opposite-at : (i : ℕ) → i < 13 → getD steps (2 * i + 1) [] ≡ negsuc 0 ⊙ getD steps (2 * i) []
+unfolding steps
+opposite-at i h = go halves i h
+  where
+    go : (l : List (List ℤ)) (i : ℕ) → i < length l → getD (paired l) (2 * i + 1) [] ≡ negsuc 0 ⊙ getD (paired l) (2 * i) []
+    go [] i h = absurd (omega arith)
+    go (e ∷ l) zero h = refl
+    go (e ∷ l) (suc i) h =
+        let a : 2 * suc i ≡ suc (suc (2 * i)) = omega arith in
+        let b : 2 * suc i + 1 ≡ suc (suc (2 * i + 1)) = omega arith in
+        rw (b, a) (go l i (omega arith))
 
 -- ---- tests of all entries and of all lists
 
@@ -60,11 +99,15 @@ abbrev small : ℤ → Bool
 small x = leb (natAbs x) 1
 
 pub steps-bounded : (i : ℕ) → Bounded 1 (getD steps i [])
-unfolding steps
+unfolding steps _⊙_
 steps-bounded i j = record {
   within = leb→le (natAbs (nth (getD steps i []) j)) 1
       (every-at small (getD steps i []) (pos 0) tt (every-at (every small) steps [] tt tt i) j);
 }
+
+pub steps-long : (i : ℕ) → i < 26 → length (getD steps i []) ≡ 3
+unfolding steps _⊙_
+steps-long i h = eqb→eq (length (getD steps i [])) 3 (every-in (λ e. eqb (length e) 3) steps [] tt i h)
 
 -- ---- zeros behind
 
@@ -82,7 +125,7 @@ abbrev behind : ℕ → Bool
 behind k = every (λ e. every isZero (drop k e)) (take (count k) steps)
 
 behind-all : (k : ℕ) → k ≤ 3 → T (behind k)
-unfolding steps
+unfolding steps _⊙_
 behind-all zero h = tt
 behind-all (suc zero) h = tt
 behind-all (suc (suc zero)) h = tt
@@ -134,7 +177,7 @@ abbrev covers : ℕ → Bool
 covers k = every (λ e. has (take (count k) steps) (padded 3 e)) (lists k)
 
 covers-all : (k : ℕ) → k ≤ 3 → T (covers k)
-unfolding steps
+unfolding steps _⊙_
 covers-all zero h = tt
 covers-all (suc zero) h = tt
 covers-all (suc (suc zero)) h = tt

@@ -1,7 +1,8 @@
 // The nearest vector in the lattice of at most three reduced vectors. The loop works on numbers: g is the Gram matrix of the vectors,
 // c holds their inner products with what is left of the target.
 ghost use mathlib.Core.Path.{_≡_};
-ghost use mathlib.Core.List.{[]};
+ghost use mathlib.Core.List.{[], _∷_};
+ghost use mathlib.Core.Bool.{false};
 ghost use Prim.Native.Nat.{ℕ, _≤_, _<_};
 ghost use lib.IntN.{pos, _*ℤ_};
 ghost use lib.ListN.{getD, take};
@@ -11,9 +12,9 @@ ghost use Rattle.lattices.specs.Vector.{nth, dot, _⊕_};
 ghost use Rattle.lattices.specs.Nearest.{nearest};
 ghost use Rattle.lattices.specs.Answer.{padded};
 ghost use Rattle.minima.specs.Digits.{Bounded};
-ghost use Rattle.search.specs.Numbers.{moved, gainOf, negative, improvesOf, Sized};
+ghost use Rattle.search.specs.Numbers.{moved, gainOf, negative, Sized};
 ghost use Rattle.search.specs.Found.{Found, Decided};
-ghost use Rattle.search.specs.Multiples.{Multiple};
+ghost use Rattle.search.specs.Multiples.{Lowers, Multiple, Settled};
 ghost use Rattle.search.specs.Gram.{Products, Gram};
 ghost use Rattle.search.specs.Searchable.{Searchable};
 
@@ -79,13 +80,10 @@ fn negative(e: [i64; 3]) -> bool
     false
 }
 
-// Does the step e lead to a smaller value?
-fn improves(g: [[i64; 3]; 3], h: [i64; 3], e: [i64; 3]) -> bool
-    requires { ⌜ Sized 4000000000 g h ⌝ }
-    requires { ⌜ Bounded 1 e ⌝ }
-    ensures { λ r. ⌜ r ≡ improvesOf g h e ⌝ }
+// Does the step e lead to a smaller value? It changes the squared length by v.
+fn improves(v: i64, e: [i64; 3]) -> bool
+    ensures { λ r. ⌜ r ≡ negative (v ∷ e) ⌝ }
 {
-    let v = gain(g, h, e);
     if v < 0 {
         return true;
     }
@@ -95,37 +93,37 @@ fn improves(g: [[i64; 3]; 3], h: [i64; 3], e: [i64; 3]) -> bool
     negative(e)
 }
 
-// The lists with entries −1, 0, 1, not all 0: the first COUNTS[k] are those of k vectors.
+// The lists with entries −1, 0, 1, not all 0, each before its opposite: the first PAIRS[k] pairs are those of k vectors.
 const LISTS: [[i64; 3]; 26] = [
     [1, 0, 0],
     [-1, 0, 0],
     [0, 1, 0],
-    [1, 1, 0],
-    [-1, 1, 0],
     [0, -1, 0],
-    [1, -1, 0],
+    [1, 1, 0],
     [-1, -1, 0],
+    [1, -1, 0],
+    [-1, 1, 0],
     [0, 0, 1],
+    [0, 0, -1],
     [1, 0, 1],
+    [-1, 0, -1],
+    [1, 0, -1],
     [-1, 0, 1],
     [0, 1, 1],
-    [1, 1, 1],
-    [-1, 1, 1],
-    [0, -1, 1],
-    [1, -1, 1],
-    [-1, -1, 1],
-    [0, 0, -1],
-    [1, 0, -1],
-    [-1, 0, -1],
-    [0, 1, -1],
-    [1, 1, -1],
-    [-1, 1, -1],
     [0, -1, -1],
-    [1, -1, -1],
+    [0, 1, -1],
+    [0, -1, 1],
+    [1, 1, 1],
     [-1, -1, -1],
+    [1, 1, -1],
+    [-1, -1, 1],
+    [1, -1, 1],
+    [-1, 1, -1],
+    [1, -1, -1],
+    [-1, 1, 1],
 ];
 
-const COUNTS: [usize; 4] = [0, 2, 8, 26];
+const PAIRS: [usize; 4] = [0, 1, 4, 13];
 
 // The coefficients to add, if there is a step to a smaller value.
 struct Step {
@@ -133,20 +131,28 @@ struct Step {
     better: bool,
 }
 
-// The first list of the table that improves.
+// The first list of the table that improves. A list and its opposite differ in their change by four inner products, not twelve.
 fn walk(g: [[i64; 3]; 3], h: [i64; 3], k: usize) -> Step
     requires { ⌜ k ≤ 3 ⌝ }
     requires { ⌜ Sized 4000000000 g h ⌝ }
     ensures { λ r. ⌜ Decided k g h r ⌝ }
 {
-    let n = COUNTS[k];
+    let n = PAIRS[k];
     // once before the loop: a constant is built wherever it is named
     let lists = LISTS;
     for i in 0..n {
-        let e = lists[i];
-        if improves(g, h, e) {
+        let e = lists[2 * i];
+        let v = gain(g, h, e);
+        if improves(v, e) {
             return Step {
                 list: e,
+                better: true,
+            };
+        }
+        let f = lists[2 * i + 1];
+        if improves(v + 2 * dot3(h, e), f) {
+            return Step {
+                list: f,
                 better: true,
             };
         }
@@ -168,7 +174,34 @@ fn rounded(p: i64, n: i64) -> i64
     (2 * p + half) / (2 * n)
 }
 
-// The multiple of a vector to take away: n is its squared length, p its inner product with what is left. 0 if that does not shorten.
+// The rounded multiple of a vector, if taking it away leads to a smaller value, and else the one given, which does: n is the vector's
+// squared length, p its inner product with what is left.
+fn rounded_or(n: i64, p: i64, one: i64) -> i64
+    requires { ⌜ Within 400000000 n ⌝ }
+    requires { ⌜ pos 0 <ℤ n ⌝ }
+    requires { ⌜ Within 2000000000 p ⌝ }
+    requires { ⌜ Lowers n p one ⌝ }
+    requires { ⌜ Within 4400000000 one ⌝ }
+    ensures { λ r. ⌜ Lowers n p r ⌝ }
+    ensures { λ r. ⌜ Within 4400000000 r ⌝ }
+{
+    let q = rounded(p, n);
+    let d = q * n - 2 * p;
+    if q < 0 {
+        if 0 <= d {
+            return q;
+        }
+        return one;
+    }
+    if 0 < q {
+        if d < 0 {
+            return q;
+        }
+    }
+    one
+}
+
+// The multiple of a vector to take away; 0 if no multiple leads to a smaller value.
 fn multiple(n: i64, p: i64) -> i64
     requires { ⌜ Within 400000000 n ⌝ }
     requires { ⌜ pos 0 <ℤ n ⌝ }
@@ -176,16 +209,11 @@ fn multiple(n: i64, p: i64) -> i64
     ensures { λ r. ⌜ Multiple n p r ⌝ }
 {
     let twice = 2 * p;
-    if -n <= twice && twice <= n {
-        return 0;
+    if n < twice {
+        return rounded_or(n, p, 1);
     }
-    let q = rounded(p, n);
-    let d = q * n - twice;
-    if q < 0 && 0 < d {
-        return q;
-    }
-    if 0 < q && d < 0 {
-        return q;
+    if twice <= -n {
+        return rounded_or(n, p, -1);
     }
     0
 }
@@ -196,6 +224,7 @@ fn along(g: [[i64; 3]; 3], c: [i64; 3], k: usize) -> Step
     requires { ⌜ Sized 2000000000 g c ⌝ }
     requires { ⌜ ((i : ℕ) → i < k → pos 0 <ℤ nth (getD g i []) i) ⌝ }
     ensures { λ r. ⌜ Found k g (c ⊕ c) r ⌝ }
+    ensures { λ r. ⌜ (r .better ≡ false → Settled k g c) ⌝ }
 {
     let mut i = k;
     while 0 < i {
@@ -216,7 +245,7 @@ fn along(g: [[i64; 3]; 3], c: [i64; 3], k: usize) -> Step
     }
 }
 
-// A step to a smaller value, along one vector if that does it.
+// A step to a smaller value, along one vector if that does it. For one vector that is all there is.
 fn next_step(g: [[i64; 3]; 3], c: [i64; 3], k: usize) -> Step
     requires { ⌜ k ≤ 3 ⌝ }
     requires { ⌜ Sized 2000000000 g c ⌝ }
@@ -225,6 +254,9 @@ fn next_step(g: [[i64; 3]; 3], c: [i64; 3], k: usize) -> Step
 {
     let s = along(g, c, k);
     if s.better {
+        return s;
+    }
+    if k < 2 {
         return s;
     }
     walk(g, added(c, c), k)

@@ -1,68 +1,72 @@
--- `multiple` tests the sign of q·(q·n − 2p) by those of its factors.
-use borrow.Author.Needs.{needs}
-use mathlib.Core.Logic.{inr}
-use lib.IntN.{pos, _-ℤ_, _*ℤ_, +ℤ-idl}
+-- `multiple` takes a multiple that lowers the value where 1 or −1 does.
+use mathlib.Core.Path.{refl}
+use mathlib.Core.Logic.{inl, inr}
+use native.Mathlib.Omega.{arith}
+use lib.IntN.{pos, negℤ, _*ℤ_, +ℤ-idl}
 use mir.Syntax.{w64}
 use mir.Val.{SFits}
 use mir.Facts.{toZ-ofZ}
-use Rattle.integers.specs.Order.{ltZ-true}
+use Rattle.integers.specs.Order.{ltZ-true, ltZ-false, leZ-true, leZ-false}
 use Rattle.integers.specs.Size.{within-neg, fits-within}
-use Rattle.search.specs.Multiples.{none, within-twice, Tested, tested, product-left, product-right}
+use Rattle.search.specs.Multiples.{within-twice, one-lowers, minus-one-lowers}
+use borrow.Author.Needs.{needs}
 use Rattle.search.proofs.multiple.Statement.{statement}
 use Rattle.search.proofs.multiple.Tie as tie
+use Rattle.search.proofs.rounded_or.Reads as rounded-or-reads
+
+twice : (s : tie.Start) → SFits w64 (pos 2 *ℤ s .args .p)
+twice s = fits-within (within-twice (s .pre .1 .1)) tt
+
+opposite : (s : tie.Start) → SFits w64 (negℤ (s .args .n))
+opposite s = fits-within (within-neg (s .pre .0)) tt
 
 mul-twice : tie.Need-mul-twice
-mul-twice c =
-    let f : SFits w64 (c .args .p) = c .fits .p in
-    simp (toZ-ofZ, f) (fits-within (within-twice (c .pre .1 .1)) tt)
+mul-twice c = simp (toZ-ofZ, c .fits .p) (twice c)
 
-sub-if1 : tie.Need-sub-if1
-sub-if1 c =
-    let f : SFits w64 (c .args .n) = c .fits .n in
-    simp (toZ-ofZ, f, +ℤ-idl) (fits-within (within-neg (c .pre .0)) tt)
+rounded-or-requires : tie.Need-rounded-or-requires
+rounded-or-requires c κs =
+    let s = c .before in
+    let h = ltZ-true (simp (toZ-ofZ, s .fits .n, s .fits .p, twice s) at (c .if1 .taken)) in
+    simp (toZ-ofZ, s .fits .n, s .fits .p) (s .pre .0, (s .pre .1 .0, (s .pre .1 .1, (one-lowers (s .args .n) (s .args .p) h, record { within = omega arith }))))
 
 returns : tie.Need-returns
-returns c = none _ _
+returns c =
+    let s = c .before .before in
+    let r = simp (toZ-ofZ, s .fits .n, s .fits .p) at (c .rounded-or .ensures) in
+    let q : SFits w64 (c .rounded-or .result) = record { sfits = c .rounded-or .ok } in
+    simp (toZ-ofZ, q) (record { bounded = r .1; decided = inr (r .0) })
 
-rounded-requires : tie.Need-rounded-requires
-rounded-requires c κs = search needs
+sub-if2 : tie.Need-sub-if2
+sub-if2 c = let s = c .before in simp (toZ-ofZ, s .fits .n, +ℤ-idl) (opposite s)
 
--- what fits
-here : (c : tie.After-rounded) → let s = c .before .before in Tested (s .args .n) (s .args .p) (c .rounded .result)
-here c = let s = c .before .before in tested (s .fits .n) (s .fits .p) (record { sfits = c .rounded .ok }) (s .pre .0) (s .pre .1 .1) (c .rounded .ensures)
-
-mul-d : tie.Need-mul-d
-mul-d c = let f = here c in simp (toZ-ofZ, f .square, f .factor) (f .product)
-
-sub-d : tie.Need-sub-d
-sub-d c = let f = here c in simp (toZ-ofZ, f .square, f .factor, f .inner, f .product, f .twice) (f .difference)
+rounded-or-requires-2 : tie.Need-rounded-or-requires-2
+rounded-or-requires-2 c κs =
+    let s = c .before .before in
+    let h = leZ-true (simp (toZ-ofZ, s .fits .n, s .fits .p, +ℤ-idl, twice s, opposite s) at (c .if2 .taken)) in
+    simp (toZ-ofZ, s .fits .n, s .fits .p) (s .pre .0, (s .pre .1 .0, (s .pre .1 .1, (minus-one-lowers (s .args .n) (s .args .p) h, record { within = omega arith }))))
 
 returns-2 : tie.Need-returns-2
 returns-2 c =
-    let s = c .before .before in
-    let a = s .before .before .args in
-    let f = here s in
-    let h = simp (toZ-ofZ, f .square, f .factor, f .inner, f .product, f .twice, f .difference) at (c .if4 .taken) in
-    simp (toZ-ofZ, f .factor) (record {
-      bounded = s .rounded .ensures;
-      shorter = inr (product-left {a = s .rounded .result} {b = s .rounded .result *ℤ a .n -ℤ pos 2 *ℤ a .p} (ltZ-true (simp (toZ-ofZ, f .factor) at (c .before .if3 .taken))) (ltZ-true h));
-    })
+    let s = c .before .before .before in
+    let r = simp (toZ-ofZ, s .fits .n, s .fits .p) at (c .rounded-or2 .ensures) in
+    let q : SFits w64 (c .rounded-or2 .result) = record { sfits = c .rounded-or2 .ok } in
+    simp (toZ-ofZ, q) (record { bounded = r .1; decided = inr (r .0) })
 
 returns-3 : tie.Need-returns-3
 returns-3 c =
-    let s = c .before .before .before in
-    let a = s .before .before .args in
-    let f = here s in
-    let h = simp (toZ-ofZ, f .square, f .factor, f .inner, f .product, f .twice, f .difference) at (c .if6 .taken) in
-    simp (toZ-ofZ, f .factor) (record {
-      bounded = s .rounded .ensures;
-      shorter = inr (product-right {a = s .rounded .result} {b = s .rounded .result *ℤ a .n -ℤ pos 2 *ℤ a .p} (ltZ-true (simp (toZ-ofZ, f .factor) at (c .before .if5 .taken))) (ltZ-true h));
-    })
-
-returns-4 : tie.Need-returns-4
-returns-4 c = none _ _
+    let s = c .before .before in
+    let h = ltZ-false (simp (toZ-ofZ, s .fits .n, s .fits .p, twice s) at (c .before .if1 .left)) in
+    let k = leZ-false (simp (toZ-ofZ, s .fits .n, s .fits .p, +ℤ-idl, twice s, opposite s) at (c .if2 .left)) in
+    record { bounded = record { within = omega arith }; decided = inl (refl, (k, h)) }
 
 pub multiple-spec : {M : Type 1} → statement M
 multiple-spec =
     tie.close
-    (tie.spec mul-twice sub-if1 returns rounded-requires mul-d sub-d returns-2 returns-3 returns-4)
+    (tie.spec
+    mul-twice
+    rounded-or-requires
+    returns
+    sub-if2
+    rounded-or-requires-2
+    returns-2
+    returns-3)
