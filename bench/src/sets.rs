@@ -1,6 +1,6 @@
 //! The inputs that are timed: d vectors of d coordinates, the same for the same seed.
 
-use reference::cases::Random;
+use reference::random::Random;
 
 #[derive(Clone, Copy)]
 pub enum Set {
