@@ -3,8 +3,8 @@ use mathlib.Core.Path.{sym}
 use lib.Seq.{length-take-le}
 use native.Mathlib.Omega.{arith}
 use borrow.Author.Needs.{needs}
-use Rattle.raghymtos.proofs.answer.Statement.{statement}
-use Rattle.raghymtos.proofs.answer.Tie as tie
+use Rattle.service.proofs.answer.Statement.{statement}
+use Rattle.service.proofs.answer.Tie as tie
 
 slice-aggregate-error : tie.Need-slice-aggregate-error
 slice-aggregate-error c = search needs
@@ -21,8 +21,8 @@ slice-aggregate-s c = sym (length-take-le _ _ (omega arith))
 blanks-requires : tie.Need-blanks-requires
 blanks-requires c κs = search needs
 
-reduce-requires : tie.Need-reduce-requires
-reduce-requires c κs = search needs
+reply-requires : tie.Need-reply-requires
+reply-requires c κs = search needs
 
 returns-2 : tie.Need-returns-2
 returns-2 c = search needs
@@ -39,6 +39,6 @@ answer-spec =
     returns
     slice-aggregate-s
     blanks-requires
-    reduce-requires
+    reply-requires
     returns-2
     returns-3)

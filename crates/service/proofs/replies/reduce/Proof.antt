@@ -3,8 +3,8 @@ use mathlib.Core.Path.{sym}
 use lib.Seq.{length-take-le}
 use native.Mathlib.Omega.{arith}
 use borrow.Author.Needs.{needs}
-use Rattle.raghymtos.proofs.reduce.Statement.{statement}
-use Rattle.raghymtos.proofs.reduce.Tie as tie
+use Rattle.service.proofs.replies.reduce.Statement.{statement}
+use Rattle.service.proofs.replies.reduce.Tie as tie
 
 read-counts-requires : tie.Need-read-counts-requires
 read-counts-requires c κs = search needs

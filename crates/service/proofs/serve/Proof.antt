@@ -1,13 +1,13 @@
 -- The turns fall. Nothing has to hold from turn to turn.
 use borrow.Author.Needs.{needs}
-use Rattle.raghymtos.proofs.serve.Statement.{statement}
-use Rattle.raghymtos.proofs.serve.Tie as tie
+use Rattle.service.proofs.serve.Statement.{statement}
+use Rattle.service.proofs.serve.Tie as tie
 
 abbrev Inv-loop : tie.InvT-loop
-Inv-loop buffer₀ p₀ turns₀ buffer p turns = Unit {0}
+Inv-loop command buffer₀ p₀ turns₀ buffer p turns = Unit {0}
 
 abbrev μ-loop : tie.MeasureT-loop
-μ-loop buffer₀ p₀ turns₀ buffer p turns = turns
+μ-loop command buffer₀ p₀ turns₀ buffer p turns = turns
 
 buffer-requires : tie.Need-buffer-requires Inv-loop μ-loop
 buffer-requires c κs = search needs

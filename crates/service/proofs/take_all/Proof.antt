@@ -3,14 +3,14 @@ use mathlib.Core.Path.{_≡_}
 use Prim.Native.Nat.{_≤_, _-_}
 use lib.ListN.{length}
 use borrow.Author.Needs.{needs}
-use Rattle.raghymtos.proofs.take_all.Statement.{statement}
-use Rattle.raghymtos.proofs.take_all.Tie as tie
+use Rattle.service.proofs.take_all.Statement.{statement}
+use Rattle.service.proofs.take_all.Tie as tie
 
 abbrev Inv-loop : tie.InvT-loop
-Inv-loop buffer₀ s q₀ i₀ i-end buffer q i = (i ≤ i-end) × (i-end ≡ length s) × (length buffer ≡ length buffer₀)
+Inv-loop command buffer₀ s q₀ i₀ i-end buffer q i = (i ≤ i-end) × (i-end ≡ length s) × (length buffer ≡ length buffer₀)
 
 abbrev μ-loop : tie.MeasureT-loop
-μ-loop buffer₀ s q₀ i₀ i-end buffer q i = i-end - i
+μ-loop command buffer₀ s q₀ i₀ i-end buffer q i = i-end - i
 
 loop-holds : tie.Need-loop-holds Inv-loop μ-loop
 loop-holds c = search needs
