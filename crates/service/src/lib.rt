@@ -20,7 +20,7 @@ fn answer(command: Command, buffer: &[u8], p: Place) {
         return;
     }
     let s = &buffer[..n];
-    if requests::blanks(s) < s.len() {
+    if requests::tokens::blanks(s) < s.len() {
         replies::reply(command, s, p.line);
     }
 }

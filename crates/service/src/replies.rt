@@ -44,7 +44,7 @@ fn is_end(stop: Kind) -> bool {
 
 // Answers `d m ; numbers`, vector by vector.
 fn reduce(s: &[u8], line: u64) {
-    let counts = requests::read_counts(s);
+    let counts = requests::first_part::read_counts(s);
     let first = counts.stop;
     if !is_semicolon(first) {
         mistake(line, first);
@@ -68,7 +68,7 @@ fn reduce(s: &[u8], line: u64) {
 
 // Answers `d m ; numbers ; target`.
 fn nearest(s: &[u8], line: u64) {
-    let counts = requests::read_counts(s);
+    let counts = requests::first_part::read_counts(s);
     let first = counts.stop;
     if !is_semicolon(first) {
         mistake(line, first);

@@ -9,8 +9,8 @@ use mir.Syntax.{w64}
 use mir.Val.{toZ, ofZ, SFits}
 use mir.Facts.{toZ-ofZ, toZ-pos}
 use Rattle.requests.specs.NumberLaws.{neg-fits, less-one, withSign-minus}
-use Rattle.requests.proofs.with_sign.Statement.{statement}
-use Rattle.requests.proofs.with_sign.Tie as tie
+use Rattle.requests.proofs.numbers.with_sign.Statement.{statement}
+use Rattle.requests.proofs.numbers.with_sign.Tie as tie
 
 -- what the code computes on the way is −(n − 1), then one less
 turned : (c : tie.Else2) → pos 0 -ℤ toZ w64 (c .before .before .args .n - 1) ≡ negℤ (pos (c .before .before .args .n - 1))

@@ -8,8 +8,8 @@ use mir.Syntax.{w64}
 use mir.Facts.{toZ-ofZ}
 use Rattle.requests.specs.Numbers.{value, read}
 use Rattle.requests.specs.NumberLaws.{signed-none, signed-some, sized-large, sized-small}
-use Rattle.requests.proofs.signed.Statement.{statement}
-use Rattle.requests.proofs.signed.Tie as tie
+use Rattle.requests.proofs.numbers.signed.Statement.{statement}
+use Rattle.requests.proofs.numbers.signed.Tie as tie
 
 digits-requires : tie.Need-digits-requires
 digits-requires c κs = search needs

@@ -4,11 +4,11 @@ use native.Mathlib.Omega.{arith}
 use mathlib.Core.Path.{_≡_, sym, _∙_}
 use lib.ListN.{length, drop}
 use borrow.Author.Tests.{not-true, not-false}
-use Rattle.requests.specs.Numbers.{digits}
-use Rattle.requests.specs.NumberLaws.{digits-next, digits-end}
+use Rattle.requests.specs.Numbers.{isDigit, digits}
+use Rattle.requests.specs.NumberLaws.{leading-next, leading-end}
 use borrow.Author.Needs.{needs}
-use Rattle.requests.proofs.digits.Statement.{statement}
-use Rattle.requests.proofs.digits.Tie as tie
+use Rattle.requests.proofs.numbers.digits.Statement.{statement}
+use Rattle.requests.proofs.numbers.digits.Tie as tie
 
 abbrev Inv-loop : tie.InvT-loop
 Inv-loop s i₀ i = (i ≤ length s) × (digits s ≡ i + digits (drop i s))
@@ -29,7 +29,7 @@ returns : tie.Need-returns Inv-loop μ-loop
 returns c =
     let l = c .before .before .before .before in
     let e = sym (c .before .is-digit .ensures) ∙ not-true _ (c .if1 .taken) in
-    (omega (arith, l .loop .inv .1, digits-next (l .before .before .args .s .now) (l .loop .i) (omega arith) e), omega arith)
+    (omega (arith, l .loop .inv .1, leading-next isDigit (l .before .before .args .s .now) (l .loop .i) (omega arith) e), omega arith)
 
 add-i : tie.Need-add-i Inv-loop μ-loop
 add-i c = search needs
@@ -41,10 +41,10 @@ loop-again : tie.Need-loop-again Inv-loop μ-loop
 loop-again c =
     let l = c .before .before .before .before in
     let e = sym (c .before .is-digit .ensures) ∙ not-false _ (c .if1 .left) in
-    (omega arith, omega (arith, l .loop .inv .1, digits-next (l .before .before .args .s .now) (l .loop .i) (omega arith) e))
+    (omega arith, omega (arith, l .loop .inv .1, leading-next isDigit (l .before .before .args .s .now) (l .loop .i) (omega arith) e))
 
 returns-2 : tie.Need-returns-2 Inv-loop μ-loop
-returns-2 c = (omega (arith, c .before .loop .inv .1, digits-end (c .before .before .before .args .s .now) (c .before .loop .i) (omega arith)), omega arith)
+returns-2 c = (omega (arith, c .before .loop .inv .1, leading-end isDigit (c .before .before .before .args .s .now) (c .before .loop .i) (omega arith)), omega arith)
 
 pub digits-spec : {M : Type 1} → statement M
 digits-spec =

@@ -5,8 +5,8 @@ use borrow.Author.Tests.{eq-eqb, ne-eqb}
 use Rattle.requests.specs.NumberLaws.{minus-none}
 use native.Mathlib.Omega.{arith}
 use borrow.Author.Needs.{needs}
-use Rattle.requests.proofs.minus.Statement.{statement}
-use Rattle.requests.proofs.minus.Tie as tie
+use Rattle.requests.proofs.numbers.minus.Statement.{statement}
+use Rattle.requests.proofs.numbers.minus.Tie as tie
 
 returns : tie.Need-returns
 returns c = (sym (minus-none (c .before .args .s .now) (c .if1 .taken)), (omega arith, omega arith))

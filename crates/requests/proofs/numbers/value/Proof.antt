@@ -6,8 +6,8 @@ use lib.ListN.{length, drop}
 use Rattle.requests.specs.Numbers.{value, beyond}
 use Rattle.requests.specs.NumberLaws.{value-next, value-end}
 use borrow.Author.Needs.{needs}
-use Rattle.requests.proofs.value.Statement.{statement}
-use Rattle.requests.proofs.value.Tie as tie
+use Rattle.requests.proofs.numbers.value.Statement.{statement}
+use Rattle.requests.proofs.numbers.value.Tie as tie
 
 abbrev Inv-loop : tie.InvT-loop
 Inv-loop s n₀ i₀ n i = (i ≤ length s) × (n ≤ beyond) × (min beyond (value 0 s) ≡ min beyond (value n (drop i s)))

@@ -1,8 +1,8 @@
 -- Each way through the test gives its flag.
 use native.Mathlib.Omega.{arith}
 use borrow.Author.Tests.{le-leb, lt-leb}
-use Rattle.requests.proofs.is_digit.Statement.{statement}
-use Rattle.requests.proofs.is_digit.Tie as tie
+use Rattle.requests.proofs.numbers.is_digit.Statement.{statement}
+use Rattle.requests.proofs.numbers.is_digit.Tie as tie
 
 returns : tie.Need-returns
 returns c = rw (le-leb 48 (c .before .args .b) (omega arith))

@@ -7,8 +7,8 @@ use Rattle.requests.specs.Numbers.{signedAt, numberAt}
 use Rattle.requests.specs.NumberLaws.{number-bound}
 use native.Mathlib.Omega.{arith}
 use borrow.Author.Needs.{needs}
-use Rattle.requests.proofs.number.Statement.{statement}
-use Rattle.requests.proofs.number.Tie as tie
+use Rattle.requests.proofs.numbers.number.Statement.{statement}
+use Rattle.requests.proofs.numbers.number.Tie as tie
 
 minus-requires : tie.Need-minus-requires
 minus-requires c κs = search needs
