@@ -1,9 +1,12 @@
-//! The same greedy steps in plain Rust, written for speed: the measure for the engine.
+//! The same steps in plain Rust, written for speed: the measure for the engine.
+
+pub mod nearest;
+mod search;
 
 /// The answer in the header's order.
 pub type Answer = [i64; 55];
 
-type Table = [[i64; 4]; 4];
+pub type Table = [[i64; 4]; 4];
 
 const MOST_SIZE: i64 = 20_000;
 const MOST_SQUARE: i64 = 400_000_000;
@@ -12,7 +15,7 @@ const MOST_SQUARE: i64 = 400_000_000;
 #[inline(never)]
 pub fn reduce(numbers: &[i64], d: usize, m: usize, out: &mut Answer) {
     *out = [0; 55];
-    match begin(numbers, d, m) {
+    match begin::<true>(numbers, d, m) {
         Err(refusal) => out[0] = refusal,
         Ok(mut w) => {
             w.reduce(d);
@@ -21,8 +24,9 @@ pub fn reduce(numbers: &[i64], d: usize, m: usize, out: &mut Answer) {
     }
 }
 
-/// The vectors with their squared lengths, the rows of U and the columns of V.
-struct Work {
+/// The vectors with their squared lengths, the rows of U and the columns of V. Where only the vectors are wanted, TABLES is false
+/// and U and V are left alone.
+struct Work<const TABLES: bool> {
     vectors: Table,
     squares: [i64; 4],
     u: Table,
@@ -30,7 +34,7 @@ struct Work {
     passes: i64,
 }
 
-fn begin(numbers: &[i64], d: usize, m: usize) -> Result<Work, i64> {
+fn begin<const TABLES: bool>(numbers: &[i64], d: usize, m: usize) -> Result<Work<TABLES>, i64> {
     if !(1..=4).contains(&d) {
         return Err(1);
     }
@@ -53,14 +57,7 @@ fn begin(numbers: &[i64], d: usize, m: usize) -> Result<Work, i64> {
         w.v[i][i] = 1;
     }
     for i in 0..d {
-        let v = &w.vectors[i];
-        if v.iter().any(|x| !(-MOST_SIZE..=MOST_SIZE).contains(x)) {
-            return Err(4);
-        }
-        w.squares[i] = dot(v, v);
-        if w.squares[i] > MOST_SQUARE {
-            return Err(4);
-        }
+        w.squares[i] = square_within(&w.vectors[i]).ok_or(4)?;
     }
     if dependent(&w.vectors, d) {
         return Err(5);
@@ -68,7 +65,15 @@ fn begin(numbers: &[i64], d: usize, m: usize) -> Result<Work, i64> {
     Ok(w)
 }
 
-fn dot(a: &[i64; 4], b: &[i64; 4]) -> i64 {
+/// The squared length, if no coordinate and not the length is over the limit.
+fn square_within(v: &[i64; 4]) -> Option<i64> {
+    if v.iter().any(|x| !(-MOST_SIZE..=MOST_SIZE).contains(x)) {
+        return None;
+    }
+    Some(dot(v, v)).filter(|&n| n <= MOST_SQUARE)
+}
+
+pub fn dot(a: &[i64; 4], b: &[i64; 4]) -> i64 {
     a[0] * b[0] + a[1] * b[1] + a[2] * b[2] + a[3] * b[3]
 }
 
@@ -106,7 +111,7 @@ fn dependent(b: &Table, d: usize) -> bool {
     s[0] * three[0] - s[1] * three[1] + s[2] * three[2] - s[3] * three[3] == 0
 }
 
-impl Work {
+impl<const TABLES: bool> Work<TABLES> {
     /// Steps 1 to 6 for the first n vectors.
     fn reduce(&mut self, n: usize) {
         if n < 2 {
@@ -129,8 +134,10 @@ impl Work {
             while j > 0 && self.squares[j] < self.squares[j - 1] {
                 self.squares.swap(j, j - 1);
                 self.vectors.swap(j, j - 1);
-                self.u.swap(j, j - 1);
-                self.v.swap(j, j - 1);
+                if TABLES {
+                    self.u.swap(j, j - 1);
+                    self.v.swap(j, j - 1);
+                }
                 j -= 1;
             }
         }
@@ -138,7 +145,7 @@ impl Work {
 
     /// Steps 4 and 5 for vector k.
     fn pass(&mut self, k: usize) {
-        let x = nearest(&self.vectors, &self.squares, k);
+        let x = search::nearest(&self.vectors, &self.squares, k, &self.vectors[k]);
         self.passes += 1;
         for j in 0..k {
             if x[j] == 0 {
@@ -146,8 +153,10 @@ impl Work {
             }
             for i in 0..4 {
                 self.vectors[k][i] -= x[j] * self.vectors[j][i];
-                self.u[k][i] -= x[j] * self.u[j][i];
-                self.v[j][i] += x[j] * self.v[k][i];
+                if TABLES {
+                    self.u[k][i] -= x[j] * self.u[j][i];
+                    self.v[j][i] += x[j] * self.v[k][i];
+                }
             }
         }
         self.squares[k] = dot(&self.vectors[k], &self.vectors[k]);
@@ -164,78 +173,4 @@ impl Work {
             }
         }
     }
-}
-
-/// The lists with entries −1, 0, 1, not all 0: the first COUNTS[k] are those of k vectors.
-const LISTS: [[i64; 3]; 26] = lists();
-
-const COUNTS: [usize; 4] = [0, 2, 8, 26];
-
-const fn lists() -> [[i64; 3]; 26] {
-    let digits = [0, 1, -1];
-    let mut all = [[0; 3]; 26];
-    let mut i = 0;
-    while i < 26 {
-        let n = i + 1;
-        all[i] = [digits[n % 3], digits[n / 3 % 3], digits[n / 9]];
-        i += 1;
-    }
-    all
-}
-
-/// Step 4: the coefficients of the vector nearest to vector k in the lattice of the k reduced vectors before it.
-fn nearest(b: &Table, squares: &[i64; 4], k: usize) -> [i64; 3] {
-    let mut g = [[0; 3]; 3];
-    let mut c = [0; 3];
-    for i in 0..k {
-        g[i][i] = squares[i];
-        for j in 0..i {
-            g[i][j] = dot(&b[i], &b[j]);
-            g[j][i] = g[i][j];
-        }
-        c[i] = dot(&b[i], &b[k]);
-    }
-    let mut x = [0; 3];
-    while let Some(e) = along(&g, &c, k).or_else(|| walk(&g, &c, k)) {
-        for i in 0..3 {
-            x[i] += e[i];
-            c[i] -= dot3(&g[i], &e);
-        }
-    }
-    x
-}
-
-fn dot3(a: &[i64; 3], b: &[i64; 3]) -> i64 {
-    a[0] * b[0] + a[1] * b[1] + a[2] * b[2]
-}
-
-/// A shortening step along one vector, from the last on.
-fn along(g: &[[i64; 3]; 3], c: &[i64; 3], k: usize) -> Option<[i64; 3]> {
-    for i in (0..k).rev() {
-        let (n, p) = (g[i][i], c[i]);
-        if 2 * p.abs() > n {
-            let half = if p < 0 { -n } else { n };
-            let mut e = [0; 3];
-            e[i] = (2 * p + half) / (2 * n);
-            // from 2p = ±(2q − 1)n the step leads to an equal length
-            if e[i].abs() * n < 2 * p.abs() {
-                return Some(e);
-            }
-        }
-    }
-    None
-}
-
-/// The first list of the table that shortens, or keeps the length and lowers the coefficients.
-fn walk(g: &[[i64; 3]; 3], c: &[i64; 3], k: usize) -> Option<[i64; 3]> {
-    let h = [2 * c[0], 2 * c[1], 2 * c[2]];
-    for e in &LISTS[..COUNTS[k]] {
-        let gain = e[0] * (dot3(&g[0], e) - h[0])
-            + e[1] * (dot3(&g[1], e) - h[1])
-            + e[2] * (dot3(&g[2], e) - h[2]);
-        if gain < 0 || gain == 0 && *e < [0; 3] {
-            return Some(*e);
-        }
-    }
-    None
 }
