@@ -7,3 +7,4 @@ pub mod Parts
 pub mod PartLaws
 pub mod Counts
 pub mod CountLaws
+pub mod Examples
