@@ -1,5 +1,5 @@
-//! Reductions per second: the proved engine against plain Rust, in one process, on fixed inputs. Arguments, all optional: how many
-//! runs, the only set and the only d to be timed.
+//! Reductions and nearest vectors per second: the proved engine against plain Rust, in one process, on fixed inputs. Arguments, all
+//! optional: how many runs, the only set and the only d to be timed.
 
 mod baseline;
 mod sets;
@@ -7,47 +7,83 @@ mod sets;
 use std::hint::black_box;
 use std::time::Instant;
 
-use sets::{Input, SETS};
+use sets::{Input, Set, SETS};
 
 const INPUTS: usize = 1_000;
 const RUNS: usize = 101;
 const SEED: u64 = 1;
 
-fn engine(input: &Input, out: &mut baseline::Answer) {
-    raghymtos::reduce_into(&input.numbers, input.d, input.d, out);
-}
+/// What is timed: a function that writes its answer for an input.
+type Service<const N: usize> = fn(&Input, &mut [i64; N]);
 
-fn plain(input: &Input, out: &mut baseline::Answer) {
-    baseline::reduce(&input.numbers, input.d, input.d, out);
-}
+const REDUCE: [Service<55>; 2] = [
+    |i, out| {
+        raghymtos::reduce_into(&i.numbers, i.d, i.d, out);
+    },
+    |i, out| baseline::reduce(&i.numbers, i.d, i.d, out),
+];
+
+const NEAREST: [Service<11>; 2] = [
+    |i, out| {
+        raghymtos::nearest_into(&i.numbers, i.d, i.d, &i.target, out);
+    },
+    |i, out| baseline::nearest::nearest(&i.numbers, i.d, i.d, &i.target, out),
+];
 
 /// Seconds for all inputs once.
-fn timed(inputs: &[Input], reduce: fn(&Input, &mut baseline::Answer)) -> f64 {
-    let mut out = [0; 55];
+fn timed<const N: usize>(inputs: &[Input], service: Service<N>) -> f64 {
+    let mut out = [0; N];
     let start = Instant::now();
     for input in inputs {
-        reduce(black_box(input), &mut out);
+        service(black_box(input), &mut out);
         black_box(&out);
     }
     start.elapsed().as_secs_f64()
 }
 
-fn median(mut times: Vec<f64>) -> f64 {
-    times.sort_by(f64::total_cmp);
-    times[times.len() / 2]
+fn median(mut values: Vec<f64>) -> f64 {
+    values.sort_by(f64::total_cmp);
+    values[values.len() / 2]
 }
 
-/// Both must give the same 55 numbers, or the times compare nothing. Gives the passes of a reduction in the mean.
-fn check(inputs: &[Input]) -> f64 {
+/// Both must give the same numbers, or the times compare nothing.
+fn same<const N: usize>(input: &Input, services: [Service<N>; 2]) -> [i64; N] {
+    let (mut a, mut b) = ([0; N], [0; N]);
+    services[0](input, &mut a);
+    services[1](input, &mut b);
+    assert_eq!(a, b, "{input:?}");
+    a
+}
+
+/// Times all four in turn, so that what else the machine does falls on all, and prints a line.
+fn measure(set: Set, d: usize, runs: usize) {
+    let inputs = sets::inputs(set, d, INPUTS, SEED);
     let mut passes = 0;
-    for input in inputs {
-        let (mut a, mut b) = ([0; 55], [0; 55]);
-        engine(input, &mut a);
-        plain(input, &mut b);
-        assert_eq!(a, b, "{input:?}");
-        passes += a[2];
+    for input in &inputs {
+        passes += same(input, REDUCE)[2];
+        same(input, NEAREST);
     }
-    passes as f64 / inputs.len() as f64
+    let times: Vec<[f64; 4]> = (0..runs)
+        .map(|_| {
+            let reduce = REDUCE.map(|service| timed(&inputs, service));
+            let nearest = NEAREST.map(|service| timed(&inputs, service));
+            [reduce[0], reduce[1], nearest[0], nearest[1]]
+        })
+        .collect();
+    let speed = |i: usize| INPUTS as f64 / median(times.iter().map(|t| t[i]).collect());
+    let ratio = |i: usize, j: usize| median(times.iter().map(|t| t[i] / t[j]).collect());
+    println!(
+        "{:<10} {d} {:>9.0} {:>9.0} {:>6.2} {:>10.0} {:>9.0} {:>6.2} {:>15.2} {:>7.1}",
+        set.name(),
+        speed(0),
+        speed(1),
+        ratio(0, 1),
+        speed(2),
+        speed(3),
+        ratio(2, 3),
+        ratio(2, 0),
+        passes as f64 / INPUTS as f64,
+    );
 }
 
 fn argument(n: usize) -> Option<String> {
@@ -57,33 +93,15 @@ fn argument(n: usize) -> Option<String> {
 fn main() {
     let runs = argument(1).map_or(RUNS, |word| word.parse().expect("runs is a number"));
     let only_set = argument(2);
-    let only_d = argument(3).map(|word| word.parse().expect("d is a number"));
-    println!("{:<12} d   engine/s     Rust/s  engine:Rust  passes", "set");
+    let only_d = argument(3).map(|word| word.parse::<usize>().expect("d is a number"));
+    println!("set        d  reduce/s    Rust/s  ratio  nearest/s    Rust/s  ratio  nearest:reduce  passes");
     for set in SETS {
-        if only_set.as_ref().is_some_and(|name| name != set.name()) {
-            continue;
-        }
         for d in 2..=4 {
-            if only_d.is_some_and(|only: usize| only != d) {
-                continue;
+            if only_set.as_ref().is_none_or(|name| name == set.name())
+                && only_d.is_none_or(|only| only == d)
+            {
+                measure(set, d, runs);
             }
-            let inputs = sets::inputs(set, d, INPUTS, SEED);
-            let passes = check(&inputs);
-            // the two take turns, so that what else the machine does falls on both
-            let pairs: Vec<(f64, f64)> = (0..runs)
-                .map(|_| (timed(&inputs, engine), timed(&inputs, plain)))
-                .collect();
-            let ours = median(pairs.iter().map(|p| p.0).collect());
-            let theirs = median(pairs.iter().map(|p| p.1).collect());
-            let ratio = median(pairs.iter().map(|p| p.0 / p.1).collect());
-            println!(
-                "{:<12} {d} {:>10.0} {:>10.0} {:>12.2} {:>7.1}",
-                set.name(),
-                INPUTS as f64 / ours,
-                INPUTS as f64 / theirs,
-                ratio,
-                passes,
-            );
         }
     }
 }

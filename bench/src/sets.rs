@@ -1,6 +1,6 @@
-//! The inputs that are timed: d vectors of d coordinates, the same for the same seed.
+//! The inputs that are timed: d vectors of d coordinates and a target, the same for the same seed.
 
-use reference::cases::Random;
+use reference::random::Random;
 
 #[derive(Clone, Copy)]
 pub enum Set {
@@ -28,11 +28,14 @@ impl Set {
 pub struct Input {
     pub d: usize,
     pub numbers: Vec<i64>,
+    pub target: Vec<i64>,
 }
 
 /// Accepted inputs of one set.
 pub fn inputs(set: Set, d: usize, count: usize, seed: u64) -> Vec<Input> {
     let mut random = Random::new(seed);
+    // of their own, so that the bases do not hang on them
+    let mut targets = Random::new(!seed);
     let mut all = Vec::new();
     while all.len() < count {
         let numbers = match set {
@@ -42,7 +45,8 @@ pub fn inputs(set: Set, d: usize, count: usize, seed: u64) -> Vec<Input> {
         }
         .concat();
         if reference::reduce(&numbers, d, d).refusal == 0 {
-            all.push(Input { d, numbers });
+            let target = targets.vector(d, 10_000);
+            all.push(Input { d, numbers, target });
         }
     }
     all

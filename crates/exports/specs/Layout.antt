@@ -5,20 +5,24 @@ use Prim.Native.Nat.{ℕ}
 use lib.IntN.{ℤ, pos}
 use lib.Dec.{leb}
 use lib.ListN.{length, drop}
-use Rattle.lattices.specs.Answer.{Reduction}
+use Rattle.lattices.specs.Answer.{Reduction, Nearest}
 
 -- the rows of a table one after another
 abbrev pub flat : List (List ℤ) → List ℤ
 flat [] = []
 flat (r ∷ rows) = r ++ flat rows
 
--- refusal, place and passes, as they stand before an answer's tables
-abbrev pub head : ℕ → ℕ → ℕ → List ℤ
-head refusal place passes = pos refusal ∷ pos place ∷ pos passes ∷ []
+-- what stands before an answer's rows: refusal, place and one number
+abbrev pub head : ℕ → ℕ → ℤ → List ℤ
+head refusal place number = pos refusal ∷ pos place ∷ number ∷ []
 
--- a reduction's answer
+-- a reduction's answer: head with the passes, squared lengths, vectors, U, V
 unfoldable pub layout : Reduction → List ℤ
-layout a = head (a .refusal) (a .place) (a .passes) ++ (a .squares ++ (flat (a .basis) ++ (flat (a .u) ++ flat (a .v))))
+layout a = head (a .refusal) (a .place) (pos (a .passes)) ++ (a .squares ++ (flat (a .basis) ++ (flat (a .u) ++ flat (a .v))))
+
+-- the answer with a nearest vector: head with the squared distance, coefficients, vector
+unfoldable pub layoutNearest : Nearest → List ℤ
+layoutNearest a = head (a .refusal) (a .place) (a .square) ++ (a .coefficients ++ a .vector)
 
 -- a lent run of numbers after n numbers are written to it: one that is too short stays
 abbrev pub written : List ℤ → ℕ → List ℤ → List ℤ

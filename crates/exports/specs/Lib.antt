@@ -2,3 +2,4 @@
 pub mod Layout
 pub mod Runs
 pub mod Shape
+pub mod NearestShape

@@ -4,7 +4,7 @@ use mathlib.Core.Bool.{Bool, true, false}
 use mathlib.Core.List.{List, [], _∷_, _++_, map}
 use Prim.Native.Nat.{ℕ, zero, suc, _*_, _≤_}
 use native.Mathlib.Omega.{arith}
-use lib.IntN.{ℤ}
+use lib.IntN.{ℤ, pos}
 use lib.ListN.{length, length-append}
 use lib.Seq.{sets}
 use Rattle.integers.specs.All.{All}
@@ -25,7 +25,8 @@ length-table zero w rows = omega arith
 length-table (suc h) w [] = length-append (padded w []) (flat (table h w [])) ∙ omega (arith, length-padded w [], length-table h w [])
 length-table (suc h) w (r ∷ rows) = length-append (padded w r) (flat (table h w rows)) ∙ omega (arith, length-padded w r, length-table h w rows)
 
-first-most : (n : ℕ) (cs : List Check) (i : Input) → All (λ c. c .number ≤ n) cs → firstOf cs i ≤ n
+-- no check gives a greater number than the greatest of the table
+pub first-most : (n : ℕ) (cs : List Check) (i : Input) → All (λ c. c .number ≤ n) cs → firstOf cs i ≤ n
 first-most n [] i h = omega arith
 first-most n (c ∷ cs) i h = either (c .condition i) (h .0) (first-most n cs i (h .1))
   where
@@ -85,11 +86,11 @@ module _ {a : Reduction} (s : Shape a) where
       let uv = length-append (flat (a .u)) (flat (a .v)) in
       let buv = length-append (flat (a .basis)) (flat (a .u) ++ flat (a .v)) in
       let sbuv = length-append (a .squares) (flat (a .basis) ++ (flat (a .u) ++ flat (a .v))) in
-      length-append (head (a .refusal) (a .place) (a .passes)) (a .squares ++ (flat (a .basis) ++ (flat (a .u) ++ flat (a .v))))
+      length-append (head (a .refusal) (a .place) (pos (a .passes))) (a .squares ++ (flat (a .basis) ++ (flat (a .u) ++ flat (a .v))))
       ∙ omega (arith, uv, buv, sbuv, s .squares, s .vectors, s .u, s .v)
 
   pub answer-stored : (l : List ℤ) {p q r t x : List ℤ} → 55 ≤ length l
-      → p ≡ sets l 0 (head (a .refusal) (a .place) (a .passes)) → q ≡ sets p 3 (a .squares)
+      → p ≡ sets l 0 (head (a .refusal) (a .place) (pos (a .passes))) → q ≡ sets p 3 (a .squares)
       → r ≡ sets q 7 (flat (a .basis)) → t ≡ sets r 23 (flat (a .u)) → x ≡ sets t 39 (flat (a .v))
       → x ≡ written l 55 (layout a)
   unfolding layout
@@ -101,5 +102,5 @@ module _ {a : Reduction} (s : Shape a) where
       ∙ sets-then r 23 39 u v k (omega (arith, s .u))
       ∙ sets-then q 7 23 b (u ++ v) g (omega (arith, s .vectors))
       ∙ sets-then p 3 7 (a .squares) (b ++ (u ++ v)) f (omega (arith, s .squares))
-      ∙ sets-then l 0 3 (head (a .refusal) (a .place) (a .passes)) (a .squares ++ (b ++ (u ++ v))) e refl
+      ∙ sets-then l 0 3 (head (a .refusal) (a .place) (pos (a .passes))) (a .squares ++ (b ++ (u ++ v))) e refl
       ∙ written-long l 55 (layout a) length-layout h

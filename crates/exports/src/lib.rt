@@ -5,11 +5,14 @@ ghost use Prim.Native.Nat.{_+_, _≤_};
 ghost use lib.Dec.{leb};
 ghost use lib.ListN.{length};
 ghost use lib.Seq.{sets};
-ghost use Rattle.lattices.specs.Answer.{reductionOf};
-ghost use Rattle.exports.specs.Layout.{flat, head, layout, written};
+ghost use Rattle.lattices.specs.Answer.{reductionOf, nearestOf};
+ghost use Rattle.exports.specs.Layout.{flat, head, layout, layoutNearest, written};
 
 // How many numbers a reduction's answer takes.
 const REDUCTION: usize = 55;
+
+// How many numbers the answer with a nearest vector takes.
+const NEAREST: usize = 11;
 
 // Writes a row from `at` on. That it has four numbers tells where the next one goes.
 fn put_row(out: &mut [i64], at: usize, row: [i64; 4])
@@ -34,15 +37,15 @@ fn put_rows(out: &mut [i64], at: usize, t: [[i64; 4]; 4])
     put_row(out, at + 12, t[3]);
 }
 
-// Writes what stands before an answer's tables.
-fn put_head(out: &mut [i64], refusal: u64, place: u64, passes: u64)
+// Writes what stands before an answer's rows: refusal, place and one number.
+fn put_head(out: &mut [i64], refusal: u64, place: u64, number: i64)
     requires { ⌜ 3 ≤ length (now out) ⌝ }
-    requires { ⌜ (refusal ≤ 1000000000000) × ((place ≤ 1000000000000) × (passes ≤ 1000000000000)) ⌝ }
-    ensures { λ _. ⌜ now (out .exit) ≡ sets (now (out .entry)) 0 (head refusal place passes) ⌝ }
+    requires { ⌜ (refusal ≤ 1000000000000) × (place ≤ 1000000000000) ⌝ }
+    ensures { λ _. ⌜ now (out .exit) ≡ sets (now (out .entry)) 0 (head refusal place number) ⌝ }
 {
     out[0] = refusal as i64;
     out[1] = place as i64;
-    out[2] = passes as i64;
+    out[2] = number;
 }
 
 // Reduces d vectors of m coordinates each. The answer is written to the first 55 numbers of `out`; a shorter `out` stays as it is.
@@ -59,10 +62,35 @@ pub extern "C" fn raghymtos_reduce(numbers: &[i64], d: usize, m: usize, out: &mu
     let u = a.u;
     let v = a.v;
     let squares = a.squares;
-    put_head(out, a.refusal, a.place, a.passes);
+    put_head(out, a.refusal, a.place, a.passes as i64);
     put_row(out, 3, squares);
     put_rows(out, 7, rows::vectors_of(vectors));
     put_rows(out, 23, rows::tables_of(u));
     put_rows(out, 39, rows::tables_of(v));
+    true
+}
+
+// Finds the vector nearest to the target in the lattice of d vectors of m coordinates each. The answer is written to the first 11
+// numbers of `out`; a shorter `out` stays as it is.
+#[no_mangle]
+pub extern "C" fn raghymtos_nearest(
+    numbers: &[i64],
+    d: usize,
+    m: usize,
+    target: &[i64],
+    out: &mut [i64],
+) -> bool
+    ensures { λ r. ⌜ r ≡ leb 11 (length (now (out .entry))) ⌝ }
+    ensures { λ _. ⌜ now (out .exit) ≡ written (now (out .entry)) 11 (layoutNearest (nearestOf (record { numbers = now (numbers .entry); d = d; m = m; target = now (target .entry) }))) ⌝ }
+{
+    if out.len() < NEAREST {
+        return false;
+    }
+    let a = engine::nearest(numbers, d, m, target);
+    let coefficients = a.coefficients;
+    let vector = a.vector;
+    put_head(out, a.refusal, a.place, a.square);
+    put_row(out, 3, coefficients);
+    put_row(out, 7, vector);
     true
 }

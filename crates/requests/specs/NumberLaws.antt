@@ -13,26 +13,26 @@ use mir.Val.{SFits}
 use borrow.Author.Tests.{leb-true, leb-false, eq-eqb, ne-eqb, lt-ltb, le-ltb}
 use Rattle.requests.specs.declared.Kind.the-variants.{Unexpected, TooLarge}
 use Rattle.requests.specs.declared.Token.{Token}
-use Rattle.requests.specs.Numbers.{isDigit, digits, value, beyond, withSign, wrong, read, sized, signedAt, minusAt, numberAt}
+use Rattle.requests.specs.Numbers.{isDigit, leading, digits, value, beyond, withSign, wrong, read, sized, signedAt, minusAt, numberAt}
 
-pub digits-bound : (s : List ℕ) → digits s ≤ length s
-digits-bound [] = omega arith
-digits-bound (b ∷ bs) = go (isDigit b) (digits-bound bs)
+pub leading-bound : (f : ℕ → Bool) (s : List ℕ) → leading f s ≤ length s
+leading-bound f [] = omega arith
+leading-bound f (b ∷ bs) = go (f b) (leading-bound f bs)
   where
-    go : (t : Bool) → digits bs ≤ length bs → cond t (suc (digits bs)) 0 ≤ suc (length bs)
+    go : (t : Bool) → leading f bs ≤ length bs → cond t (suc (leading f bs)) 0 ≤ suc (length bs)
     go true h = omega (arith, h)
     go false h = omega arith
 
-drop-next : (s : List ℕ) (i : ℕ) → i < length s → drop i s ≡ getD s i 0 ∷ drop (i + 1) s
+pub drop-next : (s : List ℕ) (i : ℕ) → i < length s → drop i s ≡ getD s i 0 ∷ drop (i + 1) s
 drop-next s i h =
     let e : suc i ≡ i + 1 = omega arith in
     drop-cons s i 0 h ∙ ap (λ j. getD s i 0 ∷ drop j s) e
 
-pub digits-next : (s : List ℕ) (i : ℕ) {t : Bool} → i < length s → isDigit (getD s i 0) ≡ t → digits (drop i s) ≡ cond t (suc (digits (drop (i + 1) s))) 0
-digits-next s i h e = ap digits (drop-next s i h) ∙ ap (λ t. cond t (suc (digits (drop (i + 1) s))) 0) e
+pub leading-next : (f : ℕ → Bool) (s : List ℕ) (i : ℕ) {t : Bool} → i < length s → f (getD s i 0) ≡ t → leading f (drop i s) ≡ cond t (suc (leading f (drop (i + 1) s))) 0
+leading-next f s i h e = ap (leading f) (drop-next s i h) ∙ ap (λ t. cond t (suc (leading f (drop (i + 1) s))) 0) e
 
-pub digits-end : (s : List ℕ) (i : ℕ) → length s ≤ i → digits (drop i s) ≡ 0
-digits-end s i h = ap digits (drop-of-length-le s h)
+pub leading-end : (f : ℕ → Bool) (s : List ℕ) (i : ℕ) → length s ≤ i → leading f (drop i s) ≡ 0
+leading-end f s i h = ap (leading f) (drop-of-length-le s h)
 
 value-grows : (n : ℕ) (s : List ℕ) → n ≤ value n s
 value-grows n [] = omega arith
@@ -88,7 +88,7 @@ minus-bound (b ∷ bs) = go (eqb b 45)
 pub number-bound : (s : List ℕ) → numberAt s .length ≤ length s
 number-bound s =
     let m = minusAt s in
-    omega (arith, signed-bound m (drop m s), digits-bound (drop m s), length-drop m s, minus-bound s)
+    omega (arith, signed-bound m (drop m s), leading-bound isDigit (drop m s), length-drop m s, minus-bound s)
 
 pub minus-none : (s : List ℕ) → length s ≡ 0 → minusAt s ≡ 0
 minus-none [] h = refl

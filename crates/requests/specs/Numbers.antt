@@ -12,10 +12,14 @@ use Rattle.requests.specs.declared.Token.{Token}
 abbrev pub isDigit : ℕ → Bool
 isDigit b = leb 48 b && leb b 57
 
+-- how many bytes of the kind f the bytes begin with
+abbrev pub leading : (ℕ → Bool) → List ℕ → ℕ
+leading f [] = 0
+leading f (b ∷ bs) = cond (f b) (suc (leading f bs)) 0
+
 -- how many digits the bytes begin with
 abbrev pub digits : List ℕ → ℕ
-digits [] = 0
-digits (b ∷ bs) = cond (isDigit b) (suc (digits bs)) 0
+digits s = leading isDigit s
 
 -- the bytes as digits after the number n
 abbrev pub value : ℕ → List ℕ → ℕ

@@ -3,16 +3,17 @@
 use raghymtos::{reduce, reduce_into, Table, REDUCTION_NUMBERS};
 use reference::cases::Case;
 
-/// What stands in the lent numbers before the call.
-const MARK: i64 = 0x5555_5555_5555_5555;
+use crate::lent::{padded, written};
 
 /// The refusal's number, or what differs.
 pub fn compare(case: &Case) -> Result<usize, String> {
-    let out = written(case)?;
+    let out = written(REDUCTION_NUMBERS, |out| {
+        reduce_into(&case.numbers, case.d, case.m, out)
+    })?;
     let expected = laid_out(&reference::reduce(&case.numbers, case.d, case.m));
     if out != expected {
         return Err(format!(
-            "the engine gave {out:?}, the reference {expected:?}"
+            "reduction: the engine gave {out:?}, the reference {expected:?}"
         ));
     }
     wrapped(case, &out)?;
@@ -22,22 +23,23 @@ pub fn compare(case: &Case) -> Result<usize, String> {
     Ok(out[0] as usize)
 }
 
-/// The engine's numbers, where those behind them and a run that is too short keep their values.
-fn written(case: &Case) -> Result<Vec<i64>, String> {
-    let mut short = [MARK; REDUCTION_NUMBERS - 1];
-    if reduce_into(&case.numbers, case.d, case.m, &mut short)
-        || short != [MARK; REDUCTION_NUMBERS - 1]
-    {
-        return Err("54 lent numbers were taken, or written to".into());
+/// Whether the squared lengths were compared with the successive minima, which are found by enumeration where that is quick.
+pub fn minima(case: &Case) -> Result<bool, String> {
+    let Ok(r) = reduce(&case.numbers, case.d, case.m) else {
+        return Ok(false);
+    };
+    let vectors: Vec<Vec<i64>> = r.vectors[..case.d]
+        .iter()
+        .map(|v| v[..case.m].to_vec())
+        .collect();
+    match reference::enumeration::minima(&vectors) {
+        None => Ok(false),
+        Some(known) if known == r.squares[..case.d] => Ok(true),
+        Some(known) => Err(format!(
+            "reduction: squared lengths {:?}, successive minima {known:?}",
+            &r.squares[..case.d]
+        )),
     }
-    let mut out = [MARK; REDUCTION_NUMBERS + 3];
-    if !reduce_into(&case.numbers, case.d, case.m, &mut out) {
-        return Err("58 lent numbers were refused".into());
-    }
-    if out[REDUCTION_NUMBERS..] != [MARK; 3] {
-        return Err("more than 55 numbers were written".into());
-    }
-    Ok(out[..REDUCTION_NUMBERS].to_vec())
 }
 
 /// The reference's answer in the header's order, with zeros in unused places.
@@ -50,10 +52,6 @@ fn laid_out(r: &reference::Reduction) -> Vec<i64> {
         }
     }
     all
-}
-
-fn padded(row: &[i64]) -> [i64; 4] {
-    std::array::from_fn(|i| row.get(i).copied().unwrap_or(0))
 }
 
 /// The safe wrapper gives the same answer.
@@ -70,7 +68,7 @@ fn wrapped(case: &Case, out: &[i64]) -> Result<(), String> {
     if same {
         Ok(())
     } else {
-        Err("the Rust wrapper gives another answer".into())
+        Err("reduction: the Rust wrapper gives another answer".into())
     }
 }
 

@@ -1,11 +1,11 @@
--- Three counts are stored as signed numbers.
+-- Two counts are stored as signed numbers, and the third number as it is.
 use mathlib.Core.Path.{_≡_}
 use native.Mathlib.Omega.{arith}
 use lib.IntN.{pos}
 use lib.ListN.{set, length-set}
 use mir.Syntax.{w64}
-use mir.Facts.{toZ-pos}
-use mir.Val.{toZ}
+use mir.Facts.{toZ-pos, toZ-ofZ}
+use mir.Val.{toZ, ofZ}
 use denote.Ref.{now}
 use borrow.Author.Needs.{needs}
 use Rattle.exports.proofs.put_head.Statement.{statement}
@@ -23,11 +23,8 @@ cast-out-2 c = search needs
 slice-set-from-out-2 : tie.Need-slice-set-from-out-2
 slice-set-from-out-2 c = simp length-set (omega arith)
 
-cast-out-3 : tie.Need-cast-out-3
-cast-out-3 c = search needs
-
-slice-set-from-out-3 : tie.Need-slice-set-from-out-3
-slice-set-from-out-3 c = search needs
+slice-set-from-number : tie.Need-slice-set-from-number
+slice-set-from-number c = search needs
 
 same-length : tie.Need-same-length
 same-length c = search needs
@@ -36,7 +33,7 @@ returns : tie.Need-returns
 returns c =
     let a : toZ w64 (c .args .refusal) ≡ pos (c .args .refusal) = toZ-pos w64 (omega arith) in
     let b : toZ w64 (c .args .place) ≡ pos (c .args .place) = toZ-pos w64 (omega arith) in
-    let d : toZ w64 (c .args .passes) ≡ pos (c .args .passes) = toZ-pos w64 (omega arith) in
+    let d : toZ w64 (ofZ w64 (c .args .number)) ≡ c .args .number = toZ-ofZ (c .fits .number) in
     λ k. set (set (set (now (c .args .out)) 0 (a k)) 1 (b k)) 2 (d k)
 
 pub put-head-spec : {M : Type 1} → statement M
@@ -47,7 +44,6 @@ put-head-spec =
     slice-set-from-out
     cast-out-2
     slice-set-from-out-2
-    cast-out-3
-    slice-set-from-out-3
+    slice-set-from-number
     same-length
     returns)

@@ -3,8 +3,11 @@ use mathlib.Core.Path.{refl, sym, ap, _∙_, subst}
 use mathlib.Core.List.{[], map}
 use Prim.Native.Nat.{_≤_, _<_}
 use native.Mathlib.Omega.{arith}
+use lib.IntN.{pos}
 use lib.ListN.{length}
 use lib.Seq.{sets}
+use mir.Syntax.{w64}
+use mir.Facts.{toZ-pos}
 use denote.Ref.{now}
 use borrow.Author.Tests.{le-leb, lt-leb}
 use Rattle.lattices.specs.Refusal.{Input}
@@ -29,15 +32,18 @@ returns c =
 reduce-requires : tie.Need-reduce-requires
 reduce-requires c κs = search needs
 
+-- the counts of the answer are small
+few : (c : tie.After-reduce) → (c .reduce .result .refusal ≤ 1000000000000) × (c .reduce .result .place ≤ 1000000000000) × (c .reduce .result .passes ≤ 1000000000000)
+few c =
+    let n = shape (input (c .before .before)) in
+    subst (λ a. (a .refusal ≤ 1000000000000) × (a .place ≤ 1000000000000) × (a .passes ≤ 1000000000000)) (sym (c .reduce .ensures))
+    (omega (arith, n .refusal), omega (arith, n .place), n .passes)
+
+cast-put-head : tie.Need-cast-put-head
+cast-put-head c = record { sfits = omega (arith, few (c .before .before .before .before .before .before) .2) }
+
 put-head-requires : tie.Need-put-head-requires
-put-head-requires c κs =
-    let r = c .before .before .before .before .before in
-    let i = input (r .before .before) in
-    let n = shape i in (
-      search needs,
-      subst (λ a. (a .refusal ≤ 1000000000000) × ((a .place ≤ 1000000000000) × (a .passes ≤ 1000000000000))) (sym (r .reduce .ensures))
-          (omega (arith, n .refusal), (omega (arith, n .place), n .passes)),
-    )
+put-head-requires c κs = let n = few (c .before .before .before .before .before .before) in (search needs, (n .0, n .1))
 
 put-row-requires : tie.Need-put-row-requires
 put-row-requires c κs = search needs
@@ -70,9 +76,10 @@ returns-2 c =
     let b = u .before .before .before .before in
     let q = b .before .before .before .before in
     let p = q .before .before .before in
-    let r = p .before .before .before .before .before .before in
+    let r = p .before .before .before .before .before .before .before in
     let s = r .before .before in
     let l = now (s .args .out) in
+    let a = r .reduce .result in
     let e = r .reduce .ensures in
     let h : 55 ≤ length l = search needs in
     let x = v .before .tables-of2 .ensures ∙ ap (λ a. map (λ row. row .at) (a .v)) e ∙ unpacked tableRow (λ row. row .at) (λ t. refl) (reductionOf (input s) .v) in
@@ -80,7 +87,7 @@ returns-2 c =
     let z = b .before .vectors-of .ensures ∙ ap (λ a. map (λ row. row .at) (a .vectors)) e ∙ unpacked vectorRow (λ row. row .at) (λ t. refl) (reductionOf (input s) .basis) in (
       sym (le-leb 55 (length l) h),
       answer-stored (shape (input s)) l h
-          (p .put-head .ensures ∙ ap (λ a. sets l 0 (head (a .refusal) (a .place) (a .passes))) e)
+          (p .put-head .ensures ∙ ap (sets l 0) (ap (head (a .refusal) (a .place)) (toZ-pos w64 (omega (arith, few r .2)))) ∙ ap (λ a. sets l 0 (head (a .refusal) (a .place) (pos (a .passes)))) e)
           (q .put-row .ensures .0 ∙ ap (λ a. sets (p .put-head .last .0) 3 (a .squares)) e)
           (b .put-rows .ensures ∙ ap (λ t. sets (q .put-row .last .0) 7 (flat t)) z)
           (u .put-rows2 .ensures ∙ ap (λ t. sets (b .put-rows .last .0) 23 (flat t)) y)
@@ -93,6 +100,7 @@ raghymtos-reduce-spec =
     (tie.spec
     returns
     reduce-requires
+    cast-put-head
     put-head-requires
     put-row-requires
     vectors-of-requires

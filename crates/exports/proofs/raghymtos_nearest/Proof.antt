@@ -1,0 +1,70 @@
+-- The answer is stored part by part where there is room, and nothing is where there is not.
+use mathlib.Core.Path.{sym, ap, _∙_, subst}
+use Prim.Native.Nat.{_≤_, _<_}
+use native.Mathlib.Omega.{arith}
+use lib.ListN.{length}
+use lib.Seq.{sets}
+use mir.Syntax.{w64}
+use mir.Facts.{toZ-ofZ}
+use denote.Ref.{now}
+use borrow.Author.Tests.{le-leb, lt-leb}
+use Rattle.lattices.specs.Refusal.{Input}
+use Rattle.lattices.specs.Answer.{nearestOf}
+use Rattle.exports.specs.Layout.{head, layoutNearest}
+use Rattle.exports.specs.Runs.{written-short}
+use Rattle.exports.specs.NearestShape.{nearest-shape, nearest-stored}
+use borrow.Author.Needs.{needs}
+use Rattle.exports.proofs.raghymtos_nearest.Statement.{statement}
+use Rattle.exports.proofs.raghymtos_nearest.Tie as tie
+
+abbrev input : tie.Start → Input
+input s = record { numbers = now (s .args .numbers); d = s .args .d; m = s .args .m; target = now (s .args .target) }
+
+returns : tie.Need-returns
+returns c =
+    let l = now (c .before .args .out) in
+    let h : length l < 11 = c .if1 .taken in
+    (sym (lt-leb 11 (length l) h), written-short l 11 (layoutNearest (nearestOf (input (c .before)))) h)
+
+nearest-requires : tie.Need-nearest-requires
+nearest-requires c κs = search needs
+
+put-head-requires : tie.Need-put-head-requires
+put-head-requires c κs =
+    let r = c .before .before .before .before in
+    let n = nearest-shape (input (r .before .before)) in (
+      search needs,
+      subst (λ a. (a .refusal ≤ 1000000000000) × (a .place ≤ 1000000000000)) (sym (r .nearest .ensures)) (omega (arith, n .refusal), omega (arith, n .place)),
+    )
+
+put-row-requires : tie.Need-put-row-requires
+put-row-requires c κs = search needs
+
+put-row-requires-2 : tie.Need-put-row-requires-2
+put-row-requires-2 c κs = search needs
+
+same-length : tie.Need-same-length
+same-length c = search needs
+
+returns-2 : tie.Need-returns-2
+returns-2 c =
+    let v = c .before in
+    let q = v .before .before .before in
+    let p = q .before .before .before in
+    let r = p .before .before .before .before .before in
+    let s = r .before .before in
+    let l = now (s .args .out) in
+    let a = r .nearest .result in
+    let e = r .nearest .ensures in
+    let h : 11 ≤ length l = search needs in (
+      sym (le-leb 11 (length l) h),
+      nearest-stored (nearest-shape (input s)) l h
+          (p .put-head .ensures ∙ ap (sets l 0) (ap (head (a .refusal) (a .place)) (toZ-ofZ {w = w64} (record { sfits = p .before .struct-told .given .1 .1 .1 .1 .0 .1 }))) ∙ ap (λ a. sets l 0 (head (a .refusal) (a .place) (a .square))) e)
+          (q .put-row .ensures .0 ∙ ap (λ a. sets (p .put-head .last .0) 3 (a .coefficients)) e)
+          (v .put-row2 .ensures .0 ∙ ap (λ a. sets (q .put-row .last .0) 7 (a .vector)) e),
+    )
+
+pub raghymtos-nearest-spec : {M : Type 1} → statement M
+raghymtos-nearest-spec =
+    tie.close
+    (tie.spec returns nearest-requires put-head-requires put-row-requires put-row-requires-2 same-length returns-2)

@@ -1,0 +1,57 @@
+-- How long the parts of an answer with a nearest vector are, and that its refusal fits a signed number.
+use mathlib.Core.Path.{_≡_, refl, _∙_, subst}
+use mathlib.Core.List.{List, [], _++_}
+use Prim.Native.Nat.{ℕ, zero, suc, _≤_}
+use native.Mathlib.Omega.{arith}
+use lib.IntN.{ℤ}
+use lib.ListN.{length, length-append}
+use lib.Seq.{sets}
+use Rattle.lattices.specs.Vector.{comb}
+use Rattle.lattices.specs.Nearest.{nearest}
+use Rattle.lattices.specs.Greedy.{vectors, reduction}
+use Rattle.lattices.specs.Refusal.{Input, basis, firstOf, vectorChecks, targetChecks}
+use Rattle.lattices.specs.Answer.{Nearest, noNearest, nearestGiven, nearestOf}
+use Rattle.lattices.specs.AnswerLaws.{length-padded}
+use Rattle.exports.specs.Layout.{head, layoutNearest, written}
+use Rattle.exports.specs.Runs.{sets-then, written-long}
+use Rattle.exports.specs.Shape.{first-most}
+
+checks-most : (i : Input) → firstOf (vectorChecks ++ targetChecks) i ≤ 7
+checks-most i =
+    first-most 7 (vectorChecks ++ targetChecks) i
+    (omega arith, (omega arith, (omega arith, (omega arith, (omega arith, (omega arith, (omega arith, tt)))))))
+
+pub record NearestShape (a : Nearest) : Type 0 where
+  pub refusal : a .refusal ≤ 7
+  pub place : a .place ≡ 0
+  pub coefficients : length (a .coefficients) ≡ 4
+  pub vector : length (a .vector) ≡ 4
+
+pub nearest-shape : (i : Input) → NearestShape (nearestOf i)
+unfolding nearestOf
+nearest-shape i = go (firstOf (vectorChecks ++ targetChecks) i) refl
+  where
+    go : (n : ℕ) → firstOf (vectorChecks ++ targetChecks) i ≡ n → NearestShape (elim n as (λ n. Nearest) [ zero ↦ nearestGiven (vectors (reduction (basis i) .rows)) (i .target) | suc n ↦ noNearest (suc n) ])
+    go zero e =
+        let bs = vectors (reduction (basis i) .rows) in
+        let x = nearest bs (i .target) in
+        record { refusal = omega arith; place = refl; coefficients = length-padded 4 x; vector = length-padded 4 (comb x bs) }
+    go (suc n) e = record { refusal = subst (λ k. k ≤ 7) e (checks-most i); place = refl; coefficients = length-padded 4 []; vector = length-padded 4 [] }
+
+-- an answer stored part by part
+module _ {a : Nearest} (s : NearestShape a) where
+  length-layout : length (layoutNearest a) ≡ 11
+  unfolding layoutNearest
+  length-layout =
+      length-append (head (a .refusal) (a .place) (a .square)) (a .coefficients ++ a .vector)
+      ∙ omega (arith, length-append (a .coefficients) (a .vector), s .coefficients, s .vector)
+
+  pub nearest-stored : (l : List ℤ) {p q x : List ℤ} → 11 ≤ length l
+      → p ≡ sets l 0 (head (a .refusal) (a .place) (a .square)) → q ≡ sets p 3 (a .coefficients) → x ≡ sets q 7 (a .vector)
+      → x ≡ written l 11 (layoutNearest a)
+  unfolding layoutNearest
+  nearest-stored l {p} {q} {x} h e f g =
+      g
+      ∙ sets-then p 3 7 (a .coefficients) (a .vector) f (omega (arith, s .coefficients))
+      ∙ sets-then l 0 3 (head (a .refusal) (a .place) (a .square)) (a .coefficients ++ a .vector) e refl
+      ∙ written-long l 11 (layoutNearest a) length-layout h

@@ -1,0 +1,108 @@
+// A line answered: a request, or what is wrong with it.
+use libc::STDOUT_FILENO;
+use requests::Kind;
+
+// What the lines ask for.
+pub enum Command {
+    Reduce,
+    Nearest,
+}
+
+pub fn error(line: u64, what: &[u8]) {
+    io::write_all(STDOUT_FILENO, b"error ");
+    printing::number(line);
+    io::write_all(STDOUT_FILENO, b": ");
+    io::write_all(STDOUT_FILENO, what);
+    printing::newline();
+}
+
+// Says what is wrong where a part stops in a way that it may not.
+fn mistake(line: u64, stop: Kind) {
+    match stop {
+        Kind::Semicolon => error(line, b"a part too many"),
+        Kind::End => error(line, b"a part is missing"),
+        Kind::TooLarge => error(line, b"a number beyond 64 bits"),
+        Kind::NoCount => error(line, b"d and m are counts"),
+        Kind::TooMany => error(line, b"too many numbers"),
+        _ => error(line, b"something that is no number"),
+    }
+}
+
+fn is_semicolon(stop: Kind) -> bool {
+    match stop {
+        Kind::Semicolon => true,
+        _ => false,
+    }
+}
+
+fn is_end(stop: Kind) -> bool {
+    match stop {
+        Kind::End => true,
+        _ => false,
+    }
+}
+
+// Answers `d m ; numbers`, vector by vector.
+fn reduce(s: &[u8], line: u64) {
+    let counts = requests::first_part::read_counts(s);
+    let first = counts.stop;
+    if !is_semicolon(first) {
+        mistake(line, first);
+        return;
+    }
+    let at = counts.length;
+    let mut numbers = [0i64; 2048];
+    let part = requests::read_part(&s[at..], &mut numbers);
+    let last = part.stop;
+    if !is_end(last) {
+        mistake(line, last);
+        return;
+    }
+    let n = part.count;
+    answers::reduction(
+        engine::reduce(&numbers[..n], counts.d, counts.m),
+        counts.d,
+        counts.m,
+    );
+}
+
+// Answers `d m ; numbers ; target`.
+fn nearest(s: &[u8], line: u64) {
+    let counts = requests::first_part::read_counts(s);
+    let first = counts.stop;
+    if !is_semicolon(first) {
+        mistake(line, first);
+        return;
+    }
+    let at = counts.length;
+    let mut numbers = [0i64; 2048];
+    let part = requests::read_part(&s[at..], &mut numbers);
+    let second = part.stop;
+    if !is_semicolon(second) {
+        mistake(line, second);
+        return;
+    }
+    let from = at + part.length;
+    let mut target = [0i64; 2048];
+    let rest = requests::read_part(&s[from..], &mut target);
+    let last = rest.stop;
+    if !is_end(last) {
+        mistake(line, last);
+        return;
+    }
+    let n = part.count;
+    let k = rest.count;
+    answers::nearest(
+        engine::nearest(&numbers[..n], counts.d, counts.m, &target[..k]),
+        counts.d,
+        counts.m,
+    );
+}
+
+// Answers a line that is not blank.
+pub fn reply(command: Command, s: &[u8], line: u64) {
+    match command {
+        Command::Reduce => reduce(s, line),
+        Command::Nearest => nearest(s, line),
+    }
+}

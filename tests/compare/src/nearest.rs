@@ -1,0 +1,48 @@
+//! One nearest vector: the engine's 11 numbers against the reference's answer.
+
+use raghymtos::{nearest, nearest_into, NEAREST_NUMBERS};
+use reference::cases::Case;
+
+use crate::lent::{padded, written};
+
+/// The refusal's number, or what differs.
+pub fn compare(case: &Case) -> Result<usize, String> {
+    let out = written(NEAREST_NUMBERS, |out| {
+        nearest_into(&case.numbers, case.d, case.m, &case.target, out)
+    })?;
+    let r = reference::nearest(&case.numbers, case.d, case.m, &case.target);
+    let expected = laid_out(&r);
+    if out != expected {
+        return Err(format!(
+            "nearest: the engine gave {out:?}, the reference {expected:?}"
+        ));
+    }
+    wrapped(case, &out)?;
+    Ok(out[0] as usize)
+}
+
+/// The reference's answer in the header's order, with zeros in unused places.
+fn laid_out(r: &reference::Nearest) -> Vec<i64> {
+    let mut all = vec![r.refusal as i64, r.place as i64, r.square];
+    all.extend(padded(&r.coefficients));
+    all.extend(padded(&r.vector));
+    all
+}
+
+/// The safe wrapper gives the same answer.
+fn wrapped(case: &Case, out: &[i64]) -> Result<(), String> {
+    let same = match nearest(&case.numbers, case.d, case.m, &case.target) {
+        Err(refusal) => refusal.number() == out[0],
+        Ok(n) => {
+            let mut all = vec![0, 0, n.square];
+            all.extend(n.coefficients);
+            all.extend(n.vector);
+            all == out
+        }
+    };
+    if same {
+        Ok(())
+    } else {
+        Err("nearest: the Rust wrapper gives another answer".into())
+    }
+}
