@@ -15,7 +15,7 @@ use Rattle.reductions.specs.Exactness.{comb-full}
 use Rattle.reductions.specs.Lattice.{reduction-lattice}
 use Rattle.reductions.specs.Padding.{comb-padded}
 use Rattle.reductions.specs.Demand.{accepted-reduction}
-use Rattle.layers.specs.Members.{isMember, Member, member-is, is-member}
+use Rattle.minima.specs.Members.{isMember, Member, member-is, is-member}
 use Rattle.engine.specs.Finish.{R, accept, some, outs-count, outs-full, outs-rows, last-reduced}
 
 module _ (i : Input) (e : firstOf vectorChecks i ≡ 0) where

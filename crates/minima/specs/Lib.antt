@@ -13,3 +13,4 @@ pub mod Table
 pub mod Layers
 pub mod NearestLaws
 pub mod Minima
+pub mod Members
