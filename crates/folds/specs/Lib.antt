@@ -1,0 +1,5 @@
+-- The fold of a catalogue. Definitions: Fold to Listing.
+pub mod Fold
+pub mod Services
+pub mod Listing
+pub mod Examples
