@@ -3,3 +3,5 @@ pub mod Fold
 pub mod Services
 pub mod Listing
 pub mod Examples
+pub mod SameLattice
+pub mod StandingLaws

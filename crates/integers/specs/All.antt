@@ -37,6 +37,11 @@ pub all-both : {A : Type 0} (P Q : A → Type 0) (l : List A) → All P l → Al
 all-both P Q [] p q = tt
 all-both P Q (a ∷ l) p q = ((p .0, q .0), all-both P Q l (p .1) (q .1))
 
+-- a property of every place
+pub all-places : {A : Type 0} (P : A → Type 0) (l : List A) (d : A) → ((k : ℕ) → k < length l → P (getD l k d)) → All P l
+all-places P [] d h = tt
+all-places P (a ∷ l) d h = (h 0 (omega arith), all-places P l d (λ k g. h (suc k) (omega arith)))
+
 module _ {A B : Type 0} (f : A → B) where
   pub take-map : (n : ℕ) (l : List A) → take n (map f l) ≡ map f (take n l)
   take-map zero l = refl
