@@ -7,7 +7,7 @@ use lib.Dec.{eqb}
 use Rattle.lattices.specs.Vector.{Vec}
 use Rattle.lattices.specs.Greedy.{vectors, reduction}
 use Rattle.minima.specs.Members.{isMember}
-use Rattle.catalogues.specs.Catalogue.{Head, See, Entry}
+use Rattle.catalogues.specs.Catalogue.{See, Entry}
 use Rattle.catalogues.specs.Read.{isNumbered}
 use Rattle.catalogues.specs.Form.{placed}
 

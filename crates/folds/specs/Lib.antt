@@ -5,3 +5,5 @@ pub mod Listing
 pub mod Examples
 pub mod SameLattice
 pub mod StandingLaws
+pub mod LookupLaws
+pub mod FoldedForm

@@ -8,7 +8,7 @@ use lib.IntN.{ℤ, pos, negsuc}
 use lib.ListN.{length}
 use Rattle.lattices.specs.Vector.{Vec}
 use Rattle.lattices.specs.Greedy.{reduction}
-use Rattle.catalogues.specs.Catalogue.{See, Entry, refused, accepted}
+use Rattle.catalogues.specs.Catalogue.{See, refused, accepted}
 use Rattle.catalogues.specs.Read.{read}
 use Rattle.folds.specs.Fold.{reducedOf, Stood, closedList, stands, standingIn, leads}
 

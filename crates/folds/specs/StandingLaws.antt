@@ -1,6 +1,6 @@
 -- The standing entry is the first of the file with the same m and the same lattice; entries of one lattice share it, and it stands itself.
 use mathlib.Core.Path.{_≡_, refl, sym, ap, _∙_, subst}
-use mathlib.Core.Logic.{_⊎_, inl, inr}
+use mathlib.Core.Logic.{inl, inr}
 use mathlib.Core.Bool.{Bool, true, false, true≢false}
 use mathlib.Core.List.{List, [], _∷_, _++_, tail}
 use Prim.Native.Nat.{ℕ}
@@ -13,7 +13,7 @@ use Rattle.catalogues.specs.Catalogue.{Entry}
 use Rattle.catalogues.specs.Read.{isNumbered}
 use Rattle.catalogues.specs.Form.{Distinct}
 use Rattle.folds.specs.Fold.{sameLattice, firstEntry, standing, stoodOf, stands}
-use Rattle.folds.specs.SameLattice.{Sound, OneLattice, one-refl, one-sym, one-trans, same-exactly, same-not, not-same}
+use Rattle.folds.specs.SameLattice.{Sound, OneLattice, one-refl, one-sym, one-trans, same-exactly, not-same}
 
 -- e is one of the entries
 abbrev pub Among : Entry → List Entry → Type 0
