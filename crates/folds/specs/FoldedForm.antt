@@ -26,7 +26,8 @@ use Rattle.catalogues.specs.Placed.{write-placed}
 use Rattle.catalogues.specs.ReadBack.{read-written}
 use Rattle.folds.specs.Fold.{reducedOf, standing, Stood, stoodOf, closedList, stands, standingIn, led, followed, printed, prints, folded}
 use Rattle.folds.specs.SameLattice.{Sound, sound-entries, entry-basis, entry-count, entry-full}
-use Rattle.folds.specs.StandingLaws.{Among, standing-among, standing-twice, stands-itself}
+use Rattle.folds.specs.Meaning.{Among}
+use Rattle.folds.specs.StandingLaws.{standing-among, standing-twice, stands-itself}
 use Rattle.folds.specs.LookupLaws.{numbered, followed-to}
 
 -- ---- an entry printed
@@ -66,7 +67,7 @@ module _ (all : List Entry) where
   shown es = map (printed ss) (standingIn (map (stoodOf all) es))
 
   -- the same question for a whole list and for the standing entries of it
-  shown-ind : (P : List Entry → List Entry → Type 0) → P [] []
+  pub shown-ind : (P : List Entry → List Entry → Type 0) → P [] []
       → ((e : Entry) (es gs : List Entry) → stands (stoodOf all e) ≡ true → P es gs → P (e ∷ es) (printed ss (stoodOf all e) ∷ gs))
       → ((e : Entry) (es gs : List Entry) → stands (stoodOf all e) ≡ false → P es gs → P (e ∷ es) gs)
       → (es : List Entry) → P es (shown es)

@@ -3,7 +3,10 @@ pub mod Fold
 pub mod Services
 pub mod Listing
 pub mod Examples
+pub mod Meaning
 pub mod SameLattice
 pub mod StandingLaws
 pub mod LookupLaws
 pub mod FoldedForm
+pub mod PrintingLaws
+pub mod Demand

@@ -13,7 +13,8 @@ use Rattle.catalogues.specs.Catalogue.{See, Entry}
 use Rattle.catalogues.specs.Read.{isNumbered}
 use Rattle.catalogues.specs.Form.{Distinct}
 use Rattle.folds.specs.Fold.{standing, stoodOf, lookup, led, followed}
-use Rattle.folds.specs.StandingLaws.{Among, not-used}
+use Rattle.folds.specs.Meaning.{Among}
+use Rattle.folds.specs.StandingLaws.{not-used}
 
 -- the entry with number n
 pub record Numbered (n : ℕ) (es : List Entry) : Type 0 where

@@ -23,6 +23,7 @@ use Rattle.catalogues.specs.Catalogue.{Entry, coordinates, inputOf}
 use Rattle.catalogues.specs.Form.{EntryFits, Independent, WellFormed}
 use Rattle.catalogues.specs.EntriesAccepted.{vectors-back, is-basis}
 use Rattle.folds.specs.Fold.{reducedOf, every, holds, sameLattice}
+use Rattle.folds.specs.Meaning.{OneLattice}
 
 -- ---- entries of an accepted catalogue
 
@@ -71,11 +72,6 @@ module _ (e : Entry) (s : Sound e) where
   )
 
 -- ---- one lattice
-
--- the same m, and the same vectors are combinations
-pub record OneLattice (e f : Entry) : Type 0 where
-  pub m : e .head .m ≡ f .head .m
-  pub lattice : (v : Vec) → In (e .vectors) v ↔ In (f .vectors) v
 
 pub one-refl : (e : Entry) → OneLattice e e
 one-refl e = record { m = refl; lattice = λ v. (λ h. h, λ h. h) }

@@ -6,18 +6,15 @@ use mathlib.Core.List.{List, [], _∷_, _++_, tail}
 use Prim.Native.Nat.{ℕ}
 use lib.ListN.{getD}
 use borrow.Author.Tests.{eqb-true, eq-eqb}
-use Rattle.integers.specs.All.{All, Some}
+use Rattle.integers.specs.All.{All}
 use Rattle.integers.specs.Tests.{neither}
 use Rattle.lattices.specs.Refusal.{any}
 use Rattle.catalogues.specs.Catalogue.{Entry}
 use Rattle.catalogues.specs.Read.{isNumbered}
 use Rattle.catalogues.specs.Form.{Distinct}
 use Rattle.folds.specs.Fold.{sameLattice, firstEntry, standing, stoodOf, stands}
-use Rattle.folds.specs.SameLattice.{Sound, OneLattice, one-refl, one-sym, one-trans, same-exactly, not-same}
-
--- e is one of the entries
-abbrev pub Among : Entry → List Entry → Type 0
-Among e es = Some (λ f. f ≡ e) es
+use Rattle.folds.specs.Meaning.{Among, OneLattice, Stands}
+use Rattle.folds.specs.SameLattice.{Sound, one-refl, one-sym, one-trans, same-exactly, not-same}
 
 pub all-among : (P : Entry → Type 0) (es : List Entry) → All P es → (e : Entry) → Among e es → P e
 all-among P [] p e a = absurd a
@@ -27,14 +24,6 @@ all-among P (f ∷ es) p e (inr a) = all-among P es (p .1) e a
 among-middle : (before : List Entry) (f : Entry) (after : List Entry) → Among f (before ++ (f ∷ after))
 among-middle [] f after = inl refl
 among-middle (g ∷ before) f after = inr (among-middle before f after)
-
--- f is the standing entry of e: the first in the file with the same m and the same lattice
-pub record Stands (es : List Entry) (e f : Entry) : Type 0 where
-  pub before : List Entry
-  pub after : List Entry
-  pub split : es ≡ before ++ (f ∷ after)
-  pub one : OneLattice f e
-  pub none : All (λ g. ¬ OneLattice g e) before
 
 stands-among : {es : List Entry} {e f : Entry} → Stands es e f → Among f es
 stands-among {f = f} s = subst (Among f) (sym (s .split)) (among-middle (s .before) f (s .after))

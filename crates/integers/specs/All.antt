@@ -1,6 +1,6 @@
 -- Lists of anything: a property of every element or of some element, and how `map` meets `take`, places and repetition.
 use mathlib.Core.Path.{_≡_, refl, ap}
-use mathlib.Core.Logic.{_⊎_}
+use mathlib.Core.Logic.{_⊎_, inl, inr}
 use mathlib.Core.List.{List, [], _∷_, _++_, map}
 use Prim.Native.Nat.{ℕ, zero, suc, _<_}
 use native.Mathlib.Omega.{arith}
@@ -32,6 +32,11 @@ module _ {A : Type 0} (P : A → Type 0) where
 pub all-imp : {A : Type 0} {P Q : A → Type 0} → ((a : A) → P a → Q a) → (l : List A) → All P l → All Q l
 all-imp f [] p = tt
 all-imp f (a ∷ l) p = (f a (p .0), all-imp f l (p .1))
+
+pub some-imp : {A : Type 0} {P Q : A → Type 0} → ((a : A) → P a → Q a) → (l : List A) → Some P l → Some Q l
+some-imp f [] p = p
+some-imp f (a ∷ l) (inl p) = inl (f a p)
+some-imp f (a ∷ l) (inr p) = inr (some-imp f l p)
 
 pub all-both : {A : Type 0} (P Q : A → Type 0) (l : List A) → All P l → All Q l → All (λ a. P a × Q a) l
 all-both P Q [] p q = tt
