@@ -23,6 +23,7 @@ use Rattle.folds.specs.SameLattice.{sound-entries, one-trans}
 use Rattle.folds.specs.StandingLaws.{standing-is, standing-among, standing-one, standing-twice}
 use Rattle.folds.specs.LookupLaws.{numbered, lookup-finds}
 use Rattle.folds.specs.FoldedForm.{folded-accepted}
+use Rattle.folds.specs.Again.{folded-twice}
 use Rattle.folds.specs.PrintingLaws.{all-self, folded-prints, printing-some, printing-apart}
 
 -- ---- the answers for an accepted file
@@ -52,13 +53,15 @@ word-named es g m n s =
 pub fold-theorem : (file : List ℕ) (es : List Entry) → read file ≡ accepted es → Folds file es
 fold-theorem file es e =
     let w = well-formed file es e in
-    let again = folded-accepted es w in
+    let fs = folded es in
+    let readable = folded-accepted es w in
     record {
-      written = λ room h. accepted-fold file es e room ∙ enough-room room (write (folded es)) h;
-      readable = again;
+      written = λ room h. accepted-fold file es e room ∙ enough-room room (write fs) h;
+      readable = readable;
+      again = λ room. accepted-fold (write fs) fs readable room ∙ ap (λ gs. output room (write gs)) (folded-twice es w) ∙ sym (accepted-fold file es e room);
       printing = folded-prints es w;
-      apart = printing-apart (folded es) (folded-prints es w) (w .entered .distinct);
-      named = all-imp (word-named (folded es)) (folded es) (well-formed (write (folded es)) (folded es) again .named);
+      apart = printing-apart fs (folded-prints es w) (w .entered .distinct);
+      named = all-imp (word-named fs) fs (well-formed (write fs) fs readable .named);
     }
 
 -- ---- lookups

@@ -9,4 +9,5 @@ pub mod StandingLaws
 pub mod LookupLaws
 pub mod FoldedForm
 pub mod PrintingLaws
+pub mod Again
 pub mod Demand

@@ -82,6 +82,8 @@ pub record Folds (file : List ℕ) (es : List Entry) : Type 0 where
   pub written : (room : ℕ) → length (write (folded es)) ≤ room → foldOf file room ≡ record { refusal = 0; place = 0; bytes = write (folded es) }
   -- which is an accepted catalogue
   pub readable : read (write (folded es)) ≡ accepted (folded es)
+  -- and folds to the same bytes
+  pub again : (room : ℕ) → foldOf (write (folded es)) room ≡ foldOf file room
   -- it prints the standing entries in file order, and no others
   pub printing : Printing es es (folded es)
   -- no two of them generate one lattice

@@ -16,7 +16,7 @@ use Rattle.folds.specs.Fold.{reducedOf, standing, stoodOf, closedList, s
 use Rattle.folds.specs.Listing.{leadNumber}
 use Rattle.folds.specs.Meaning.{Among, OneLattice, Stands, Leads, Sees, Prints, Printing, done, prints as prints-one, passes, Apart}
 use Rattle.folds.specs.SameLattice.{Sound, sound-entries, entry-basis, entry-lattice, entry-reduced, entry-count, one-refl, one-sym, one-trans}
-use Rattle.folds.specs.StandingLaws.{all-among, stands-once, one-number, not-used, standing-is, standing-among, stands-itself, itself-stands}
+use Rattle.folds.specs.StandingLaws.{all-among, stands-among, stands-once, one-number, not-used, standing-is, standing-among, stands-itself, itself-stands}
 use Rattle.folds.specs.LookupLaws.{numbered, led-own, led-other, followed-to}
 use Rattle.folds.specs.FoldedForm.{shown-ind}
 
@@ -183,3 +183,12 @@ module _ {all : List Entry} where
           let q : e ≡ f .entry = stands-once (one-trans (one-sym (p .one)) (one-trans o (f .prints .one))) s (f .stands) in
           not-used (e .head .number) es (d .0) (f .entry) (f .among) (ap (λ x. x .head .number) (sym q))
   printing-apart gs (passes e s r) d = printing-apart gs r (d .1)
+
+  -- a see word printed names another entry than the one that carries it
+  pub printing-other : Distinct all → (gs : List Entry) → Printing all all gs → All (λ g. (n : ℕ) → Sees g n → n ≢ g .head .number) gs
+  printing-other d gs r = all-imp other gs (printing-from gs r)
+    where
+      other : (g : Entry) → From all all g → (n : ℕ) → Sees g n → n ≢ g .head .number
+      other g f n s q =
+          let l = f .prints .see n .0 s in
+          l .other (one-number all d (l .standing) (f .entry) (stands-among (l .stands)) (f .among) (l .there ∙ q ∙ f .prints .number))

@@ -25,7 +25,7 @@ among-middle : (before : List Entry) (f : Entry) (after : List Entry) → Among 
 among-middle [] f after = inl refl
 among-middle (g ∷ before) f after = inr (among-middle before f after)
 
-stands-among : {es : List Entry} {e f : Entry} → Stands es e f → Among f es
+pub stands-among : {es : List Entry} {e f : Entry} → Stands es e f → Among f es
 stands-among {f = f} s = subst (Among f) (sym (s .split)) (among-middle (s .before) f (s .after))
 
 module _ (e : Entry) (s : Sound e) where

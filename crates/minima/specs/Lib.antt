@@ -12,5 +12,6 @@ pub mod Pairs
 pub mod Table
 pub mod Layers
 pub mod NearestLaws
+pub mod NearestRest
 pub mod Minima
 pub mod Members

@@ -16,3 +16,4 @@ pub mod Weight
 pub mod Sizes
 pub mod Promise
 pub mod Passes
+pub mod Again
