@@ -11,3 +11,4 @@ pub mod FoldedForm
 pub mod PrintingLaws
 pub mod Again
 pub mod Demand
+pub mod Deciding

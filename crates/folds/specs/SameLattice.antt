@@ -38,13 +38,16 @@ all-sound (e ∷ es) p q = (record { fits = p .0; independent = q .0 }, all-soun
 pub sound-entries : (es : List Entry) → WellFormed es → All Sound es
 sound-entries es w = all-sound es (w .entered .fits) (w .independent)
 
--- what the theorems about reductions ask of a list
-pub entry-basis : (e : Entry) → Sound e → Basis (e .head .m) (e .vectors)
-entry-basis e s =
+-- its numbers, cut into vectors again
+pub entry-vectors : (e : Entry) → Sound e → basis (inputOf e) ≡ e .vectors
+entry-vectors e s =
     let m = e .head .m in
     let vs = e .vectors in
-    let same : basis (inputOf e) ≡ vs = ap (λ d. vectorsOf d m (coordinates vs)) (sym (s .fits .count)) ∙ vectors-back m vs (s .fits .vectors) in
-    subst (Basis m) same (basis-of (inputOf e) (accepted (inputOf e) (is-basis e (s .fits) (s .independent))))
+    ap (λ d. vectorsOf d m (coordinates vs)) (sym (s .fits .count)) ∙ vectors-back m vs (s .fits .vectors)
+
+-- what the theorems about reductions ask of a list
+pub entry-basis : (e : Entry) → Sound e → Basis (e .head .m) (e .vectors)
+entry-basis e s = subst (Basis (e .head .m)) (entry-vectors e s) (basis-of (inputOf e) (accepted (inputOf e) (is-basis e (s .fits) (s .independent))))
 
 -- ---- a vector in the lattice of an entry
 
@@ -84,13 +87,13 @@ one-trans o p = record { m = o .m ∙ p .m; lattice = λ v. (λ h. p .lattice v 
 
 module _ (e f : Entry) (s : Sound e) (t : Sound f) (same : e .head .m ≡ f .head .m) where
   -- a list whose vectors have as many coordinates as those of e
-  all-in : (vs : List Vec) → Coordinates (f .head .m) vs → every (isMember (reducedOf e)) vs ≡ true → All (In (e .vectors)) vs
+  pub all-in : (vs : List Vec) → Coordinates (f .head .m) vs → every (isMember (reducedOf e)) vs ≡ true → All (In (e .vectors)) vs
   all-in [] c h = tt
   all-in (v ∷ vs) c h =
       let p = both (isMember (reducedOf e) v) (every (isMember (reducedOf e)) vs) h in
       (member-exactly e s v (c .0 ∙ sym same) .0 (p .0), all-in vs (c .1) (p .1))
 
-  in-all : (vs : List Vec) → Coordinates (f .head .m) vs → All (In (e .vectors)) vs → every (isMember (reducedOf e)) vs ≡ true
+  pub in-all : (vs : List Vec) → Coordinates (f .head .m) vs → All (In (e .vectors)) vs → every (isMember (reducedOf e)) vs ≡ true
   in-all [] c h = refl
   in-all (v ∷ vs) c h = ap₂ _&&_ (member-exactly e s v (c .0 ∙ sym same) .1 (h .0)) (in-all vs (c .1) (h .1))
 

@@ -47,6 +47,12 @@ pub all-places : {A : Type 0} (P : A → Type 0) (l : List A) (d : A) → ((k : 
 all-places P [] d h = tt
 all-places P (a ∷ l) d h = (h 0 (omega arith), all-places P l d (λ k g. h (suc k) (omega arith)))
 
+-- and of some place
+pub some-place : {A : Type 0} (P : A → Type 0) (l : List A) (d : A) → Some P l → (k : ℕ) × (k < length l) × P (getD l k d)
+some-place P [] d h = absurd h
+some-place P (a ∷ l) d (inl h) = (0, omega arith, h)
+some-place P (a ∷ l) d (inr h) = let r = some-place P l d h in let k = r .1 in (suc (r .0), omega arith, r .2)
+
 module _ {A B : Type 0} (f : A → B) where
   pub take-map : (n : ℕ) (l : List A) → take n (map f l) ≡ map f (take n l)
   take-map zero l = refl

@@ -14,4 +14,5 @@ pub mod Layers
 pub mod NearestLaws
 pub mod NearestRest
 pub mod Minima
+pub mod Invariants
 pub mod Members

@@ -98,6 +98,18 @@ crowded {m} {bs} {vs} s h = carry (too-many m (s .lists) (s .short) (omega (arit
       vanishes = ≈-Zero (≈-trans (≈-sym (s .gives (d .coefficients))) (≈-trans (comb-≈ bs (Zero-≈ (comb (d .coefficients) (s .lists)) (d .vanishes))) (comb-nil bs)));
     }
 
+-- so no lattice holds more independent vectors than it has generators
+span-all : (bs vs : List Vec) → All (In bs) vs → Span (length bs) bs vs
+span-all bs [] h = span-nil (length bs) bs
+span-all bs (v ∷ vs) h = span-cons (h .0 .coefficients) (omega (arith, h .0 .count)) (≈-of-≡ (h .0 .gives)) (span-all bs vs (h .1))
+
+pub no-more : (bs vs : List Vec) → All (In bs) vs → Independent vs → length vs ≤ length bs
+no-more bs vs h f = by (decLt (length bs) (length vs))
+  where
+    by : Dec (length bs < length vs) → length vs ≤ length bs
+    by (yes k) = absurd (f (crowded (span-all bs vs h) k))
+    by (no k) = omega arith
+
 -- ---- the successive minima
 -- zeros from place i on may be left out
 nth-take : (i : ℕ) (x : List ℤ) → ((j : ℕ) → i ≤ j → nth x j ≡ pos 0) → (j : ℕ) → nth (take i x) j ≡ nth x j
