@@ -14,19 +14,19 @@ use Rattle.catalogues.specs.Write.{write}
 use Rattle.catalogues.specs.Form.{Names, WellFormed, placed}
 use Rattle.catalogues.specs.Placed.{all-placed, placed-again}
 use Rattle.catalogues.specs.WellFormed.{well-formed}
-use Rattle.folds.specs.Fold.{reducedOf, standing, stoodOf, closedList, followed, printed, prints, folded}
+use Rattle.folds.specs.Fold.{reducedOf, standing, stoodOf, closedList, followed, printed, printedIn, folded}
 use Rattle.folds.specs.Meaning.{Among, OneLattice, Sees, Apart}
 use Rattle.folds.specs.SameLattice.{Sound, sound-entries, entry-basis, one-sym}
-use Rattle.folds.specs.StandingLaws.{all-among, standing-among, standing-one, stands-itself}
+use Rattle.folds.specs.StandingLaws.{all-self, all-among, standing-among, standing-one, stands-itself}
 use Rattle.folds.specs.LookupLaws.{numbered, led-other, followed-to}
 use Rattle.folds.specs.FoldedForm.{shown-ind, folded-accepted}
-use Rattle.folds.specs.PrintingLaws.{all-self, folded-prints, printing-apart, printing-other}
+use Rattle.folds.specs.PrintingLaws.{folded-prints, printing-apart, printing-other}
 
 -- ---- reduced vectors, reduced once more
 reduced-again : (e : Entry) → Sound e → vectors (reduction (reducedOf e) .rows) ≡ reducedOf e
 reduced-again e s = let B = entry-basis e s in reduction-again (e .head .m) (e .vectors) (B .full) (B .some) (B .four) (B .volume)
 
-prints-reduced : (es : List Entry) → All Sound es → All (λ g. reducedOf g ≡ g .vectors) (prints (closedList es))
+prints-reduced : (es : List Entry) → All Sound es → All (λ g. reducedOf g ≡ g .vectors) (printedIn (closedList es))
 prints-reduced es = shown-ind es (λ fs gs. All Sound fs → All (λ g. reducedOf g ≡ g .vectors) gs) (λ p. tt) (λ e fs gs q h p. (reduced-again e (p .0), h (p .1))) (λ e fs gs q h p. h (p .1)) es
 
 -- ---- a catalogue whose entries are apart
@@ -67,7 +67,7 @@ module _ (all : List Entry) (w : WellFormed all) (apart : Apart all) where
   entry-same : (g : Entry) → Fixed all g → printed (closedList all) (stoodOf all g) ≡ g
   entry-same g f = ap₂ (λ vs o. record { head = g .head; vectors = vs; see = o }) (f .reduced) (see-same g f)
 
-  prints-same : All (Fixed all) all → prints (closedList all) ≡ all
+  prints-same : All (Fixed all) all → printedIn (closedList all) ≡ all
   prints-same = shown-ind all (λ es gs. All (Fixed all) es → gs ≡ es) (λ p. refl)
       (λ e es gs t h p. ap₂ _∷_ (entry-same e (p .0)) (h (p .1)))
       (λ e es gs t h p. absurd (true≢false (sym (stands-itself all (sound-entries all w) e (stays e (p .0 .among))) ∙ t))) all
@@ -80,13 +80,13 @@ all-fixed all (g ∷ es) a r m o = (record { among = a .0; reduced = r .0; named
 
 folded-reduced : (es : List Entry) → WellFormed es → All (λ g. reducedOf g ≡ g .vectors) (folded es)
 unfolding folded
-folded-reduced es w = all-placed (λ g. reducedOf g ≡ g .vectors) (λ g. reducedOf g ≡ g .vectors) (λ i e p. p) 0 (prints (closedList es)) (prints-reduced es (sound-entries es w))
+folded-reduced es w = all-placed (λ g. reducedOf g ≡ g .vectors) (λ g. reducedOf g ≡ g .vectors) (λ i e p. p) 0 (printedIn (closedList es)) (prints-reduced es (sound-entries es w))
 
 folded-placed : (es : List Entry) → placed 0 (folded es) ≡ folded es
 unfolding folded
-folded-placed es = placed-again 0 (prints (closedList es))
+folded-placed es = placed-again 0 (printedIn (closedList es))
 
-folded-is : (es : List Entry) → folded es ≡ placed 0 (prints (closedList es))
+folded-is : (es : List Entry) → folded es ≡ placed 0 (printedIn (closedList es))
 unfolding folded
 folded-is es = refl
 

@@ -11,36 +11,34 @@ use Rattle.integers.specs.All.{Some, all-imp, some-imp}
 use Rattle.lattices.specs.Refusal.{Input, firstOf, vectorChecks, targetChecks}
 use Rattle.lattices.specs.Answer.{reductionOf, nearestOf}
 use Rattle.reductions.specs.Demand.{Reduces, Nears, both-services}
-use Rattle.catalogues.specs.Catalogue.{Entry, Outcome, refused, accepted}
+use Rattle.catalogues.specs.Catalogue.{Entry, accepted}
 use Rattle.catalogues.specs.Read.{read}
 use Rattle.catalogues.specs.Write.{write}
 use Rattle.catalogues.specs.Form.{Names, WellFormed}
 use Rattle.catalogues.specs.WellFormed.{well-formed}
 use Rattle.folds.specs.Fold.{standing, closedList, lookup, folded}
-use Rattle.folds.specs.Services.{Output, output, foldOf, Lookup, lookedUp, lookupOf}
+use Rattle.folds.specs.Services.{Output, nothing, output, foldedOutcome, foldOf, lookedUp, lookedIn, lookupOf}
 use Rattle.folds.specs.Meaning.{Among, Stands, Sees, Prints, Folds, Finds, LooksUp}
 use Rattle.folds.specs.SameLattice.{sound-entries, one-trans}
-use Rattle.folds.specs.StandingLaws.{standing-is, standing-among, standing-one, standing-twice}
+use Rattle.folds.specs.StandingLaws.{all-self, stands-once, standing-is, standing-among, standing-one, standing-twice}
 use Rattle.folds.specs.LookupLaws.{numbered, lookup-finds}
 use Rattle.folds.specs.FoldedForm.{folded-accepted}
 use Rattle.folds.specs.Again.{folded-twice}
-use Rattle.folds.specs.PrintingLaws.{all-self, folded-prints, printing-some, printing-apart}
+use Rattle.folds.specs.PrintingLaws.{folded-prints, printing-some, printing-apart}
 
 -- ---- the answers for an accepted file
 
-pub accepted-fold : (file : List ℕ) (es : List Entry) → read file ≡ accepted es → (room : ℕ) → foldOf file room ≡ output room (write (folded es))
+pub accepted-fold : (file : List ℕ) (es : List Entry) → read file ≡ accepted es → (room : ℕ) → foldOf file room ≡ output room (accepted (folded es))
 unfolding foldOf
-accepted-fold file es e room =
-    ap (λ (o : Outcome). elim o as (λ o. Output) [ refused n p ↦ record { refusal = n; place = p; bytes = [] } | accepted fs ↦ output room (write (folded fs)) ]) e
+accepted-fold file es e room = ap (λ o. output room (foldedOutcome o)) e
 
 pub accepted-lookup : (file : List ℕ) (es : List Entry) → read file ≡ accepted es → (n : ℕ) → lookupOf file n ≡ lookedUp (lookup (closedList es) n)
 unfolding lookupOf
-accepted-lookup file es e n =
-    ap (λ (o : Outcome). elim o as (λ o. Lookup) [ refused k p ↦ record { refusal = k; place = p; standing = 0 } | accepted fs ↦ lookedUp (lookup (closedList fs) n) ]) e
+accepted-lookup file es e n = ap (λ o. lookedIn o n) e
 
-pub enough-room : (room : ℕ) (bytes : List ℕ) → length bytes ≤ room → output room bytes ≡ record { refusal = 0; place = 0; bytes = bytes }
-enough-room room bytes h =
-    ap (λ b. elim b as (λ b. Output) [ true ↦ record { refusal = 16; place = 0; bytes = [] } | false ↦ record { refusal = 0; place = 0; bytes = bytes } ]) (le-ltb room (length bytes) h)
+pub enough-room : (room : ℕ) (es : List Entry) → length (write es) ≤ room → output room (accepted es) ≡ record { refusal = 0; place = 0; bytes = write es }
+enough-room room es h =
+    ap (λ b. elim b as (λ b. Output) [ true ↦ nothing 16 0 | false ↦ record { refusal = 0; place = 0; bytes = write es } ]) (le-ltb room (length (write es)) h)
 
 -- ---- the fold
 
@@ -56,10 +54,11 @@ fold-theorem file es e =
     let fs = folded es in
     let readable = folded-accepted es w in
     record {
-      written = λ room h. accepted-fold file es e room ∙ enough-room room (write fs) h;
+      written = λ room h. accepted-fold file es e room ∙ enough-room room fs h;
       readable = readable;
-      again = λ room. accepted-fold (write fs) fs readable room ∙ ap (λ gs. output room (write gs)) (folded-twice es w) ∙ sym (accepted-fold file es e room);
+      again = λ room. accepted-fold (write fs) fs readable room ∙ ap (λ gs. output room (accepted gs)) (folded-twice es w) ∙ sym (accepted-fold file es e room);
       printing = folded-prints es w;
+      unique = λ a b s t o. stands-once o s t;
       apart = printing-apart fs (folded-prints es w) (w .entered .distinct);
       named = all-imp (word-named fs) fs (well-formed (write fs) fs readable .named);
     }

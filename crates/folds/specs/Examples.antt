@@ -12,7 +12,7 @@ use Rattle.catalogues.specs.Read.{step, readWords, read}
 use Rattle.catalogues.specs.Write.{write}
 use Rattle.catalogues.specs.Examples.{full}
 use Rattle.folds.specs.Fold.{sameLattice, standing, folded}
-use Rattle.folds.specs.Services.{Output, Lookup, foldOf, lookupOf}
+use Rattle.folds.specs.Services.{Output, nothing, Lookup, foldOf, lookupOf}
 use Rattle.folds.specs.Listing.{listingOf}
 
 -- entry 12 is folded into 7, so the see word of entry 9 names 7
@@ -42,9 +42,6 @@ refusedListing = 114 ∷ 101 ∷ 102 ∷ 117 ∷ 115 ∷ 101 ∷ 100 ∷ 32 ∷ 
 abbrev pub writes : List ℕ → Output
 writes bytes = record { refusal = 0; place = 0; bytes = bytes }
 
-abbrev pub noOutput : (number place : ℕ) → Output
-noOutput number place = record { refusal = number; place = place; bytes = [] }
-
 abbrev pub finds : ℕ → Lookup
 finds n = record { refusal = 0; place = 0; standing = n }
 
@@ -73,12 +70,12 @@ pub folds-hold : (
     ∷ []
     ) ≡ (
     writes (bytesOf fullFolded)
-    ∷ noOutput 16 0
+    ∷ nothing 16 0
     ∷ writes (bytesOf fullFolded)
     ∷ writes (bytesOf circleFolded)
     ∷ writes (bytesOf wider)
     ∷ writes (bytesOf (0x40000000 ∷ []))
-    ∷ noOutput 10 0
+    ∷ nothing 10 0
     ∷ []
     )
 unfolding dot comb _⊕_ _⊙_ squaredVolume isDependent least nearest insert order credited greedy isMember decode encode step readWords read write sameLattice standing folded foldOf

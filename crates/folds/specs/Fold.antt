@@ -87,9 +87,9 @@ leads ss s = followed ss (s .standing .head .number) (s .entry .see)
 abbrev pub printed : List Stood → Stood → Entry
 printed ss s = record { head = s .entry .head; vectors = reducedOf (s .entry); see = leads ss s }
 
-abbrev pub prints : List Stood → List Entry
-prints ss = map (printed ss) (standingIn ss)
+abbrev pub printedIn : List Stood → List Entry
+printedIn ss = map (printed ss) (standingIn ss)
 
 -- "The folded catalogue holds the standing entries in file order", each word at its new place
 unfoldable pub folded : List Entry → List Entry
-folded es = placed 0 (prints (closedList es))
+folded es = placed 0 (printedIn (closedList es))

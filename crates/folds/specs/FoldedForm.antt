@@ -18,13 +18,14 @@ use Rattle.lattices.specs.Refusal.{any, tooLong}
 use Rattle.reductions.specs.Start.{Coordinates}
 use Rattle.reductions.specs.Lattice.{reduction-volume}
 use Rattle.reductions.specs.Promise.{reduced-short}
-use Rattle.catalogues.specs.Catalogue.{See, Entry, accepted}
+use Rattle.catalogues.specs.Catalogue.{See, Entry, accepted, mostBytes}
 use Rattle.catalogues.specs.Read.{isNumbered, read}
 use Rattle.catalogues.specs.Write.{write}
 use Rattle.catalogues.specs.Form.{VectorFits, Distinct, Names, WellFormed}
 use Rattle.catalogues.specs.Placed.{write-placed}
+use Rattle.catalogues.specs.WrittenSize.{length-written}
 use Rattle.catalogues.specs.ReadBack.{read-written}
-use Rattle.folds.specs.Fold.{reducedOf, standing, Stood, stoodOf, closedList, stands, standingIn, led, followed, printed, prints, folded}
+use Rattle.folds.specs.Fold.{reducedOf, standing, Stood, stoodOf, closedList, stands, standingIn, led, followed, printed, printedIn, folded}
 use Rattle.folds.specs.SameLattice.{Sound, sound-entries, entry-basis, entry-count, entry-full}
 use Rattle.folds.specs.Meaning.{Among}
 use Rattle.folds.specs.StandingLaws.{standing-among, standing-twice, stands-itself}
@@ -112,38 +113,51 @@ module _ (all : List Entry) where
     sound = sound-entries all w
 
     -- the standing entry of every entry is printed
-    pub standing-printed : (e : Entry) → Among e all → any (isNumbered (standing all e .head .number)) (prints ss) ≡ true
+    pub standing-printed : (e : Entry) → Among e all → any (isNumbered (standing all e .head .number)) (printedIn ss) ≡ true
     standing-printed e a = shown-numbered all (standing all e) (standing-among all sound e a) (stands-itself all sound (standing all e) (standing-twice all sound e a))
 
     -- so a see word that is printed names an entry that is printed
-    led-names : (own : ℕ) (v : See) (there : ℕ) → any (isNumbered there) (prints ss) ≡ true → Names (prints ss) (led own v there)
+    led-names : (own : ℕ) (v : See) (there : ℕ) → any (isNumbered there) (printedIn ss) ≡ true → Names (printedIn ss) (led own v there)
     led-names own v there h = go (eqb there own)
       where
-        go : (b : Bool) → Names (prints ss) (elim b [ true ↦ none | false ↦ some (record { number = there; place = v .place }) ])
+        go : (b : Bool) → Names (printedIn ss) (elim b [ true ↦ none | false ↦ some (record { number = there; place = v .place }) ])
         go true = tt
         go false = h
 
-    followed-names : (own : ℕ) (o : Option See) → Names all o → Names (prints ss) (followed ss own o)
+    followed-names : (own : ℕ) (o : Option See) → Names all o → Names (printedIn ss) (followed ss own o)
     followed-names own none n = tt
     followed-names own (some v) n =
         let f = numbered (v .number) all n in
-        subst (Names (prints ss)) (sym (followed-to all (w .entered .distinct) own v (f .entry) (f .among) (f .number)))
+        subst (Names (printedIn ss)) (sym (followed-to all (w .entered .distinct) own v (f .entry) (f .among) (f .number)))
         (led-names own v (standing all (f .entry) .head .number) (standing-printed (f .entry) (f .among)))
 
-    shown-names : (es : List Entry) → All (λ e. Names all (e .see)) es → All (λ e. Names (prints ss) (e .see)) (shown es)
-    shown-names = shown-ind (λ es gs. All (λ e. Names all (e .see)) es → All (λ e. Names (prints ss) (e .see)) gs) (λ p. tt)
+    shown-names : (es : List Entry) → All (λ e. Names all (e .see)) es → All (λ e. Names (printedIn ss) (e .see)) (shown es)
+    shown-names = shown-ind (λ es gs. All (λ e. Names all (e .see)) es → All (λ e. Names (printedIn ss) (e .see)) gs) (λ p. tt)
         (λ e es gs q h p. (followed-names (standing all e .head .number) (e .see) (p .0), h (p .1))) (λ e es gs q h p. h (p .1))
 
-    pub prints-form : WellFormed (prints ss)
+    pub prints-form : WellFormed (printedIn ss)
     prints-form =
         let s = shown-sound all sound in
         record {
-          entered = record { few = omega (arith, shown-few all, w .entered .few); fits = all-imp (λ e p. p .fits) (prints ss) s; distinct = shown-distinct all .1 (w .entered .distinct) };
-          independent = all-imp (λ e p. p .independent) (prints ss) s;
+          entered = record { few = omega (arith, shown-few all, w .entered .few); fits = all-imp (λ e p. p .fits) (printedIn ss) s; distinct = shown-distinct all .1 (w .entered .distinct) };
+          independent = all-imp (λ e p. p .independent) (printedIn ss) s;
           named = shown-names all (w .named);
         }
+
+-- writing asks for no places
+pub folded-written : (es : List Entry) → write (folded es) ≡ write (printedIn (closedList es))
+unfolding folded
+folded-written es = write-placed 0 (printedIn (closedList es))
+
+-- and what is written is within the limit of a file
+pub folded-size : (es : List Entry) → WellFormed es → length (write (folded es)) ≤ mostBytes
+unfolding write
+folded-size es w =
+    let p = printedIn (closedList es) in
+    let v = prints-form es w .entered in
+    subst (λ l. length l ≤ mostBytes) (sym (folded-written es)) (length-written p (v .few) (v .fits))
 
 -- what is written for the folded catalogue is read as the folded catalogue
 pub folded-accepted : (es : List Entry) → WellFormed es → read (write (folded es)) ≡ accepted (folded es)
 unfolding folded
-folded-accepted es w = ap read (write-placed 0 (prints (closedList es))) ∙ read-written (prints (closedList es)) (prints-form es w)
+folded-accepted es w = ap read (folded-written es) ∙ read-written (printedIn (closedList es)) (prints-form es w)

@@ -12,3 +12,4 @@ pub mod PrintingLaws
 pub mod Again
 pub mod Demand
 pub mod Deciding
+pub mod Adding

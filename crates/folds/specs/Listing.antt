@@ -8,7 +8,7 @@ use lib.IntN.{ℤ, pos, negsuc}
 use lib.ListN.{length}
 use Rattle.lattices.specs.Vector.{Vec}
 use Rattle.lattices.specs.Greedy.{reduction}
-use Rattle.catalogues.specs.Catalogue.{See, refused, accepted}
+use Rattle.catalogues.specs.Catalogue.{See, Outcome, refused, accepted}
 use Rattle.catalogues.specs.Read.{read}
 use Rattle.folds.specs.Fold.{reducedOf, Stood, closedList, stands, standingIn, leads}
 
@@ -68,8 +68,9 @@ entryLines ss (s ∷ more) = entryLine ss s ++ (vectorsShown s ++ entryLines ss 
 abbrev pub catalogueLines : List Stood → List ℕ
 catalogueLines ss = line (decimal (length ss)) (decimal (length (standingIn ss)) ∷ []) ++ entryLines ss ss
 
+abbrev pub listed : Outcome → List ℕ
+listed (refused n p) = line refusedWord (decimal n ∷ decimal p ∷ [])
+listed (accepted es) = catalogueLines (closedList es)
+
 unfoldable pub listingOf : List ℕ → List ℕ
-listingOf file = elim (read file) [
-  | refused n p ↦ line refusedWord (decimal n ∷ decimal p ∷ [])
-  | accepted es ↦ catalogueLines (closedList es)
-]
+listingOf file = listed (read file)

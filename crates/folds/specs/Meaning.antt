@@ -68,8 +68,8 @@ pub record Prints (es : List Entry) (e g : Entry) : Type 0 where
 -- from entry to entry of a file, the standing ones are printed and the others passed over
 pub data Printing (all : List Entry) : List Entry → List Entry → Type 0 where
   done : Printing all [] []
-  prints : (e g : Entry) {es gs : List Entry} → Stands all e e → Prints all e g → Printing all es gs → Printing all (e ∷ es) (g ∷ gs)
-  passes : (e : Entry) {es gs : List Entry} → ¬ Stands all e e → Printing all es gs → Printing all (e ∷ es) gs
+  print : (e g : Entry) {es gs : List Entry} → Stands all e e → Prints all e g → Printing all es gs → Printing all (e ∷ es) (g ∷ gs)
+  pass : (e : Entry) {es gs : List Entry} → ¬ Stands all e e → Printing all es gs → Printing all (e ∷ es) gs
 
 -- no two entries generate one lattice
 abbrev pub Apart : List Entry → Type 0
@@ -86,7 +86,8 @@ pub record Folds (file : List ℕ) (es : List Entry) : Type 0 where
   pub again : (room : ℕ) → foldOf (write (folded es)) room ≡ foldOf file room
   -- it prints the standing entries in file order, and no others
   pub printing : Printing es es (folded es)
-  -- no two of them generate one lattice
+  -- no two standing entries generate one lattice, and no two entries printed
+  pub unique : (e f : Entry) → Stands es e e → Stands es f f → OneLattice e f → e ≡ f
   pub apart : Apart (folded es)
   -- each see word printed names an entry printed there
   pub named : All (λ g. (n : ℕ) → Sees g n → Some (λ h. h .head .number ≡ n) (folded es)) (folded es)

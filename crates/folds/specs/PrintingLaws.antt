@@ -12,18 +12,13 @@ use Rattle.integers.specs.All.{All, Some, all-imp}
 use Rattle.minima.specs.Minima.{successive}
 use Rattle.catalogues.specs.Catalogue.{See, Entry}
 use Rattle.catalogues.specs.Form.{Distinct, Names, WellFormed, seeAt, entryAt, placed, pastVectors}
-use Rattle.folds.specs.Fold.{reducedOf, standing, stoodOf, closedList, stands, followed, led, printed, prints, folded}
+use Rattle.folds.specs.Fold.{reducedOf, standing, stoodOf, closedList, stands, followed, led, printed, printedIn, folded}
 use Rattle.folds.specs.Listing.{leadNumber}
-use Rattle.folds.specs.Meaning.{Among, OneLattice, Stands, Leads, Sees, Prints, Printing, done, prints as prints-one, passes, Apart}
+use Rattle.folds.specs.Meaning.{Among, OneLattice, Stands, Leads, Sees, Prints, Printing, done, print, pass, Apart}
 use Rattle.folds.specs.SameLattice.{Sound, sound-entries, entry-basis, entry-lattice, entry-reduced, entry-count, one-refl, one-sym, one-trans}
-use Rattle.folds.specs.StandingLaws.{all-among, stands-among, stands-once, one-number, not-used, standing-is, standing-among, stands-itself, itself-stands}
+use Rattle.folds.specs.StandingLaws.{all-self, all-among, stands-among, stands-once, one-number, not-used, standing-is, standing-among, stands-itself, itself-stands}
 use Rattle.folds.specs.LookupLaws.{numbered, led-own, led-other, followed-to}
 use Rattle.folds.specs.FoldedForm.{shown-ind}
-
--- every entry of a list is among its entries
-pub all-self : (es : List Entry) → All (λ e. Among e es) es
-all-self [] = tt
-all-self (e ∷ es) = (inl refl, all-imp (λ f a. inr a) es (all-self es))
 
 module _ (all : List Entry) (w : WellFormed all) where
   sound : All Sound all
@@ -108,10 +103,10 @@ module _ (all : List Entry) (w : WellFormed all) where
   stands-not : (e : Entry) (a : Among e all) → stands (stoodOf all e) ≡ false → ¬ Stands all e e
   stands-not e a t s = true≢false (sym (stands-itself all sound e (stands-once (one-refl e) (standing-is all sound e a) s)) ∙ t)
 
-  prints-all : Printing all all (prints (closedList all))
+  prints-all : Printing all all (printedIn (closedList all))
   prints-all = shown-ind all (λ es gs. All (λ e. Among e all) es → All (λ e. Names all (e .see)) es → Printing all es gs) (λ p q. done)
-      (λ e es gs t h p q. prints-one e (printed (closedList all) (stoodOf all e)) (stands-here e (p .0) t) (entry-prints e (p .0) (itself-stands all sound distinct e (p .0) t) (q .0)) (h (p .1) (q .1)))
-      (λ e es gs t h p q. passes e (stands-not e (p .0) t) (h (p .1) (q .1)))
+      (λ e es gs t h p q. print e (printed (closedList all) (stoodOf all e)) (stands-here e (p .0) t) (entry-prints e (p .0) (itself-stands all sound distinct e (p .0) t) (q .0)) (h (p .1) (q .1)))
+      (λ e es gs t h p q. pass e (stands-not e (p .0) t) (h (p .1) (q .1)))
       all (all-self all) (w .named)
 
 -- ---- placed entries print the same
@@ -140,8 +135,8 @@ prints-placed i g p = record {
 
 printing-placed : {all es gs : List Entry} → Printing all es gs → (i : ℕ) → Printing all es (placed i gs)
 printing-placed done i = done
-printing-placed (prints-one e g s p r) i = prints-one e (entryAt i g) s (prints-placed i g p) (printing-placed r _)
-printing-placed (passes e s r) i = passes e s (printing-placed r i)
+printing-placed (print e g s p r) i = print e (entryAt i g) s (prints-placed i g p) (printing-placed r _)
+printing-placed (pass e s r) i = pass e s (printing-placed r i)
 
 pub folded-prints : (es : List Entry) → WellFormed es → Printing es es (folded es)
 unfolding folded
@@ -162,27 +157,27 @@ module _ {all : List Entry} where
 
   printing-from : {es : List Entry} (gs : List Entry) → Printing all es gs → All (From all es) gs
   printing-from gs done = tt
-  printing-from gs (prints-one e g {gs = hs} s p r) = (record { entry = e; among = inl refl; stands = s; prints = p }, all-imp (later e) hs (printing-from hs r))
-  printing-from gs (passes e s r) = all-imp (later e) gs (printing-from gs r)
+  printing-from gs (print e g {gs = hs} s p r) = (record { entry = e; among = inl refl; stands = s; prints = p }, all-imp (later e) hs (printing-from hs r))
+  printing-from gs (pass e s r) = all-imp (later e) gs (printing-from gs r)
 
   -- every standing entry is printed
   pub printing-some : {es : List Entry} (gs : List Entry) → Printing all es gs → (f : Entry) → Among f es → Stands all f f → Some (Prints all f) gs
   printing-some gs done f a t = a
-  printing-some gs (prints-one e g s p r) f (inl q) t = inl (subst (λ h. Prints all h g) q p)
-  printing-some gs (prints-one e g {gs = hs} s p r) f (inr a) t = inr (printing-some hs r f a t)
-  printing-some gs (passes e s r) f (inl q) t = absurd (s (subst (λ h. Stands all h h) (sym q) t))
-  printing-some gs (passes e s r) f (inr a) t = printing-some gs r f a t
+  printing-some gs (print e g s p r) f (inl q) t = inl (subst (λ h. Prints all h g) q p)
+  printing-some gs (print e g {gs = hs} s p r) f (inr a) t = inr (printing-some hs r f a t)
+  printing-some gs (pass e s r) f (inl q) t = absurd (s (subst (λ h. Stands all h h) (sym q) t))
+  printing-some gs (pass e s r) f (inr a) t = printing-some gs r f a t
 
   -- no two entries printed generate one lattice
   pub printing-apart : {es : List Entry} (gs : List Entry) → Printing all es gs → Distinct es → Apart gs
   printing-apart gs done d = tt
-  printing-apart gs (prints-one e g {es = es} {gs = hs} s p r) d = (all-imp other hs (printing-from hs r), printing-apart hs r (d .1))
+  printing-apart gs (print e g {es = es} {gs = hs} s p r) d = (all-imp other hs (printing-from hs r), printing-apart hs r (d .1))
     where
       other : (h : Entry) → From all es h → ¬ OneLattice g h
       other h f o =
           let q : e ≡ f .entry = stands-once (one-trans (one-sym (p .one)) (one-trans o (f .prints .one))) s (f .stands) in
           not-used (e .head .number) es (d .0) (f .entry) (f .among) (ap (λ x. x .head .number) (sym q))
-  printing-apart gs (passes e s r) d = printing-apart gs r (d .1)
+  printing-apart gs (pass e s r) d = printing-apart gs r (d .1)
 
   -- a see word printed names another entry than the one that carries it
   pub printing-other : Distinct all → (gs : List Entry) → Printing all all gs → All (λ g. (n : ℕ) → Sees g n → n ≢ g .head .number) gs

@@ -6,7 +6,7 @@ use mathlib.Core.Option.{Option, none, some}
 use Prim.Native.Nat.{ℕ}
 use lib.Dec.{ltb}
 use lib.ListN.{length}
-use Rattle.catalogues.specs.Catalogue.{refused, accepted}
+use Rattle.catalogues.specs.Catalogue.{Outcome, refused, accepted}
 use Rattle.catalogues.specs.Read.{read}
 use Rattle.catalogues.specs.Write.{write}
 use Rattle.folds.specs.Fold.{closedList, lookup, folded}
@@ -17,19 +17,21 @@ pub record Output : Type 0 where
   pub place : ℕ
   pub bytes : List ℕ
 
--- row "output": "16 lent output shorter than what is to be written"
-abbrev pub output : (room : ℕ) → List ℕ → Output
-output room bytes = elim (ltb room (length bytes)) [
-  | true ↦ record { refusal = 16; place = 0; bytes = [] }
-  | false ↦ record { refusal = 0; place = 0; bytes = bytes }
-]
+abbrev pub nothing : (number place : ℕ) → Output
+nothing number place = record { refusal = number; place = place; bytes = [] }
+
+-- row "output, folded or not": "16 lent output shorter than what is to be written"; the catalogue's own refusals come first
+abbrev pub output : (room : ℕ) → Outcome → Output
+output room (refused n p) = nothing n p
+output room (accepted es) = elim (ltb room (length (write es))) [ true ↦ nothing 16 0 | false ↦ record { refusal = 0; place = 0; bytes = write es } ]
+
+abbrev pub foldedOutcome : Outcome → Outcome
+foldedOutcome (refused n p) = refused n p
+foldedOutcome (accepted es) = accepted (folded es)
 
 -- the fold of a file, for an output of `room` bytes
 unfoldable pub foldOf : List ℕ → (room : ℕ) → Output
-foldOf file room = elim (read file) [
-  | refused n p ↦ record { refusal = n; place = p; bytes = [] }
-  | accepted es ↦ output room (write (folded es))
-]
+foldOf file room = output room (foldedOutcome (read file))
 
 pub record Lookup : Type 0 where
   pub refusal : ℕ
@@ -41,8 +43,10 @@ abbrev pub lookedUp : Option ℕ → Lookup
 lookedUp none = record { refusal = 17; place = 0; standing = 0 }
 lookedUp (some n) = record { refusal = 0; place = 0; standing = n }
 
+abbrev pub lookedIn : Outcome → (number : ℕ) → Lookup
+lookedIn (refused n p) number = record { refusal = n; place = p; standing = 0 }
+lookedIn (accepted es) number = lookedUp (lookup (closedList es) number)
+
+-- the lookup of a number in a file
 unfoldable pub lookupOf : List ℕ → (number : ℕ) → Lookup
-lookupOf file number = elim (read file) [
-  | refused n p ↦ record { refusal = n; place = p; standing = 0 }
-  | accepted es ↦ lookedUp (lookup (closedList es) number)
-]
+lookupOf file number = lookedIn (read file) number

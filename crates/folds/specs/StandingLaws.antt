@@ -6,7 +6,7 @@ use mathlib.Core.List.{List, [], _∷_, _++_, tail}
 use Prim.Native.Nat.{ℕ}
 use lib.ListN.{getD}
 use borrow.Author.Tests.{eqb-true, eq-eqb}
-use Rattle.integers.specs.All.{All}
+use Rattle.integers.specs.All.{All, all-imp}
 use Rattle.integers.specs.Tests.{neither}
 use Rattle.lattices.specs.Refusal.{any}
 use Rattle.catalogues.specs.Catalogue.{Entry}
@@ -15,6 +15,11 @@ use Rattle.catalogues.specs.Form.{Distinct}
 use Rattle.folds.specs.Fold.{sameLattice, firstEntry, standing, stoodOf, stands}
 use Rattle.folds.specs.Meaning.{Among, OneLattice, Stands}
 use Rattle.folds.specs.SameLattice.{Sound, one-refl, one-sym, one-trans, same-exactly, not-same}
+
+-- every entry of a list is among its entries
+pub all-self : (es : List Entry) → All (λ e. Among e es) es
+all-self [] = tt
+all-self (e ∷ es) = (inl refl, all-imp (λ f a. inr a) es (all-self es))
 
 pub all-among : (P : Entry → Type 0) (es : List Entry) → All P es → (e : Entry) → Among e es → P e
 all-among P [] p e a = absurd a
