@@ -2,10 +2,9 @@
 use mathlib.Core.Bool.{true, false}
 use mathlib.Core.List.{List, [], _∷_, _++_, map}
 use mathlib.Core.Option.{Option, none, some}
-use Prim.Native.Nat.{ℕ, zero, suc, _+_, _/_, _%_}
-use lib.Dec.{ltb}
-use lib.IntN.{ℤ, pos, negsuc}
+use Prim.Native.Nat.{ℕ}
 use lib.ListN.{length}
+use Rattle.integers.specs.Decimal.{decimal, signed}
 use Rattle.lattices.specs.Vector.{Vec}
 use Rattle.lattices.specs.Greedy.{reduction}
 use Rattle.catalogues.specs.Catalogue.{See, Outcome, refused, accepted}
@@ -13,19 +12,6 @@ use Rattle.catalogues.specs.Read.{read}
 use Rattle.folds.specs.Fold.{reducedOf, Stood, closedList, stands, standingIn, leads}
 
 -- ---- fields and lines
-
--- a number in decimal, its last digit last; n has at most n + 1 digits
-abbrev pub digits : (fuel : ℕ) → ℕ → List ℕ
-digits zero n = []
-digits (suc fuel) n = elim (ltb n 10) [ true ↦ (48 + n) ∷ [] | false ↦ digits fuel (n / 10) ++ ((48 + n % 10) ∷ []) ]
-
-abbrev pub decimal : ℕ → List ℕ
-decimal n = digits (suc n) n
-
--- a minus sign stands before a negative number
-abbrev pub signed : ℤ → List ℕ
-signed (pos n) = decimal n
-signed (negsuc n) = 45 ∷ decimal (suc n)
 
 -- "One space stands between fields, and every line ends with a newline."
 abbrev pub after : List (List ℕ) → List ℕ
