@@ -1,12 +1,12 @@
 -- Demand 3 whole, in one statement: `every-service`. What it promises of a reduction and of a nearest vector is said in `Reduces` and `Nears`
 -- (reductions/specs/Demand.antt), of a fold and of lookups in `Folds` and `LooksUp` (Meaning.antt).
 use mathlib.Core.Path.{_≡_, sym, ap, _∙_, subst}
-use mathlib.Core.Bool.{true, false}
+use mathlib.Core.Bool.{Bool, true, false}
 use mathlib.Core.List.{List, [], _++_}
 use mathlib.Core.Option.{some}
-use Prim.Native.Nat.{ℕ, _≤_}
+use Prim.Native.Nat.{ℕ, _≤_, _<_}
 use lib.ListN.{length}
-use borrow.Author.Tests.{le-ltb}
+use borrow.Author.Tests.{le-ltb, lt-ltb}
 use Rattle.integers.specs.All.{Some, all-imp, some-imp}
 use Rattle.lattices.specs.Refusal.{Input, firstOf, vectorChecks, targetChecks}
 use Rattle.lattices.specs.Answer.{reductionOf, nearestOf}
@@ -21,7 +21,7 @@ use Rattle.folds.specs.Services.{Output, nothing, output, foldedOutcome,
 use Rattle.folds.specs.Meaning.{Among, Stands, Sees, Prints, Folds, Finds, LooksUp}
 use Rattle.folds.specs.SameLattice.{sound-entries, one-trans}
 use Rattle.folds.specs.StandingLaws.{all-self, stands-once, standing-is, standing-among, standing-one, standing-twice}
-use Rattle.folds.specs.LookupLaws.{numbered, lookup-finds}
+use Rattle.folds.specs.LookupLaws.{numbered, unused, lookup-finds, lookup-misses}
 use Rattle.folds.specs.FoldedForm.{folded-accepted}
 use Rattle.folds.specs.Again.{folded-twice}
 use Rattle.folds.specs.PrintingLaws.{folded-prints, printing-some, printing-apart}
@@ -36,9 +36,17 @@ pub accepted-lookup : (file : List ℕ) (es : List Entry) → read file ≡ acce
 unfolding lookupOf
 accepted-lookup file es e n = ap (λ o. lookedIn o n) e
 
+-- with room for the bytes or without
+given : ℕ → List ℕ → Bool → Output
+given room bytes b = elim b [ true ↦ nothing 16 0 | false ↦ record { refusal = 0; place = 0; bytes = bytes } ]
+
 pub enough-room : (room : ℕ) (es : List Entry) → length (write es) ≤ room → output room (accepted es) ≡ record { refusal = 0; place = 0; bytes = write es }
-enough-room room es h =
-    ap (λ b. elim b as (λ b. Output) [ true ↦ nothing 16 0 | false ↦ record { refusal = 0; place = 0; bytes = write es } ]) (le-ltb room (length (write es)) h)
+unfolding given
+enough-room room es h = ap (given room (write es)) (le-ltb room (length (write es)) h)
+
+pub no-room : (room : ℕ) (es : List Entry) → room < length (write es) → output room (accepted es) ≡ nothing 16 0
+unfolding given
+no-room room es h = ap (given room (write es)) (lt-ltb room (length (write es)) h)
 
 -- ---- the fold
 
@@ -55,6 +63,7 @@ fold-theorem file es e =
     let readable = folded-accepted es w in
     record {
       written = λ room h. accepted-fold file es e room ∙ enough-room room fs h;
+      short = λ room h. accepted-fold file es e room ∙ no-room room fs h;
       readable = readable;
       again = λ room. accepted-fold (write fs) fs readable room ∙ ap (λ gs. output room (accepted gs)) (folded-twice es w) ∙ sym (accepted-fold file es e room);
       printing = folded-prints es w;
@@ -92,7 +101,11 @@ module _ (file : List ℕ) (es : List Entry) (e : read file ≡ accepted es) whe
       some-imp (λ h q. (ap (λ x. x .head .number) q ∙ number, subst (λ k. Finds file es k h) (ap (λ x. x .head .number) q ∙ number) (finds h (subst (λ x. Among x es) (sym q) (g .among))))) es (g .among)
 
   pub lookup-theorem : LooksUp file es
-  lookup-theorem = record { entries = all-imp finds es (all-self es); sees = all-imp sees-found es (w .named) }
+  lookup-theorem = record {
+    entries = all-imp finds es (all-self es);
+    sees = all-imp sees-found es (w .named);
+    others = λ n h. accepted-lookup file es e n ∙ ap lookedUp (lookup-misses es es n (unused n es h));
+  }
 
 -- demand 3: every accepted basis is reduced; for every accepted target the nearest vector is named; every accepted file is folded; and every
 -- number of an entry and in a see word is looked up

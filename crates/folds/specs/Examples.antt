@@ -12,7 +12,7 @@ use Rattle.catalogues.specs.Read.{step, readWords, read}
 use Rattle.catalogues.specs.Write.{write}
 use Rattle.catalogues.specs.Examples.{full}
 use Rattle.folds.specs.Fold.{sameLattice, standing, folded}
-use Rattle.folds.specs.Services.{Output, nothing, Lookup, foldOf, lookupOf}
+use Rattle.folds.specs.Services.{Output, nothing, Lookup, nowhere, foldOf, lookupOf}
 use Rattle.folds.specs.Listing.{listingOf}
 
 -- entry 12 is folded into 7, so the see word of entry 9 names 7
@@ -44,9 +44,6 @@ writes bytes = record { refusal = 0; place = 0; bytes = bytes }
 
 abbrev pub finds : ℕ → Lookup
 finds n = record { refusal = 0; place = 0; standing = n }
-
-abbrev pub noLookup : (number place : ℕ) → Lookup
-noLookup number place = record { refusal = number; place = place; standing = 0 }
 
 -- a see word to a later entry, to itself, and two entries that name each other; 2 is folded into 1, with another sign
 abbrev pub circle : List ℕ
@@ -81,7 +78,7 @@ pub folds-hold : (
 unfolding dot comb _⊕_ _⊙_ squaredVolume isDependent least nearest insert order credited greedy isMember decode encode step readWords read write sameLattice standing folded foldOf
 folds-hold = refl
 
-pub lookups-hold : map (lookupOf (bytesOf full)) (7 ∷ 9 ∷ 12 ∷ 8 ∷ []) ++ (lookupOf [] 7 ∷ []) ≡ finds 7 ∷ finds 9 ∷ finds 7 ∷ noLookup 17 0 ∷ noLookup 10 0 ∷ []
+pub lookups-hold : map (lookupOf (bytesOf full)) (7 ∷ 9 ∷ 12 ∷ 8 ∷ []) ++ (lookupOf [] 7 ∷ []) ≡ finds 7 ∷ finds 9 ∷ finds 7 ∷ nowhere 17 0 ∷ nowhere 10 0 ∷ []
 unfolding dot comb _⊕_ _⊙_ squaredVolume isDependent least nearest insert order credited greedy isMember decode encode step readWords read sameLattice standing lookupOf
 lookups-hold = refl
 

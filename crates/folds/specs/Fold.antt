@@ -68,9 +68,13 @@ lookup (s ∷ ss) n = elim (isNumbered n (s .entry)) [ true ↦ some (s .standin
 
 -- ---- the see-word rule
 
--- a see word of an entry whose standing number is `own`, led to the standing number `there`
+-- a see word led to the standing number `there`, unless that is its own
+abbrev pub unlessOwn : Bool → See → (there : ℕ) → Option See
+unlessOwn true w there = none
+unlessOwn false w there = some (record { number = there; place = w .place })
+
 abbrev pub led : (own : ℕ) → See → (there : ℕ) → Option See
-led own w there = elim (eqb there own) [ true ↦ none | false ↦ some (record { number = there; place = w .place }) ]
+led own w there = unlessOwn (eqb there own) w there
 
 abbrev pub followed : List Stood → (own : ℕ) → Option See → Option See
 followed ss own none = none

@@ -25,7 +25,7 @@ use Rattle.catalogues.specs.Form.{VectorFits, Distinct, Names, WellFormed}
 use Rattle.catalogues.specs.Placed.{write-placed}
 use Rattle.catalogues.specs.WrittenSize.{length-written}
 use Rattle.catalogues.specs.ReadBack.{read-written}
-use Rattle.folds.specs.Fold.{reducedOf, standing, Stood, stoodOf, closedList, stands, standingIn, led, followed, printed, printedIn, folded}
+use Rattle.folds.specs.Fold.{reducedOf, standing, Stood, stoodOf, closedList, stands, standingIn, unlessOwn, led, followed, printed, printedIn, folded}
 use Rattle.folds.specs.SameLattice.{Sound, sound-entries, entry-basis, entry-count, entry-full}
 use Rattle.folds.specs.Meaning.{Among}
 use Rattle.folds.specs.StandingLaws.{standing-among, standing-twice, stands-itself}
@@ -120,7 +120,7 @@ module _ (all : List Entry) where
     led-names : (own : ℕ) (v : See) (there : ℕ) → any (isNumbered there) (printedIn ss) ≡ true → Names (printedIn ss) (led own v there)
     led-names own v there h = go (eqb there own)
       where
-        go : (b : Bool) → Names (printedIn ss) (elim b [ true ↦ none | false ↦ some (record { number = there; place = v .place }) ])
+        go : (b : Bool) → Names (printedIn ss) (unlessOwn b v there)
         go true = tt
         go false = h
 

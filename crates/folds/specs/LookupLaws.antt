@@ -1,18 +1,18 @@
 -- Lookup in the closed list gives the number of the standing entry, and where a see word leads goes by it.
-use mathlib.Core.Path.{_≡_, refl, sym, ap, _∙_}
+use mathlib.Core.Path.{_≡_, refl, sym, ap, ap₂, _∙_}
 use mathlib.Core.Logic.{_≢_, inl, inr}
 use mathlib.Core.Bool.{Bool, true, false, _||_, false≢true, true≢false}
 use mathlib.Core.List.{List, [], _∷_, map}
 use mathlib.Core.Option.{Option, none, some}
 use Prim.Native.Nat.{ℕ}
-use lib.Dec.{eqb}
-use borrow.Author.Tests.{eqb-true, eq-eqb}
+use borrow.Author.Tests.{eqb-true, eq-eqb, ne-eqb}
+use Rattle.integers.specs.All.{All}
 use Rattle.integers.specs.Tests.{neither}
 use Rattle.lattices.specs.Refusal.{any}
 use Rattle.catalogues.specs.Catalogue.{See, Entry}
 use Rattle.catalogues.specs.Read.{isNumbered}
 use Rattle.catalogues.specs.Form.{Distinct}
-use Rattle.folds.specs.Fold.{standing, stoodOf, lookup, led, followed}
+use Rattle.folds.specs.Fold.{standing, stoodOf, lookup, unlessOwn, led, followed}
 use Rattle.folds.specs.Meaning.{Among}
 use Rattle.folds.specs.StandingLaws.{not-used}
 
@@ -29,6 +29,10 @@ numbered n (e ∷ es) h = go (isNumbered n e) refl h (numbered n es)
     go : (b : Bool) → isNumbered n e ≡ b → (b || any (isNumbered n) es) ≡ true → (any (isNumbered n) es ≡ true → Numbered n es) → Numbered n (e ∷ es)
     go true q h more = record { entry = e; among = inl refl; number = eqb-true (e .head .number) n q }
     go false q h more = let r = more h in record { entry = r .entry; among = inr (r .among); number = r .number }
+
+pub unused : (n : ℕ) (es : List Entry) → All (λ e. e .head .number ≢ n) es → any (isNumbered n) es ≡ false
+unused n [] h = refl
+unused n (e ∷ es) h = ap₂ _||_ (ne-eqb (e .head .number) n (h .0)) (unused n es (h .1))
 
 -- what lookup gives is the standing number of an entry of that number; `all` is the whole file
 pub lookup-finds : (all es : List Entry) → Distinct es → (e : Entry) → Among e es → lookup (map (stoodOf all) es) (e .head .number) ≡ some (standing all e .head .number)
@@ -50,14 +54,10 @@ lookup-misses all (g ∷ es) n h =
 
 -- a word that leads to its own standing entry is dropped, any other names the standing entry
 pub led-own : (own : ℕ) (w : See) (there : ℕ) → there ≡ own → led own w there ≡ none
-led-own own w there e = ap (λ b. elim b [ true ↦ none | false ↦ some (record { number = there; place = w .place }) ]) (eq-eqb there own e)
+led-own own w there e = ap (λ b. unlessOwn b w there) (eq-eqb there own e)
 
 pub led-other : (own : ℕ) (w : See) (there : ℕ) → there ≢ own → led own w there ≡ some (record { number = there; place = w .place })
-led-other own w there h = go (eqb there own) refl
-  where
-    go : (b : Bool) → eqb there own ≡ b → _≡_ {A = Option See} (elim b [ true ↦ none | false ↦ some (record { number = there; place = w .place }) ]) (some (record { number = there; place = w .place }))
-    go true q = absurd (h (eqb-true there own q))
-    go false q = refl
+led-other own w there h = ap (λ b. unlessOwn b w there) (ne-eqb there own h)
 
 -- a see word that names the entry e
 pub followed-to : (all : List Entry) → Distinct all → (own : ℕ) (w : See) (e : Entry) → Among e all → e .head .number ≡ w .number

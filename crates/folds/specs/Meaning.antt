@@ -12,7 +12,7 @@ use Rattle.catalogues.specs.Catalogue.{See, Entry, accepted}
 use Rattle.catalogues.specs.Read.{read}
 use Rattle.catalogues.specs.Write.{write}
 use Rattle.folds.specs.Fold.{folded}
-use Rattle.folds.specs.Services.{foldOf, lookupOf}
+use Rattle.folds.specs.Services.{nothing, foldOf, nowhere, lookupOf}
 
 -- ---- entries of a file
 
@@ -78,8 +78,9 @@ Apart (g ∷ gs) = All (λ h. ¬ OneLattice g h) gs × Apart gs
 
 -- ---- the fold of an accepted file with entries es
 pub record Folds (file : List ℕ) (es : List Entry) : Type 0 where
-  -- an output that is long enough receives the folded catalogue
+  -- an output that is long enough receives the folded catalogue, and a shorter one is refused
   pub written : (room : ℕ) → length (write (folded es)) ≤ room → foldOf file room ≡ record { refusal = 0; place = 0; bytes = write (folded es) }
+  pub short : (room : ℕ) → room < length (write (folded es)) → foldOf file room ≡ nothing 16 0
   -- which is an accepted catalogue
   pub readable : read (write (folded es)) ≡ accepted (folded es)
   -- and folds to the same bytes
@@ -100,7 +101,8 @@ pub record Finds (file : List ℕ) (es : List Entry) (n : ℕ) (e : Entry) : Typ
   -- and the vectors printed under that number generate the lattice of e
   pub printed : Some (λ g. (g .head .number ≡ lookupOf file n .standing) × OneLattice g e) (folded es)
 
--- every number of an entry is found, and every number in a see word
+-- every number of an entry is found, and every number in a see word; no other is
 pub record LooksUp (file : List ℕ) (es : List Entry) : Type 0 where
   pub entries : All (λ e. Finds file es (e .head .number) e) es
   pub sees : All (λ e. (n : ℕ) → Sees e n → Some (λ f. (f .head .number ≡ n) × Finds file es n f) es) es
+  pub others : (n : ℕ) → All (λ e. e .head .number ≢ n) es → lookupOf file n ≡ nowhere 17 0

@@ -38,13 +38,16 @@ pub record Lookup : Type 0 where
   pub place : ℕ
   pub standing : ℕ
 
+abbrev pub nowhere : (number place : ℕ) → Lookup
+nowhere number place = record { refusal = number; place = place; standing = 0 }
+
 -- row "lookup": "17 the number is in no entry"
 abbrev pub lookedUp : Option ℕ → Lookup
-lookedUp none = record { refusal = 17; place = 0; standing = 0 }
+lookedUp none = nowhere 17 0
 lookedUp (some n) = record { refusal = 0; place = 0; standing = n }
 
 abbrev pub lookedIn : Outcome → (number : ℕ) → Lookup
-lookedIn (refused n p) number = record { refusal = n; place = p; standing = 0 }
+lookedIn (refused n p) number = nowhere n p
 lookedIn (accepted es) number = lookedUp (lookup (closedList es) number)
 
 -- the lookup of a number in a file
