@@ -1,4 +1,5 @@
--- The fold of a catalogue. Definitions: Fold to Listing.
+-- The fold of a catalogue. Definitions: Fold, Services, Listing. What they promise: Meaning, and Demand, where demand 3 is one statement. The
+-- rest proves it; Deciding, Adding and ListingSize are for the code.
 pub mod Fold
 pub mod Services
 pub mod Listing
@@ -13,3 +14,4 @@ pub mod Again
 pub mod Demand
 pub mod Deciding
 pub mod Adding
+pub mod ListingSize
