@@ -1,24 +1,24 @@
 -- How one lattice may be decided from the engine's answers: entries with different m, d or squared lengths of reduced vectors differ, and for
--- the others the reduced vectors are tested, filled up with zeros or not.
+-- the others the reduced vectors are tested; filled up with zeros the test is the same (`member-padded` of reductions/specs/Membership.antt).
 use mathlib.Core.Path.{_≡_, refl, sym, ap, _∙_}
 use mathlib.Core.Logic.{_≢_}
 use mathlib.Core.Bool.{Bool, true, false}
-use mathlib.Core.List.{List, map}
-use Prim.Native.Nat.{ℕ, _≤_}
+use mathlib.Core.List.{map}
+use Prim.Native.Nat.{_≤_}
 use native.Mathlib.Omega.{arith}
-use lib.IntN.{pos}
-use lib.ListN.{length}
-use lib.Signed.{leZ}
+use lib.ListN.{length, take}
 use Rattle.integers.specs.All.{All, all-imp}
-use Rattle.lattices.specs.Vector.{Vec, N, In, _⊖_, comb}
-use Rattle.lattices.specs.Nearest.{nearest}
-use Rattle.lattices.specs.Greedy.{reduction}
-use Rattle.lattices.specs.Answer.{padded, reductionGiven, reductionOf}
+use Rattle.lattices.specs.Vector.{Vec, N, In}
+use Rattle.lattices.specs.Greedy.{vectors, reduction}
+use Rattle.lattices.specs.Refusal.{mostVectors, mostCoordinates}
+use Rattle.lattices.specs.RefusalLaws.{one-to}
+use Rattle.lattices.specs.AnswerLaws.{table-rows}
+use Rattle.lattices.specs.Answer.{padded, table, reductionGiven, reductionOf}
 use Rattle.minima.specs.Members.{isMember}
 use Rattle.minima.specs.Invariants.{same-count, same-lengths}
-use Rattle.reductions.specs.Start.{Coordinates, comb-places, minus-places}
+use Rattle.reductions.specs.Moves.{row-squares}
 use Rattle.reductions.specs.Lattice.{generators, generated}
-use Rattle.reductions.specs.Padding.{padded-N, padded-minus, nearest-padded}
+use Rattle.reductions.specs.Membership.{member-padded}
 use Rattle.reductions.specs.Demand.{accepted-reduction}
 use Rattle.catalogues.specs.Catalogue.{Entry, inputOf}
 use Rattle.catalogues.specs.EntriesAccepted.{is-basis}
@@ -29,6 +29,24 @@ use Rattle.folds.specs.SameLattice.{Sound, entry-vectors, entry-basis, e
 -- the answer of the engine for an entry
 pub entry-reduction : (e : Entry) → Sound e → reductionOf (inputOf e) ≡ reductionGiven (reduction (e .vectors))
 entry-reduction e s = accepted-reduction (inputOf e) (is-basis e (s .fits) (s .independent)) ∙ ap (λ vs. reductionGiven (reduction vs)) (entry-vectors e s)
+
+-- its rows are the reduced vectors, and its squares their squared lengths, filled up with zeros
+pub entry-rows : (e : Entry) → Sound e → take (e .head .d) (reductionOf (inputOf e) .basis) ≡ map (padded mostCoordinates) (reducedOf e)
+entry-rows e s =
+    let count : length (reducedOf e) ≡ e .head .d = entry-count e s ∙ s .fits .count in
+    ap (λ r. take (e .head .d) (r .basis)) (entry-reduction e s)
+    ∙ ap (λ d. take d (table mostVectors mostCoordinates (reducedOf e))) (sym count)
+    ∙ table-rows mostVectors mostCoordinates (reducedOf e) (omega (arith, entry-count e s, entry-basis e s .four))
+
+pub entry-squares : (e : Entry) → Sound e → reductionOf (inputOf e) .squares ≡ padded mostVectors (map N (reducedOf e))
+entry-squares e s = ap (λ r. r .squares) (entry-reduction e s) ∙ ap (padded mostVectors) (row-squares (reduction (e .vectors) .rows))
+
+-- a vector tested on those rows
+pub entry-member : (e : Entry) → Sound e → (v : Vec) → length v ≡ e .head .m
+    → isMember (take (e .head .d) (reductionOf (inputOf e) .basis)) (padded mostCoordinates v) ≡ isMember (reducedOf e) v
+entry-member e s v places =
+    let m = one-to mostCoordinates (e .head .m) (s .fits .head .m) in
+    ap (λ l. isMember l (padded mostCoordinates v)) (entry-rows e s) ∙ member-padded mostCoordinates (e .head .m) (m .1) (reducedOf e) (entry-full e s) v places
 
 -- ---- what tells two lattices apart
 module _ (e f : Entry) (s : Sound e) (t : Sound f) where
@@ -56,16 +74,11 @@ module _ (e f : Entry) (s : Sound e) (t : Sound f) where
   pub different-squares : map N (reducedOf e) ≢ map N (reducedOf f) → sameLattice e f ≡ false
   different-squares h = same-not e f s t (λ o. h (one-squares o))
 
--- ---- the tests of vectors
+  -- as the engine answers them
+  pub different-answers : reductionOf (inputOf e) .squares ≢ reductionOf (inputOf f) .squares → sameLattice e f ≡ false
+  different-answers h = different-squares (λ q. h (entry-squares e s ∙ ap (padded mostVectors) q ∙ sym (entry-squares f t)))
 
--- filled up with zeros
-pub member-padded : (n m : ℕ) → m ≤ n → (bs : List Vec) → Coordinates m bs → (v : Vec) → length v ≡ m → isMember (map (padded n) bs) (padded n v) ≡ isMember bs v
-unfolding isMember
-member-padded n m h bs c v e =
-    let x = nearest bs v in
-    ap (λ y. leZ (N (padded n v ⊖ comb y (map (padded n) bs))) (pos 0)) (nearest-padded n m h bs c v e)
-    ∙ ap (λ w. leZ (N w) (pos 0)) (sym (padded-minus n m h v (omega arith) x bs c))
-    ∙ ap (λ z. leZ z (pos 0)) (padded-N n (v ⊖ comb x bs) (omega (arith, minus-places m v (comb x bs) e (comb-places m x bs c))))
+-- ---- the tests of vectors
 
 same-test : (a b : Bool) → (a ≡ true → b ≡ true) → (b ≡ true → a ≡ true) → a ≡ b
 same-test true true f g = refl

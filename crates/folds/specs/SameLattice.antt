@@ -3,7 +3,6 @@ use mathlib.Core.Path.{_≡_, refl, sym, ap, ap₂, _∙_, subst}
 use mathlib.Core.Logic.{_↔_}
 use mathlib.Core.Bool.{Bool, true, false, _&&_, true≢false}
 use mathlib.Core.List.{List, [], _∷_}
-use native.Mathlib.Omega.{arith}
 use lib.Dec.{eqb}
 use lib.ListN.{length}
 use borrow.Author.Tests.{eqb-true, eq-eqb}
@@ -12,12 +11,12 @@ use Rattle.integers.specs.Tests.{both}
 use Rattle.lattices.specs.Vector.{Vec, In}
 use Rattle.lattices.specs.Refusal.{basis, vectorsOf}
 use Rattle.minima.specs.Reduced.{Reduced}
-use Rattle.minima.specs.Members.{isMember, member-is, is-member, member-in, in-member}
+use Rattle.minima.specs.Members.{isMember}
 use Rattle.reductions.specs.Start.{Coordinates}
-use Rattle.reductions.specs.Exactness.{comb-full}
 use Rattle.reductions.specs.Lattice.{generators, generated, reduced-count, reduced-full, reduction-lattice, reduction-reduced}
 use Rattle.reductions.specs.Accepted.{accepted}
 use Rattle.reductions.specs.Sizes.{Basis}
+use Rattle.reductions.specs.Membership.{member-exactly}
 use Rattle.reductions.specs.Promise.{basis-of}
 use Rattle.catalogues.specs.Catalogue.{Entry, coordinates, inputOf}
 use Rattle.catalogues.specs.Form.{EntryFits, Independent, WellFormed}
@@ -67,13 +66,6 @@ module _ (e : Entry) (s : Sound e) where
   pub entry-full : Coordinates (e .head .m) (reducedOf e)
   entry-full = reduced-full (e .head .m) (e .vectors) (B .full) (B .some)
 
-  pub member-exactly : (v : Vec) → length v ≡ e .head .m → (isMember (reducedOf e) v ≡ true) ↔ In (e .vectors) v
-  member-exactly v places = (
-    λ h. let g = member-is (reducedOf e) v h in
-        entry-lattice v .1 (member-in (reducedOf e) v g (comb-full (e .head .m) (g .coefficients) (reducedOf e) entry-full (g .count) (omega (arith, entry-count, B .some)) ∙ sym places)),
-    λ h. is-member (reducedOf e) entry-reduced (omega (arith, entry-count, B .four)) v (in-member (reducedOf e) v (entry-lattice v .0 h)),
-  )
-
 -- ---- one lattice
 
 pub one-refl : (e : Entry) → OneLattice e e
@@ -91,11 +83,11 @@ module _ (e f : Entry) (s : Sound e) (t : Sound f) (same : e .head .m ≡ f .hea
   all-in [] c h = tt
   all-in (v ∷ vs) c h =
       let p = both (isMember (reducedOf e) v) (every (isMember (reducedOf e)) vs) h in
-      (member-exactly e s v (c .0 ∙ sym same) .0 (p .0), all-in vs (c .1) (p .1))
+      (member-exactly (e .head .m) (e .vectors) (entry-basis e s) v (c .0 ∙ sym same) .0 (p .0), all-in vs (c .1) (p .1))
 
   pub in-all : (vs : List Vec) → Coordinates (f .head .m) vs → All (In (e .vectors)) vs → every (isMember (reducedOf e)) vs ≡ true
   in-all [] c h = refl
-  in-all (v ∷ vs) c h = ap₂ _&&_ (member-exactly e s v (c .0 ∙ sym same) .1 (h .0)) (in-all vs (c .1) (h .1))
+  in-all (v ∷ vs) c h = ap₂ _&&_ (member-exactly (e .head .m) (e .vectors) (entry-basis e s) v (c .0 ∙ sym same) .1 (h .0)) (in-all vs (c .1) (h .1))
 
   pub holds-exactly : (holds e f ≡ true) ↔ ((v : Vec) → In (f .vectors) v → In (e .vectors) v)
   holds-exactly =

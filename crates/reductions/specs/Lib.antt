@@ -17,3 +17,4 @@ pub mod Sizes
 pub mod Promise
 pub mod Passes
 pub mod Again
+pub mod Membership
