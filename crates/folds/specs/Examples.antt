@@ -56,25 +56,27 @@ circleFolded = 0x10000111 ∷ 0x20004E21 ∷ 0x30000003 ∷ 0x10000311 ∷ 0x200
 abbrev pub wider : List ℕ
 wider = 0x10000111 ∷ 0x20004E21 ∷ 0x10000212 ∷ 0x20004E21 ∷ 0x20004E20 ∷ 0x40000002 ∷ []
 
-pub folds-hold : (
-    foldOf (bytesOf full) 48
-    ∷ foldOf (bytesOf full) 47
-    ∷ foldOf (bytesOf fullFolded) 48
-    ∷ foldOf (bytesOf circle) 100
-    ∷ foldOf (bytesOf wider) 24
-    ∷ foldOf (bytesOf (0x40000000 ∷ [])) 4
-    ∷ foldOf [] 0
+-- a file, the length of the output, and what the fold gives
+pub record Example : Type 0 where
+  pub file : List ℕ
+  pub room : ℕ
+  pub output : Output
+
+abbrev pub gives : List ℕ → ℕ → Output → Example
+gives words room output = record { file = bytesOf words; room = room; output = output }
+
+abbrev pub examples : List Example
+examples =
+    gives full 48 (writes (bytesOf fullFolded))
+    ∷ gives full 47 (nothing 16 0)
+    ∷ gives fullFolded 48 (writes (bytesOf fullFolded))
+    ∷ gives circle 100 (writes (bytesOf circleFolded))
+    ∷ gives wider 24 (writes (bytesOf wider))
+    ∷ gives (0x40000000 ∷ []) 4 (writes (bytesOf (0x40000000 ∷ [])))
+    ∷ gives [] 0 (nothing 10 0)
     ∷ []
-    ) ≡ (
-    writes (bytesOf fullFolded)
-    ∷ nothing 16 0
-    ∷ writes (bytesOf fullFolded)
-    ∷ writes (bytesOf circleFolded)
-    ∷ writes (bytesOf wider)
-    ∷ writes (bytesOf (0x40000000 ∷ []))
-    ∷ nothing 10 0
-    ∷ []
-    )
+
+pub folds-hold : map (λ x. foldOf (x .file) (x .room)) examples ≡ map (λ x. x .output) examples
 unfolding dot comb _⊕_ _⊙_ squaredVolume isDependent least nearest insert order credited greedy isMember decode encode step readWords read write sameLattice standing folded foldOf
 folds-hold = refl
 
