@@ -37,16 +37,16 @@ unfolding lookupOf
 accepted-lookup file es e n = ap (λ o. lookedIn o n) e
 
 -- with room for the bytes or without
-given : ℕ → List ℕ → Bool → Output
-given room bytes b = elim b [ true ↦ nothing 16 0 | false ↦ record { refusal = 0; place = 0; bytes = bytes } ]
+given : List ℕ → Bool → Output
+given bytes b = elim b [ true ↦ nothing 16 0 | false ↦ record { refusal = 0; place = 0; bytes = bytes } ]
 
 pub enough-room : (room : ℕ) (es : List Entry) → length (write es) ≤ room → output room (accepted es) ≡ record { refusal = 0; place = 0; bytes = write es }
 unfolding given
-enough-room room es h = ap (given room (write es)) (le-ltb room (length (write es)) h)
+enough-room room es h = ap (given (write es)) (le-ltb room (length (write es)) h)
 
 pub no-room : (room : ℕ) (es : List Entry) → room < length (write es) → output room (accepted es) ≡ nothing 16 0
 unfolding given
-no-room room es h = ap (given room (write es)) (lt-ltb room (length (write es)) h)
+no-room room es h = ap (given (write es)) (lt-ltb room (length (write es)) h)
 
 -- ---- the fold
 

@@ -81,7 +81,7 @@ followed ss own none = none
 followed ss own (some w) = elim (lookup ss (w .number)) [ none ↦ none | some there ↦ led own w there ]
 
 -- "a see word if its own see word names an entry whose standing entry is another than the entry that carries the word; the word then
--- names that standing entry": an entry that does not stand is carried by its standing entry
+-- names that standing entry"; for the listing, the word of an entry that does not stand counts as carried by its standing entry
 abbrev pub leads : List Stood → Stood → Option See
 leads ss s = followed ss (s .standing .head .number) (s .entry .see)
 

@@ -6,7 +6,7 @@ use mathlib.Core.List.{List, [], _∷_}
 use lib.Dec.{eqb}
 use lib.ListN.{length}
 use borrow.Author.Tests.{eqb-true, eq-eqb}
-use Rattle.integers.specs.All.{All, all-imp}
+use Rattle.integers.specs.All.{All, all-imp, all-both}
 use Rattle.integers.specs.Tests.{both}
 use Rattle.lattices.specs.Vector.{Vec, In}
 use Rattle.lattices.specs.Refusal.{basis, vectorsOf}
@@ -26,16 +26,13 @@ use Rattle.folds.specs.Meaning.{OneLattice}
 
 -- ---- entries of an accepted catalogue
 
+-- what reading has checked of an entry by itself
 pub record Sound (e : Entry) : Type 0 where
   pub fits : EntryFits e
   pub independent : Independent e
 
-pub all-sound : (es : List Entry) → All EntryFits es → All Independent es → All Sound es
-all-sound [] p q = tt
-all-sound (e ∷ es) p q = (record { fits = p .0; independent = q .0 }, all-sound es (p .1) (q .1))
-
 pub sound-entries : (es : List Entry) → WellFormed es → All Sound es
-sound-entries es w = all-sound es (w .entered .fits) (w .independent)
+sound-entries es w = all-imp (λ e p. record { fits = p .0; independent = p .1 }) es (all-both EntryFits Independent es (w .entered .fits) (w .independent))
 
 -- its numbers, cut into vectors again
 pub entry-vectors : (e : Entry) → Sound e → basis (inputOf e) ≡ e .vectors

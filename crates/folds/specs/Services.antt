@@ -1,4 +1,4 @@
--- Fold and lookup for every list of bytes: "The catalogue's rows run from 'whole file' to 'after reading'; the rows for lookup and output
+-- Fold and lookup for every list of bytes: "A catalogue's rows run from 'whole file' to 'after reading'; the rows for lookup and output
 -- concern the call alone."
 use mathlib.Core.Bool.{true, false}
 use mathlib.Core.List.{List, []}
