@@ -1,5 +1,5 @@
 -- The fold of a catalogue. Definitions: Fold, Services, Listing. What they promise: Meaning, and Demand, where demand 3 is one statement. The
--- rest proves it; Deciding, Adding and ListingSize are for the code.
+-- rest proves it; Deciding, Adding, Searching and ListingSize are for the code.
 pub mod Fold
 pub mod Services
 pub mod Listing
@@ -14,4 +14,5 @@ pub mod Again
 pub mod Demand
 pub mod Deciding
 pub mod Adding
+pub mod Searching
 pub mod ListingSize
