@@ -5,6 +5,7 @@ pub mod Catalogue
 pub mod Read
 pub mod Write
 pub mod Form
+pub mod Placed
 pub mod Examples
 pub mod WordLaws
 pub mod Moves

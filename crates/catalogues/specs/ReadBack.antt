@@ -3,7 +3,7 @@ use mathlib.Core.Path.{_≡_, refl, sym, ap, _∙_}
 use mathlib.Core.Bool.{Bool, true, false, not, _||_, false≢true}
 use mathlib.Core.List.{List, [], _∷_, map, map-append}
 use mathlib.Core.Option.{Option, none, some}
-use Prim.Native.Nat.{ℕ, suc, _%_, _≤_, _<_}
+use Prim.Native.Nat.{ℕ, _%_, _≤_, _<_}
 use native.Mathlib.Omega.{arith}
 use lib.ListN.{length, getD}
 use borrow.Author.Tests.{eqb-true, eq-eqb, le-ltb}
@@ -15,6 +15,7 @@ use Rattle.catalogues.specs.Catalogue.{See, Entry, refused, accepted, en
 use Rattle.catalogues.specs.Read.{State, step, outside, closed, fileRows, isNumbered, firstPlace, dependentAt, lostAt, afterReading, readWords, read}
 use Rattle.catalogues.specs.Write.{entriesWords, catalogueWords, write}
 use Rattle.catalogues.specs.Form.{mostNumber, EntryFits, Independent, Names, WellFormed, seeAt, pastSee, pastVectors, entryAt, placed}
+use Rattle.catalogues.specs.Placed.{length-placed}
 use Rattle.catalogues.specs.Moves.{Between, between}
 use Rattle.catalogues.specs.RoundTrip.{same-entries}
 use Rattle.catalogues.specs.WellFormed.{well-formed}
@@ -42,10 +43,6 @@ sees-fit all [] p q = tt
 sees-fit all (e ∷ es) p q = (see-fits all p (e .see) (q .0), sees-fit all es p (q .1))
 
 -- ---- the end
-
-length-placed : (i : ℕ) (es : List Entry) → length (placed i es) ≡ length es
-length-placed i [] = refl
-length-placed i (e ∷ es) = ap suc (length-placed _ es)
 
 numbered-placed : (n i : ℕ) (es : List Entry) → any (isNumbered n) (placed i es) ≡ any (isNumbered n) es
 numbered-placed n i [] = refl

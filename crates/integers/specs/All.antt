@@ -1,6 +1,6 @@
 -- Lists of anything: a property of every element or of some element, and how `map` meets `take`, places and repetition.
 use mathlib.Core.Path.{_≡_, refl, ap}
-use mathlib.Core.Logic.{_⊎_}
+use mathlib.Core.Logic.{_⊎_, inl, inr}
 use mathlib.Core.List.{List, [], _∷_, _++_, map}
 use Prim.Native.Nat.{ℕ, zero, suc, _<_}
 use native.Mathlib.Omega.{arith}
@@ -33,9 +33,25 @@ pub all-imp : {A : Type 0} {P Q : A → Type 0} → ((a : A) → P a → Q a) �
 all-imp f [] p = tt
 all-imp f (a ∷ l) p = (f a (p .0), all-imp f l (p .1))
 
+pub some-imp : {A : Type 0} {P Q : A → Type 0} → ((a : A) → P a → Q a) → (l : List A) → Some P l → Some Q l
+some-imp f [] p = p
+some-imp f (a ∷ l) (inl p) = inl (f a p)
+some-imp f (a ∷ l) (inr p) = inr (some-imp f l p)
+
 pub all-both : {A : Type 0} (P Q : A → Type 0) (l : List A) → All P l → All Q l → All (λ a. P a × Q a) l
 all-both P Q [] p q = tt
 all-both P Q (a ∷ l) p q = ((p .0, q .0), all-both P Q l (p .1) (q .1))
+
+-- a property of every place
+pub all-places : {A : Type 0} (P : A → Type 0) (l : List A) (d : A) → ((k : ℕ) → k < length l → P (getD l k d)) → All P l
+all-places P [] d h = tt
+all-places P (a ∷ l) d h = (h 0 (omega arith), all-places P l d (λ k g. h (suc k) (omega arith)))
+
+-- and of some place
+pub some-place : {A : Type 0} (P : A → Type 0) (l : List A) (d : A) → Some P l → (k : ℕ) × (k < length l) × P (getD l k d)
+some-place P [] d h = absurd h
+some-place P (a ∷ l) d (inl h) = (0, omega arith, h)
+some-place P (a ∷ l) d (inr h) = let r = some-place P l d h in let k = r .1 in (suc (r .0), omega arith, r .2)
 
 module _ {A B : Type 0} (f : A → B) where
   pub take-map : (n : ℕ) (l : List A) → take n (map f l) ≡ map f (take n l)

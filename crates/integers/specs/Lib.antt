@@ -11,5 +11,6 @@ pub mod Size
 pub mod All
 pub mod Tests
 pub mod Lists
+pub mod Decimal
 pub mod Lex
 pub mod Examples

@@ -12,4 +12,7 @@ pub mod Pairs
 pub mod Table
 pub mod Layers
 pub mod NearestLaws
+pub mod NearestRest
 pub mod Minima
+pub mod Invariants
+pub mod Members

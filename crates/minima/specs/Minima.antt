@@ -38,6 +38,11 @@ descending (b ∷ bs) d zero (suc k) h = under bs (d .0 .longest) (N-nonneg b) k
 descending (b ∷ bs) d (suc j) zero h = absurd (omega arith)
 descending (b ∷ bs) d (suc j) (suc k) h = descending bs (d .1) j k (omega arith)
 
+-- so a reduced list is ordered by length
+pub ascending : (bs : List Vec) → Reduced bs → (j k : ℕ) → j ≤ k → k < length bs → N (getD bs j []) ≤ℤ N (getD bs k [])
+ascending bs d j k h l = subst₂ _≤ℤ_ (ap (λ v. N v) (getD-reverse bs [] j (length bs - suc j) (omega arith))) (ap (λ v. N v) (getD-reverse bs [] k (length bs - suc k) (omega arith)))
+    (descending (reverse bs) d (length bs - suc k) (length bs - suc j) (omega arith))
+
 -- a combination is at least as long as every vector up to the last that it uses
 pub up-to-last : (bs : List Vec) → Reduced bs → length bs ≤ 4 → (x : List ℤ) → length x ≡ length bs → (i j : ℕ) → i ≤ j → nth x j ≢ pos 0 → N (getD bs i []) ≤ℤ N (comb x bs)
 up-to-last bs d l x c i j h f = by (decLt j (length bs))
@@ -92,6 +97,18 @@ crowded {m} {bs} {vs} s h = carry (too-many m (s .lists) (s .short) (omega (arit
       nonzero = d .nonzero;
       vanishes = ≈-Zero (≈-trans (≈-sym (s .gives (d .coefficients))) (≈-trans (comb-≈ bs (Zero-≈ (comb (d .coefficients) (s .lists)) (d .vanishes))) (comb-nil bs)));
     }
+
+-- so no lattice holds more independent vectors than it has generators
+span-all : (bs vs : List Vec) → All (In bs) vs → Span (length bs) bs vs
+span-all bs [] h = span-nil (length bs) bs
+span-all bs (v ∷ vs) h = span-cons (h .0 .coefficients) (omega (arith, h .0 .count)) (≈-of-≡ (h .0 .gives)) (span-all bs vs (h .1))
+
+pub no-more : (bs vs : List Vec) → All (In bs) vs → Independent vs → length vs ≤ length bs
+no-more bs vs h f = by (decLt (length bs) (length vs))
+  where
+    by : Dec (length bs < length vs) → length vs ≤ length bs
+    by (yes k) = absurd (f (crowded (span-all bs vs h) k))
+    by (no k) = omega arith
 
 -- ---- the successive minima
 -- zeros from place i on may be left out

@@ -1,2 +1,3 @@
 -- Numbers on standard output: a negative number's size.
 pub mod Turned
+pub mod Decimals

@@ -18,7 +18,7 @@ use Rattle.lattices.specs.AnswerLaws.{take-padded, length-vectorsOf}
 use Rattle.minima.specs.NearestLaws.{nearest-least, nearest-count}
 use Rattle.integers.specs.All.{All, Some, all-imp}
 use Rattle.minima.specs.Minima.{successive}
-use Rattle.reductions.specs.Moves.{length-vectors}
+use Rattle.reductions.specs.Moves.{length-vectors, row-squares}
 use Rattle.reductions.specs.Start.{Coordinates, sized-vectors, sized-us}
 use Rattle.reductions.specs.Exactness.{comb-full, reduction-length, reduction-sized, reduction-u, reduction-v, reduction-vu}
 use Rattle.reductions.specs.Output.{least-N}
@@ -99,11 +99,7 @@ module _ (i : Input) (ok : Accepted i) where
 
   squares-given : take (i .d) (given .squares) ≡ map N (vectors rows)
   unfolding given rows
-  squares-given = take-padded (i .d) mostVectors (map (λ r. N (r .vector)) rows) (length-map rows (λ r. N (r .vector)) ∙ rows-count) (ok .most) ∙ map-map rows
-    where
-      map-map : (l : List Row) → map (λ r. N (r .vector)) l ≡ map N (vectors l)
-      map-map [] = refl
-      map-map (r ∷ l) = ap (λ t. N (r .vector) ∷ t) (map-map l)
+  squares-given = take-padded (i .d) mostVectors (map (λ r. N (r .vector)) rows) (length-map rows (λ r. N (r .vector)) ∙ rows-count) (ok .most) ∙ row-squares rows
 
   outs-minima : (vs : List Vec) → All (In (basis i)) vs → Independent vs → (k : ℕ) → k < length vs → k < i .d → Some (λ v. N (getD (vectors rows) k []) ≤ℤ N v) vs
   unfolding rows

@@ -1,5 +1,5 @@
 -- The reduction generates the lattice of its input and no other, and U·V is the unit table too.
-use mathlib.Core.Path.{_≡_, refl, sym, ap, _∙_, subst}
+use mathlib.Core.Path.{_≡_, refl, sym, ap, ap₂, _∙_, subst}
 use mathlib.Core.Logic.{_↔_}
 use mathlib.Core.List.{List, [], _∷_, map}
 use Prim.Native.Nat.{ℕ, zero, suc, _≤_, _<_}
@@ -10,7 +10,7 @@ use lib.ListN.{length, getD, length-map}
 use lib.Seq.{ext-getD}
 use Rattle.integers.specs.Ring.{ -ℤ-zero}
 use Rattle.integers.specs.Identity.{by-ring, reads}
-use Rattle.integers.specs.All.{getD-map}
+use Rattle.integers.specs.All.{All, all-places, getD-map}
 use Rattle.integers.specs.Lists.{nth-⊕, nth-⊙}
 use Rattle.lattices.specs.Vector.{Vec, nth, dot, _⊙_, _⊖_, comb, Zero, In}
 use Rattle.lattices.specs.VectorLaws.{_≈_, ≈-refl, ≈-sym, ≈-trans, ≈-of-≡, ≈-⊕, ≈-≡, ≈-Zero, nil-dot, bilinear, comb-⊕, comb-⊙}
@@ -51,6 +51,28 @@ through m gs h s t k n v i = record {
     count : length (i .coefficients) ≡ length t
     count = i .count ∙ length-map t (λ y. comb y gs)
 
+-- every vector of a list is in its lattice
+pub generators : (m : ℕ) (gs : List Vec) → Coordinates m gs → All (In gs) gs
+generators m gs h = all-places (In gs) gs [] (λ k l. record {
+  coefficients = getD (units (length gs)) k [];
+  count = coordinates-at (length gs) (units (length gs)) (units-coordinates (length gs)) k (omega (arith, length-units (length gs)));
+  gives = ≈-≡ (comb (getD (units (length gs)) k []) gs) (getD gs k [])
+      (comb-full m (getD (units (length gs)) k []) gs h (coordinates-at (length gs) (units (length gs)) (units-coordinates (length gs)) k (omega (arith, length-units (length gs)))) (omega arith)
+      ∙ sym (coordinates-at m gs h k l))
+      (unit-comb gs k l);
+})
+
+-- the coefficients of vectors of a lattice, row by row
+tabled : (gs vs : List Vec) → All (In gs) vs → (t : List (List ℤ)) × Coordinates (length gs) t × (map (λ y. comb y gs) t ≡ vs)
+tabled gs [] h = ([], tt, refl)
+tabled gs (v ∷ vs) h = let r = tabled gs vs (h .1) in (h .0 .coefficients ∷ r .0, (h .0 .count, r .1), ap₂ _∷_ (h .0 .gives) (r .2))
+
+-- a lattice holds that of any of its vectors
+pub generated : (m : ℕ) (gs vs : List Vec) → Coordinates m gs → 1 ≤ length gs → 1 ≤ length vs → All (In gs) vs → (v : Vec) → In vs v → In gs v
+generated m gs vs h s n p v i =
+    let r = tabled gs vs p in
+    through m gs h s (r .0) (r .1) (omega (arith, length-map (r .0) (λ y. comb y gs), ap length (r .2))) v (subst (λ l. In l v) (sym (r .2)) i)
+
 pub rows-of-v : (rows : List Row) (i n : ℕ) → Coordinates (length rows) (rowsOfV rows i n)
 rows-of-v rows i zero = tt
 rows-of-v rows i (suc n) = (length-map rows (λ r. nth (r .v) i), rows-of-v rows (suc i) n)
@@ -79,11 +101,11 @@ module _ (m : ℕ) (bs : List Vec) (full : Coordinates m bs) (some : 1 ≤ lengt
   abbrev outs : List Vec
   outs = vectors (reduction bs .rows)
 
-  outs-count : length outs ≡ length bs
-  outs-count = length-vectors (reduction bs .rows) ∙ reduction-length m bs full some
+  pub reduced-count : length (vectors (reduction bs .rows)) ≡ length bs
+  reduced-count = length-vectors (reduction bs .rows) ∙ reduction-length m bs full some
 
-  outs-full : Coordinates m outs
-  outs-full = sized-vectors m (length bs) (reduction bs .rows) (reduction-sized m bs full some)
+  pub reduced-full : Coordinates m (vectors (reduction bs .rows))
+  reduced-full = sized-vectors m (length bs) (reduction bs .rows) (reduction-sized m bs full some)
 
   v-full : Coordinates (length outs) (rowsOfV (reduction bs .rows) 0 (length bs))
   v-full = subst (λ n. Coordinates n (rowsOfV (reduction bs .rows) 0 (length bs))) (sym (length-vectors (reduction bs .rows))) (rows-of-v (reduction bs .rows) 0 (length bs))
@@ -91,7 +113,7 @@ module _ (m : ℕ) (bs : List Vec) (full : Coordinates m bs) (some : 1 ≤ lengt
   -- the vectors given generate the lattice of the input and no other
   pub reduction-lattice : (v : Vec) → In bs v ↔ In (vectors (reduction bs .rows)) v
   reduction-lattice v = (
-    (λ i. through m outs outs-full (omega (arith, outs-count)) (rowsOfV (reduction bs .rows) 0 (length bs)) v-full (omega (arith, length-rows-of-v (reduction bs .rows) 0 (length bs))) v
+    (λ i. through m outs reduced-full (omega (arith, reduced-count)) (rowsOfV (reduction bs .rows) 0 (length bs)) v-full (omega (arith, length-rows-of-v (reduction bs .rows) 0 (length bs))) v
         (subst (λ l. In l v) (sym (reduction-v m bs full some)) i)),
     (λ i. through m bs full some (map (λ r. r .u) (reduction bs .rows)) (sized-us m (length bs) (reduction bs .rows) (reduction-sized m bs full some))
         (omega (arith, length-map (reduction bs .rows) (λ r. r .u), reduction-length m bs full some)) v (subst (λ l. In l v) (sym (reduction-u m bs full some)) i)),
@@ -128,10 +150,10 @@ module _ (m : ℕ) (bs : List Vec) (full : Coordinates m bs) (some : 1 ≤ lengt
         (coordinates-at (length bs) table-u (sized-us m (length bs) (reduction bs .rows) (reduction-sized m bs full some)) k (omega (arith, table-u-count))
         ∙ sym (length-rows-of-v (reduction bs .rows) 0 (length bs)))
         (omega (arith, length-rows-of-v (reduction bs .rows) 0 (length bs))))
-        (coordinates-at (length bs) (units (length bs)) (units-coordinates (length bs)) k (omega (arith, length-units (length bs))) ∙ sym outs-count)
+        (coordinates-at (length bs) (units (length bs)) (units-coordinates (length bs)) k (omega (arith, length-units (length bs))) ∙ sym reduced-count)
         (≈-trans (comb-comb (getD table-u k []) table-v outs)
         (≈-trans (≈-of-≡ (ap (comb (getD table-u k [])) (reduction-v m bs full some) ∙ row-of-u k h))
-        (≈-sym (subst (λ n. comb (getD (units n) k []) outs ≈ getD outs k []) outs-count (unit-comb outs k (omega (arith, outs-count)))))))
+        (≈-sym (subst (λ n. comb (getD (units n) k []) outs ≈ getD outs k []) reduced-count (unit-comb outs k (omega (arith, reduced-count)))))))
 
     -- U·V is the unit table
     pub reduction-uv : map (λ u. comb u (rowsOfV (reduction bs .rows) 0 (length bs))) (map (λ r. r .u) (reduction bs .rows)) ≡ units (length bs)

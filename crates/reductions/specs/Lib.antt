@@ -16,3 +16,5 @@ pub mod Weight
 pub mod Sizes
 pub mod Promise
 pub mod Passes
+pub mod Again
+pub mod Membership

@@ -1,7 +1,7 @@
 -- The greedy steps as moves of a list: exchanges and passes. What every move keeps, the reduction keeps.
 use mathlib.Core.Path.{_≡_, refl, sym, ap, _∙_, subst, subst₂}
 use mathlib.Core.Bool.{Bool, true, false}
-use mathlib.Core.List.{List, [], _∷_, _++_, append-assoc}
+use mathlib.Core.List.{List, [], _∷_, _++_, map, append-assoc}
 use Prim.Native.Nat.{ℕ, zero, suc, _+_}
 use native.Mathlib.Omega.{arith}
 use lib.IntN.{ℤ, natAbs}
@@ -59,6 +59,10 @@ vectors-append (r ∷ a) b = ap (λ l. r .vector ∷ l) (vectors-append a b)
 
 pub length-vectors : (rows : List Row) → length (vectors rows) ≡ length rows
 length-vectors rows = length-map rows (λ r. r .vector)
+
+pub row-squares : (rows : List Row) → map (λ r. N (r .vector)) rows ≡ map N (vectors rows)
+row-squares [] = refl
+row-squares (r ∷ rows) = ap (λ l. N (r .vector) ∷ l) (row-squares rows)
 
 pass-moves : (c : Counted) (r : Row) → Moves (c .rows ++ (r ∷ [])) (joined (pass c r))
 pass-moves c r =

@@ -1,4 +1,4 @@
--- The output of the greedy steps is reduced, for every list of at most four vectors with positive squared volume.
+-- The output of the greedy steps is reduced, and a further pass would change nothing, for every list of at most four vectors with positive squared volume.
 use mathlib.Core.Path.{_≡_, refl, sym, ap, _∙_, subst}
 use mathlib.Core.Logic.{⊎-elim}
 use mathlib.Core.Bool.{Bool, true, false, false≢true}
@@ -7,12 +7,12 @@ use Prim.Native.Nat.{ℕ, zero, suc, _≤_, _<_}
 use native.Mathlib.Omega.{arith}
 use lib.IntN.{ℤ, pos, negsuc, natAbs, _+ℤ_, +ℤ-idr}
 use lib.Signed.{_≤ℤ_, _<ℤ_, <ℤ-≤ℤ-trans}
-use lib.ListN.{length, getD, length-reverse}
+use lib.ListN.{length, getD, length-reverse, List·getD-eq-default}
 use Rattle.integers.specs.Identity.{by-ring, reads}
 use Rattle.integers.specs.Order.{≤ℤ-or-<ℤ, ≤ℤ-trans, ≤ℤ-of-≡, ltZ-false}
 use Rattle.integers.specs.Lists.{length-⊖-same}
 use Rattle.integers.specs.Lex.{below-<}
-use Rattle.lattices.specs.Vector.{Vec, N, dot, _⊕_, _⊙_, _⊖_, comb}
+use Rattle.lattices.specs.Vector.{Vec, N, Zero, dot, _⊕_, _⊙_, _⊖_, comb}
 use Rattle.lattices.specs.VectorLaws.{_≈_, ≈-N, ≈-trans, bilinear, comb-⊕, comb-⊙, comb-none, comb-reverse, nil-dot}
 use Rattle.lattices.specs.Permutation.{perm-length}
 use Rattle.lattices.specs.Volume.{squaredVolume}
@@ -22,10 +22,20 @@ use Rattle.minima.specs.Values.{Least}
 use Rattle.minima.specs.Reduced.{Under, Descending, Reduced}
 use Rattle.minima.specs.Snoc.{fit, length-fit, comb-fit}
 use Rattle.minima.specs.NearestLaws.{nearest-least, nearest-count}
+use Rattle.minima.specs.NearestRest.{nearest-rest}
 use Rattle.reductions.specs.Moves.{Moves, exchange, Moving, order-perm, before-last, length-before, length-vectors, vectors-credited, vectors-append, moves-length, ordered-moves, greedy-moves}
 use Rattle.reductions.specs.Lengths.{total-nonneg}
 use Rattle.reductions.specs.Fuel.{falls, size-falls, stop, again}
 use Rattle.reductions.specs.Kept.{moves-keep, positive-before, positive-one}
+
+-- ---- a list that the greedy steps leave as it is: reduced, and by the tie rule nothing is taken from any of its vectors
+-- longest vector first, as in `Descending`
+abbrev pub Still : List Vec → Type 0
+Still [] = Unit {0}
+Still (b ∷ bs) = Zero (nearest (reverse bs) b) × Still bs
+
+abbrev pub Settled : List Vec → Type 0
+Settled bs = Reduced bs × Still (reverse bs)
 
 -- a least value leaves no longer residual than any other list
 pub least-N : {bs : List Vec} {t : Vec} {y : List ℤ} → Least bs t y → (x : List ℤ) → length x ≡ length bs → N (t ⊖ comb y bs) ≤ℤ N (t ⊖ comb x bs)
@@ -86,35 +96,42 @@ kept-descending (r ∷ rows) b first e d s q n =
     (stands (reverse (vectors (before r rows))) (lastOf r rows .vector) (b .vector) (subst Descending (backward r rows) d) (not-shorter b first r rows e q)
     (subst (λ l. (z : List ℤ) → N (b .vector) ≤ℤ N (b .vector ⊕ comb z l)) (backward r rows) n))
 
+-- the vectors after a pass, last one first
+turned-pass : (c : Counted) (r : Row) → reverse (vectors (joined (pass c r))) ≡ pass c r .last .vector ∷ reverse (vectors (c .rows))
+turned-pass c r =
+    let p = pass c r in
+    ap reverse (vectors-append (p .first) (p .last ∷ [])) ∙ reverse-append (vectors (p .first)) (p .last .vector ∷ [])
+    ∙ ap (λ l. p .last .vector ∷ reverse l) (vectors-credited (nearest (vectors (c .rows)) (r .vector)) (r .v) (c .rows))
+
 kept-reduced : (c : Counted) (r : Row) → Reduced (vectors (c .rows)) → length (c .rows) ≤ 3 → 1 ≤ length (c .rows) → shorter (pass c r .last) (pass c r .first) ≡ false
     → Reduced (vectors (joined (pass c r)))
 kept-reduced c r d h s q =
-    subst Descending (sym turned-round)
-    (kept-descending (c .rows) (p .last) (p .first) (vectors-credited x (r .v) (c .rows)) d s q
+    subst Descending (sym (turned-pass c r))
+    (kept-descending (c .rows) (pass c r .last) (pass c r .first) (vectors-credited (nearest (vectors (c .rows)) (r .vector)) (r .v) (c .rows)) d s q
     (nearest-shortest (vectors (c .rows)) d (omega (arith, length-vectors (c .rows))) (r .vector)))
-  where
-    p : Pass
-    p = pass c r
 
-    x : List ℤ
-    x = nearest (vectors (c .rows)) (r .vector)
-
-    turned-round : reverse (vectors (joined p)) ≡ p .last .vector ∷ reverse (vectors (c .rows))
-    turned-round =
-        ap reverse (vectors-append (p .first) (p .last ∷ [])) ∙ reverse-append (vectors (p .first)) (p .last .vector ∷ [])
-        ∙ ap (λ l. p .last .vector ∷ reverse l) (vectors-credited x (r .v) (c .rows))
+-- and nothing more is taken from the last vector
+kept-still : (c : Counted) (r : Row) → Settled (vectors (c .rows)) → length (c .rows) ≤ 3 → Still (reverse (vectors (joined (pass c r))))
+kept-still c r d h =
+    let vs = vectors (c .rows) in
+    subst Still (sym (turned-pass c r)) (
+      subst (λ l. Zero (nearest l (pass c r .last .vector))) (sym (reverse-reverse vs)) (nearest-rest vs (d .0) (omega (arith, length-vectors (c .rows))) (r .vector)),
+      d .1,
+    )
 
 -- ---- the induction
--- `reduce` gives a reduced list for every list of k vectors with positive volume
-abbrev Reducing : ℕ → ℕ → (List Row → Counted) → Type 0
-Reducing m k reduce = (rows : List Row) → length rows ≡ k → pos 0 <ℤ squaredVolume m (vectors rows) → Reduced (vectors (reduce rows .rows))
+-- `reduce` gives a settled list for every list of k vectors with positive volume
+abbrev Settling : ℕ → ℕ → (List Row → Counted) → Type 0
+Settling m k reduce = (rows : List Row) → length rows ≡ k → pos 0 <ℤ squaredVolume m (vectors rows) → Settled (vectors (reduce rows .rows))
 
-round-reduced : (m k : ℕ) → 1 ≤ k → k ≤ 3 → (reduce : List Row → Counted) → Moving k reduce → Reducing m k reduce → (rows : List Row) → length rows ≡ suc k
-    → pos 0 <ℤ squaredVolume m (vectors rows) → shorter (round reduce rows .last) (round reduce rows .first) ≡ false → Reduced (vectors (joined (round reduce rows)))
-round-reduced m k low high reduce mv red [] e v q = absurd (omega arith)
-round-reduced m k low high reduce mv red (r ∷ rows) e v q =
-    kept-reduced (reduce (before r rows)) (lastOf r rows) (red (before r rows) count (positive-before m (vectors (before r rows)) (lastOf r rows .vector) volume))
-    (omega (arith, moves-length (mv (before r rows) count), count)) (omega (arith, moves-length (mv (before r rows) count), count)) q
+round-settled : (m k : ℕ) → 1 ≤ k → k ≤ 3 → (reduce : List Row → Counted) → Moving k reduce → Settling m k reduce → (rows : List Row) → length rows ≡ suc k
+    → pos 0 <ℤ squaredVolume m (vectors rows) → shorter (round reduce rows .last) (round reduce rows .first) ≡ false → Settled (vectors (joined (round reduce rows)))
+round-settled m k low high reduce mv red [] e v q = absurd (omega arith)
+round-settled m k low high reduce mv red (r ∷ rows) e v q =
+    let c = reduce (before r rows) in
+    let d = red (before r rows) count (positive-before m (vectors (before r rows)) (lastOf r rows .vector) volume) in
+    let n : length (c .rows) ≡ k = sym (moves-length (mv (before r rows) count)) ∙ count in
+    (kept-reduced c (lastOf r rows) (d .0) (omega arith) (omega arith) q, kept-still c (lastOf r rows) d (omega arith))
   where
     count : length (before r rows) ≡ k
     count = length-before r rows ∙ omega arith
@@ -122,12 +139,12 @@ round-reduced m k low high reduce mv red (r ∷ rows) e v q =
     volume : pos 0 <ℤ squaredVolume m (vectors (before r rows) ++ (lastOf r rows .vector ∷ []))
     volume = subst (λ l. pos 0 <ℤ squaredVolume m l) (ap vectors (sym (before-last r rows)) ∙ vectors-append (before r rows) (lastOf r rows ∷ [])) v
 
-repeat-reduced : (m k : ℕ) → 1 ≤ k → k ≤ 3 → (reduce : List Row → Counted) → Moving k reduce → Reducing m k reduce → (fuel : ℕ) (rows : List Row) → length rows ≡ suc k
-    → natAbs (total rows) < fuel → pos 0 <ℤ squaredVolume m (vectors rows) → Reduced (vectors (repeat reduce fuel rows .rows))
-repeat-reduced m k low high reduce mv red zero rows e f v = absurd (omega arith)
-repeat-reduced m k low high reduce mv red (suc fuel) rows e f v =
+repeat-settled : (m k : ℕ) → 1 ≤ k → k ≤ 3 → (reduce : List Row → Counted) → Moving k reduce → Settling m k reduce → (fuel : ℕ) (rows : List Row) → length rows ≡ suc k
+    → natAbs (total rows) < fuel → pos 0 <ℤ squaredVolume m (vectors rows) → Settled (vectors (repeat reduce fuel rows .rows))
+repeat-settled m k low high reduce mv red zero rows e f v = absurd (omega arith)
+repeat-settled m k low high reduce mv red (suc fuel) rows e f v =
     go (shorter (p .last) (p .first)) refl
-    (λ (h : natAbs (total (joined p)) < natAbs (total rows)). repeat-reduced m k low high reduce mv red fuel (joined p) (sym (moves-length moves) ∙ e) (omega arith)
+    (λ (h : natAbs (total (joined p)) < natAbs (total rows)). repeat-settled m k low high reduce mv red fuel (joined p) (sym (moves-length moves) ∙ e) (omega arith)
     (subst (λ s. pos 0 <ℤ s) (moves-keep m moves) v))
   where
     p : Pass
@@ -136,29 +153,38 @@ repeat-reduced m k low high reduce mv red (suc fuel) rows e f v =
     moves : Moves rows (joined p)
     moves = ordered-moves k reduce mv rows e
 
-    go : (b : Bool) → shorter (p .last) (p .first) ≡ b → (natAbs (total (joined p)) < natAbs (total rows) → Reduced (vectors (repeat reduce fuel (joined p) .rows)))
-        → Reduced (vectors ((elim b as (λ b. Counted) [ false ↦ stop p | true ↦ again p (repeat reduce fuel (joined p)) ]) .rows))
-    go false q ih = round-reduced m k low high reduce mv red (order rows) (sym (perm-length (order-perm rows)) ∙ e)
+    go : (b : Bool) → shorter (p .last) (p .first) ≡ b → (natAbs (total (joined p)) < natAbs (total rows) → Settled (vectors (repeat reduce fuel (joined p) .rows)))
+        → Settled (vectors ((elim b as (λ b. Counted) [ false ↦ stop p | true ↦ again p (repeat reduce fuel (joined p)) ]) .rows))
+    go false q ih = round-settled m k low high reduce mv red (order rows) (sym (perm-length (order-perm rows)) ∙ e)
         (subst (λ s. pos 0 <ℤ s) (moves-keep m (exchange (order-perm rows))) v) q
     go true q ih = ih (size-falls (total (joined p)) (total rows) (total-nonneg (joined p)) (falls k reduce mv rows e q))
 
-one-reduced : (m : ℕ) (rows : List Row) → length rows ≡ 1 → pos 0 <ℤ squaredVolume m (vectors rows) → Reduced (vectors rows)
-one-reduced m [] e v = absurd (omega arith)
-one-reduced m (r ∷ s ∷ rows) e v = absurd (omega arith)
-one-reduced m (r ∷ []) e v = (
-  record {
-    positive = positive-one m (r .vector) v;
-    longest = tt;
-    shortest = λ z. ≤ℤ-of-≡ (≈-N (record { on = λ w. sym (simp bilinear (ap (λ s. dot (r .vector) w +ℤ s) (comb-none z .on w ∙ nil-dot w) ∙ +ℤ-idr (dot (r .vector) w))) }));
-  },
-  tt,
+nearest-none : (b : Vec) → Zero (nearest [] b)
+nearest-none b i = List·getD-eq-default (nearest [] b) (pos 0) (omega (arith, nearest-count [] b))
+
+one-settled : (m : ℕ) (rows : List Row) → length rows ≡ 1 → pos 0 <ℤ squaredVolume m (vectors rows) → Settled (vectors rows)
+one-settled m [] e v = absurd (omega arith)
+one-settled m (r ∷ s ∷ rows) e v = absurd (omega arith)
+one-settled m (r ∷ []) e v = (
+  (
+    record {
+      positive = positive-one m (r .vector) v;
+      longest = tt;
+      shortest = λ z. ≤ℤ-of-≡ (≈-N (record { on = λ w. sym (simp bilinear (ap (λ s. dot (r .vector) w +ℤ s) (comb-none z .on w ∙ nil-dot w) ∙ +ℤ-idr (dot (r .vector) w))) }));
+    },
+    tt,
+  ),
+  (nearest-none (r .vector), tt),
 )
 
--- the output of the greedy steps is reduced
-pub greedy-reduced : (m d : ℕ) → d ≤ 4 → (rows : List Row) → length rows ≡ d → pos 0 <ℤ squaredVolume m (vectors rows) → Reduced (vectors (greedy d rows .rows))
+-- the output of the greedy steps is settled
+pub greedy-settled : (m d : ℕ) → d ≤ 4 → (rows : List Row) → length rows ≡ d → pos 0 <ℤ squaredVolume m (vectors rows) → Settled (vectors (greedy d rows .rows))
 unfolding greedy
-greedy-reduced m zero h [] e v = tt
-greedy-reduced m zero h (r ∷ rows) e v = absurd (omega arith)
-greedy-reduced m (suc zero) h rows e v = one-reduced m rows e v
-greedy-reduced m (suc (suc d)) h rows e v =
-    repeat-reduced m (suc d) (omega arith) (omega arith) (greedy (suc d)) (greedy-moves (suc d)) (greedy-reduced m (suc d) (omega arith)) (suc (natAbs (total rows))) rows e (omega arith) v
+greedy-settled m zero h [] e v = (tt, tt)
+greedy-settled m zero h (r ∷ rows) e v = absurd (omega arith)
+greedy-settled m (suc zero) h rows e v = one-settled m rows e v
+greedy-settled m (suc (suc d)) h rows e v =
+    repeat-settled m (suc d) (omega arith) (omega arith) (greedy (suc d)) (greedy-moves (suc d)) (greedy-settled m (suc d) (omega arith)) (suc (natAbs (total rows))) rows e (omega arith) v
+
+pub greedy-reduced : (m d : ℕ) → d ≤ 4 → (rows : List Row) → length rows ≡ d → pos 0 <ℤ squaredVolume m (vectors rows) → Reduced (vectors (greedy d rows .rows))
+greedy-reduced m d h rows e v = greedy-settled m d h rows e v .0

@@ -10,13 +10,14 @@ use lib.Signed.{_≤ℤ_}
 use lib.Dec.{leb→le}
 use lib.ListN.{length}
 use Rattle.integers.specs.Certificate.{NN}
+use Rattle.integers.specs.Size.{size-add}
 use Rattle.lattices.specs.Vector.{N}
 use Rattle.lattices.specs.VectorLaws.{N-nonneg}
 use Rattle.lattices.specs.Permutation.{perm-length}
 use Rattle.lattices.specs.Greedy.{Row, vectors, order, lastOf, before, Counted, Pass, pass, round, shorter, joined, repeat, total, greedy}
 use Rattle.minima.specs.NearestLaws.{nearest-shorter}
 use Rattle.reductions.specs.Moves.{Moves, Moving, order-perm, before-last, length-before, moves-length, ordered-moves, greedy-moves}
-use Rattle.reductions.specs.Lengths.{total-append, total-credited, total-nonneg, perm-total, moves-total}
+use Rattle.reductions.specs.Lengths.{NoLonger, total-append, total-credited, total-nonneg, perm-total, moves-total}
 use Rattle.reductions.specs.Fuel.{stop, again, falls, size-falls}
 
 -- the sum of the squared lengths as a natural number
@@ -115,3 +116,21 @@ greedy-frugal (suc (suc d)) rows e = repeat-frugal (suc d) (greedy (suc d)) (gre
 pub passes-bound : (d : ℕ) (rows : List Row) → length rows ≡ d → greedy d rows .passes ≤ weight d * natAbs (total rows) + d
 unfolding sum
 passes-bound d rows e = omega (arith, greedy-frugal d rows e)
+
+-- ---- at most four vectors within the length limit
+total-size : (s : ℕ) (rows : List Row) → NoLonger (pos s) rows → natAbs (total rows) ≤ length rows * s
+total-size s [] h = omega arith
+total-size s (r ∷ rows) h = omega (arith, size-add (N (r .vector)) (total rows), size-mono (N (r .vector)) (pos s) (N-nonneg (r .vector)) (h .0), total-size s rows (h .1))
+
+weight-most : (n : ℕ) → n ≤ 4 → weight n ≤ 10
+weight-most zero h = omega arith
+weight-most (suc zero) h = omega arith
+weight-most (suc (suc zero)) h = omega arith
+weight-most (suc (suc (suc zero))) h = omega arith
+weight-most (suc (suc (suc (suc zero)))) h = omega arith
+weight-most (suc (suc (suc (suc (suc n))))) h = absurd (omega arith)
+
+pub passes-most : (d : ℕ) (rows : List Row) → d ≤ 4 → length rows ≡ d → NoLonger (pos 400000000) rows → greedy d rows .passes ≤ 16000000004
+passes-most d rows h e s =
+    let sum : natAbs (total rows) ≤ 1600000000 = omega (arith, total-size 400000000 rows s) in
+    omega (arith, passes-bound d rows e, mul-le-mul (weight-most d h) sum)

@@ -1,32 +1,35 @@
 -- The two numbers that document 01 promises: no number in U or V passes 160,000,000,000,000,000 and no coefficient of a nearest
 -- vector 320,000,000,000,000,000, for every accepted input.
 use mathlib.Core.Path.{_≡_, refl, sym, ap₂, subst}
+use mathlib.Core.Bool.{false, _||_}
 use mathlib.Core.List.{List, [], _∷_, _++_, map}
 use Prim.Native.Nat.{ℕ, zero, suc, _*_, _≤_, zero-le}
 use native.Mathlib.Nat.{le-refl}
 use native.Mathlib.Omega.{arith}
+use lib.Dec.{ltb}
 use lib.IntN.{ℤ, pos, natAbs}
 use lib.Signed.{_≤ℤ_, _<ℤ_}
 use lib.ListN.{length, getD}
+use borrow.Author.Tests.{le-ltb}
 use Rattle.lattices.specs.Vector.{Vec, N, nth, comb}
 use Rattle.lattices.specs.VectorLaws.{nil-dot}
 use Rattle.lattices.specs.Volume.{squaredVolume}
 use Rattle.lattices.specs.Nearest.{nearest}
 use Rattle.lattices.specs.Greedy.{Row, vectors, units, start, reduction}
-use Rattle.lattices.specs.Refusal.{Input, basis, firstOf, vectorChecks, targetChecks, mostSquare}
+use Rattle.lattices.specs.Refusal.{Input, basis, firstOf, vectorChecks, targetChecks, any, tooLong, mostSquare, mostSize}
 use Rattle.lattices.specs.Answer.{padded, table, rowOfV, rowsOfV, reductionOf, nearestOf}
 use Rattle.lattices.specs.AnswerLaws.{padded-same, length-vectorsOf}
 use Rattle.integers.specs.All.{All}
 use Rattle.minima.specs.NearestLaws.{nearest-count, nearest-shorter}
 use Rattle.volumes.specs.Sizes.{Short, near-le}
-use Rattle.integers.specs.Order.{≤ℤ-trans, *ℤ-mono, pos-nonneg}
+use Rattle.integers.specs.Order.{≤ℤ-trans, ≤ℤ-ltZ, *ℤ-mono, pos-nonneg}
 use Rattle.reductions.specs.Moves.{Moves, length-vectors}
 use Rattle.reductions.specs.Lengths.{NoLonger}
 use Rattle.reductions.specs.Exactness.{begin, moved}
 use Rattle.reductions.specs.Start.{Coordinates, units-coordinates}
 use Rattle.reductions.specs.Accepted.{Accepted, accepted, passed, short as short-vector}
 use Rattle.reductions.specs.Demand.{accepted-reduction, accepted-nearest, first-append}
-use Rattle.reductions.specs.Sizes.{Basis, first-rows, narrow-length, most, entry, short-of, way-count, way-short, way-volume, u-size, v-size}
+use Rattle.reductions.specs.Sizes.{Basis, first-rows, narrow-length, most, entry, coordinate, short-of, way-count, way-short, way-volume, u-size, v-size}
 
 -- ---- an accepted input may be reduced
 short-by-places : (vs : List Vec) → All (λ v. N v ≤ℤ pos mostSquare) vs → Short (pos mostSquare) vs
@@ -44,12 +47,29 @@ padded-units : (d : ℕ) (es : List (List ℤ)) → Coordinates d es → map (pa
 padded-units d [] c = refl
 padded-units d (e ∷ es) c = ap₂ _∷_ (padded-same d e (c .0)) (padded-units d es (c .1))
 
-pub reduction-moves : (i : Input) → Accepted i → Moves (first-rows (length (basis i)) (basis i)) (reduction (basis i) .rows)
+pub basis-moves : (m : ℕ) (bs : List Vec) → Basis m bs → Moves (first-rows (length bs) bs) (reduction bs .rows)
 unfolding begin
-reduction-moves i ok =
-    let B = basis-of i ok in
-    subst (λ es. Moves (start (basis i) es) (reduction (basis i) .rows)) (sym (padded-units (length (basis i)) (units (length (basis i))) (units-coordinates (length (basis i)))))
-    (moved (i .m) (basis i) (B .full) (B .some))
+basis-moves m bs B =
+    subst (λ es. Moves (start bs es) (reduction bs .rows)) (sym (padded-units (length bs) (units (length bs)) (units-coordinates (length bs))))
+    (moved m bs (B .full) (B .some))
+
+pub reduction-moves : (i : Input) → Accepted i → Moves (first-rows (length (basis i)) (basis i)) (reduction (basis i) .rows)
+reduction-moves i ok = basis-moves (i .m) (basis i) (basis-of i ok)
+
+-- ---- "no coordinate passes 20,000 in size, and a reduced vector obeys the same limit"
+none-large : (v : List ℤ) → ((j : ℕ) → natAbs (nth v j) ≤ mostSize) → any (λ x. ltb mostSize (natAbs x)) v ≡ false
+none-large [] h = refl
+none-large (x ∷ v) h = ap₂ _||_ (le-ltb mostSize (natAbs x) (h 0)) (none-large v (λ j. h (suc j)))
+
+pub not-long : (v : Vec) → N v ≤ℤ pos mostSquare → tooLong v ≡ false
+not-long v h = ap₂ _||_ (none-large v (coordinate 1 v h)) (≤ℤ-ltZ h)
+
+pub reduced-short : (m : ℕ) (bs : List Vec) → Basis m bs → All (λ v. tooLong v ≡ false) (vectors (reduction bs .rows))
+reduced-short m bs B = go (reduction bs .rows) (way-short m (length bs) bs B (le-refl (length bs)) (reduction bs .rows) (basis-moves m bs B))
+  where
+    go : (rows : List Row) → NoLonger (pos mostSquare) rows → All (λ v. tooLong v ≡ false) (vectors rows)
+    go [] h = tt
+    go (r ∷ rows) h = (not-long (r .vector) (h .0), go rows (h .1))
 
 -- ---- sizes in tables
 abbrev Entries : ℕ → List ℤ → Type 0

@@ -98,7 +98,7 @@ short-of s n [] h i = subst (λ z. z ≤ℤ s) (sym (nil-dot [])) n
 short-of s n (r ∷ rows) h zero = h .0
 short-of s n (r ∷ rows) h (suc i) = short-of s n rows (h .1) i
 
-no-longer-of : (s : ℤ) (ins : List Vec) (es : List (List ℤ)) → Short s ins → NoLonger s (start ins es)
+pub no-longer-of : (s : ℤ) (ins : List Vec) (es : List (List ℤ)) → Short s ins → NoLonger s (start ins es)
 no-longer-of s [] es h = tt
 no-longer-of s (b ∷ ins) [] h = tt
 no-longer-of s (b ∷ ins) (e ∷ es) h = (h 0, no-longer-of s ins es (λ i. h (suc i)))

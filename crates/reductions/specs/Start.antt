@@ -115,7 +115,7 @@ pub every-coordinates : (m : ℕ) (f : Row → Vec) (rows : List Row) → All (�
 every-coordinates m f [] h = tt
 every-coordinates m f (r ∷ rows) h = (h .0, every-coordinates m f rows (h .1))
 
-minus-places : (m : ℕ) (a b : Vec) → length a ≡ m → length b ≤ m → length (a ⊖ b) ≡ m
+pub minus-places : (m : ℕ) (a b : Vec) → length a ≡ m → length b ≤ m → length (a ⊖ b) ≡ m
 minus-places m a b e h = omega (arith, length-⊕ a (negsuc 0 ⊙ b), length-⊙ (negsuc 0) b)
 
 pub sized-vectors : (m d : ℕ) (rows : List Row) → All (Sized m d) rows → Coordinates m (vectors rows)

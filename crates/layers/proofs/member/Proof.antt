@@ -8,7 +8,7 @@ use mir.Val.{SFits}
 use mir.Facts.{toZ-ofZ}
 use Rattle.lattices.specs.VectorLaws.{≈-N}
 use Rattle.layers.specs.Near.{left-bounded}
-use Rattle.layers.specs.Members.{isMember}
+use Rattle.minima.specs.Members.{isMember}
 use Rattle.layers.proofs.member.Statement.{statement}
 use Rattle.layers.proofs.member.Tie as tie
 

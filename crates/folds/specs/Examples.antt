@@ -1,0 +1,89 @@
+-- "A catalogue in full" of document 01, folded, looked up and listed; the sole end word; and what is refused in the call alone.
+use mathlib.Core.Path.{_≡_, refl}
+use mathlib.Core.List.{List, [], _∷_, _++_, map}
+use Prim.Native.Nat.{ℕ}
+use Rattle.lattices.specs.Vector.{dot, comb, _⊕_, _⊙_}
+use Rattle.lattices.specs.Volume.{squaredVolume, isDependent}
+use Rattle.lattices.specs.Nearest.{least, nearest}
+use Rattle.lattices.specs.Greedy.{insert, order, credited, greedy}
+use Rattle.minima.specs.Members.{isMember}
+use Rattle.catalogues.specs.Word.{decode, encode, bytesOf}
+use Rattle.catalogues.specs.Read.{step, readWords, read}
+use Rattle.catalogues.specs.Write.{write}
+use Rattle.catalogues.specs.Examples.{full}
+use Rattle.folds.specs.Fold.{sameLattice, standing, folded}
+use Rattle.folds.specs.Services.{Output, nothing, Lookup, nowhere, foldOf, lookupOf}
+use Rattle.folds.specs.Listing.{listingOf}
+
+-- entry 12 is folded into 7, so the see word of entry 9 names 7
+abbrev pub fullFolded : List ℕ
+fullFolded =
+    0x10000722 ∷ 0x20004E21 ∷ 0x20004E20 ∷ 0x20004E20 ∷ 0x20004E21
+    ∷ 0x10000922 ∷ 0x20004E22 ∷ 0x20004E20 ∷ 0x20004E20 ∷ 0x20004E23 ∷ 0x30000007
+    ∷ 0x40000002 ∷ []
+
+-- "3 2", "7 7 0 1", "v 1 0", "v 0 1", "9 9 7 1", "v 2 0", "v 0 3", "12 7 9 1"
+abbrev pub fullListing : List ℕ
+fullListing =
+    51 ∷ 32 ∷ 50 ∷ 10
+    ∷ 55 ∷ 32 ∷ 55 ∷ 32 ∷ 48 ∷ 32 ∷ 49 ∷ 10
+    ∷ 118 ∷ 32 ∷ 49 ∷ 32 ∷ 48 ∷ 10
+    ∷ 118 ∷ 32 ∷ 48 ∷ 32 ∷ 49 ∷ 10
+    ∷ 57 ∷ 32 ∷ 57 ∷ 32 ∷ 55 ∷ 32 ∷ 49 ∷ 10
+    ∷ 118 ∷ 32 ∷ 50 ∷ 32 ∷ 48 ∷ 10
+    ∷ 118 ∷ 32 ∷ 48 ∷ 32 ∷ 51 ∷ 10
+    ∷ 49 ∷ 50 ∷ 32 ∷ 55 ∷ 32 ∷ 57 ∷ 32 ∷ 49 ∷ 10
+    ∷ []
+
+-- "refused 10 0"
+abbrev pub refusedListing : List ℕ
+refusedListing = 114 ∷ 101 ∷ 102 ∷ 117 ∷ 115 ∷ 101 ∷ 100 ∷ 32 ∷ 49 ∷ 48 ∷ 32 ∷ 48 ∷ 10 ∷ []
+
+abbrev pub writes : List ℕ → Output
+writes bytes = record { refusal = 0; place = 0; bytes = bytes }
+
+abbrev pub finds : ℕ → Lookup
+finds n = record { refusal = 0; place = 0; standing = n }
+
+-- a see word to a later entry, to itself, and two entries that name each other; 2 is folded into 1, with another sign
+abbrev pub circle : List ℕ
+circle = 0x10000111 ∷ 0x20004E21 ∷ 0x30000003 ∷ 0x10000211 ∷ 0x20004E1F ∷ 0x10000311 ∷ 0x20004E22 ∷ 0x30000002 ∷ 0x10000411 ∷ 0x20004E23 ∷ 0x30000004 ∷ 0x40000004 ∷ []
+
+abbrev pub circleFolded : List ℕ
+circleFolded = 0x10000111 ∷ 0x20004E21 ∷ 0x30000003 ∷ 0x10000311 ∷ 0x20004E22 ∷ 0x30000001 ∷ 0x10000411 ∷ 0x20004E23 ∷ 0x40000003 ∷ []
+
+-- the same vector with a zero coordinate more is in another lattice
+abbrev pub wider : List ℕ
+wider = 0x10000111 ∷ 0x20004E21 ∷ 0x10000212 ∷ 0x20004E21 ∷ 0x20004E20 ∷ 0x40000002 ∷ []
+
+-- a file, the length of the output, and what the fold gives
+pub record Example : Type 0 where
+  pub file : List ℕ
+  pub room : ℕ
+  pub output : Output
+
+abbrev pub gives : List ℕ → ℕ → Output → Example
+gives words room output = record { file = bytesOf words; room = room; output = output }
+
+abbrev pub examples : List Example
+examples =
+    gives full 48 (writes (bytesOf fullFolded))
+    ∷ gives full 47 (nothing 16 0)
+    ∷ gives fullFolded 48 (writes (bytesOf fullFolded))
+    ∷ gives circle 100 (writes (bytesOf circleFolded))
+    ∷ gives wider 24 (writes (bytesOf wider))
+    ∷ gives (0x40000000 ∷ []) 4 (writes (bytesOf (0x40000000 ∷ [])))
+    ∷ gives [] 0 (nothing 10 0)
+    ∷ []
+
+pub folds-hold : map (λ x. foldOf (x .file) (x .room)) examples ≡ map (λ x. x .output) examples
+unfolding dot comb _⊕_ _⊙_ squaredVolume isDependent least nearest insert order credited greedy isMember decode encode step readWords read write sameLattice standing folded foldOf
+folds-hold = refl
+
+pub lookups-hold : map (lookupOf (bytesOf full)) (7 ∷ 9 ∷ 12 ∷ 8 ∷ []) ++ (lookupOf [] 7 ∷ []) ≡ finds 7 ∷ finds 9 ∷ finds 7 ∷ nowhere 17 0 ∷ nowhere 10 0 ∷ []
+unfolding dot comb _⊕_ _⊙_ squaredVolume isDependent least nearest insert order credited greedy isMember decode encode step readWords read sameLattice standing lookupOf
+lookups-hold = refl
+
+pub listings-hold : map listingOf (bytesOf full ∷ [] ∷ []) ≡ fullListing ∷ refusedListing ∷ []
+unfolding dot comb _⊕_ _⊙_ squaredVolume isDependent least nearest insert order credited greedy isMember decode encode step readWords read sameLattice standing listingOf
+listings-hold = refl
