@@ -10,6 +10,7 @@ ghost use Rattle.catalogue.specs.Parts.{noEntry, noPart, putCoordinate, 
 ghost use Rattle.catalogue.specs.Readings.{isNumber, going, stopped, headRead, vectorRead, coordinateRead, entryRead, endRead, outsideRead, insideRead, afterRead, Ready, stepRead};
 ghost use Rattle.lattices.specs.Refusal.{any};
 ghost use Rattle.catalogue.specs.Catalogues.{noCatalogue};
+mod reader;
 
 // An entry: its head and the place of the head; whether it has a see word, its number and where it stands; d times m coordinates, then zeros.
 pub struct Entry {

@@ -114,3 +114,10 @@ words-bytes (w ∷ words) h = ap₂ _∷_ (bytes-word w (h .0)) (words-bytes wor
 pub length-bytes : (words : List ℕ) → length (bytesOf words) ≡ length words * 4
 length-bytes [] = refl
 length-bytes (w ∷ words) = omega (arith, length-bytes words)
+
+pub length-words : (bytes : List ℕ) → length (wordsOf bytes) ≡ length bytes / 4
+length-words [] = refl
+length-words (a ∷ []) = refl
+length-words (a ∷ b ∷ []) = refl
+length-words (a ∷ b ∷ c ∷ []) = refl
+length-words (a ∷ b ∷ c ∷ d ∷ bytes) = omega (arith, length-words bytes)
