@@ -2,6 +2,7 @@
 use mathlib.Core.Path.{_≡_, refl}
 use mathlib.Core.Bool.{Bool, true, false}
 use mathlib.Core.List.{List, [], _∷_, map}
+use mathlib.Core.Option.{Option, none, some}
 use Prim.Native.Nat.{ℕ, suc}
 use lib.ListN.{length, replicate}
 use Rattle.catalogues.specs.Word.{decode}
@@ -32,6 +33,11 @@ holding count entries = record { refusal = 0; place = 0; count = count; entries 
 abbrev pub catalogueOf : Outcome → Catalogue
 catalogueOf (refused n p) = noCatalogue n p
 catalogueOf (accepted es) = holding (length es) (stored es)
+
+-- a refusal if there is a place for it
+abbrev pub unless : ℕ → Option ℕ → Catalogue → Catalogue
+unless n (some p) c = noCatalogue n p
+unless n none c = c
 
 abbrev pub isClosed : Phase → Bool
 isClosed Outside = false

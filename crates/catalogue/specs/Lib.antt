@@ -10,3 +10,5 @@ pub mod States
 pub mod Room
 pub mod Store
 pub mod Progress
+pub mod Entries
+pub mod Ended

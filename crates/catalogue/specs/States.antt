@@ -3,8 +3,7 @@ use mathlib.Core.Path.{_≡_, refl, sym, ap, ap₂, _∙_}
 use mathlib.Core.Bool.{Bool, true, false, not, _&&_, _||_}
 use mathlib.Core.List.{List, [], _∷_, _++_, map}
 use mathlib.Core.Option.{Option, none, some}
-use Prim.Native.Nat.{ℕ, zero, suc, _+_, _≤_, _<_}
-use native.Mathlib.Nat.{le-of-suc-le-suc, not-suc-le-zero}
+use Prim.Native.Nat.{ℕ, suc, _+_, _≤_, _<_}
 use native.Mathlib.Omega.{arith}
 use lib.Dec.{leb, ltb, eqb}
 use lib.IntN.{pos, natAbs}
@@ -23,7 +22,7 @@ use Rattle.catalogue.specs.declared.Phase.the-variants.{Outside, Inside,
 use Rattle.catalogue.specs.declared.Entry.{Entry}
 use Rattle.catalogue.specs.declared.Part.{Part}
 use Rattle.catalogue.specs.declared.Reading.{Reading}
-use Rattle.catalogue.specs.Filled.{filled, filled-padded, map-snoc}
+use Rattle.catalogue.specs.Filled.{filled, take-filled, filled-padded, map-snoc}
 use Rattle.catalogue.specs.Parts.{noEntry, noPart, started, whole}
 use Rattle.catalogue.specs.Shown.{partOf, entryOf, part-coordinate, part-vector}
 use Rattle.catalogue.specs.Readings.{isNumber, going, stopped, headRead, vectorPhase, vectorRead, columnRead, coordinateRead, endRead, stepRead}
@@ -75,11 +74,6 @@ step-rows (r ∷ rows) s = go (r .0) (step-rows rows s)
     go false e = e
 
 -- ---- numbers that are used
-
-take-filled : {A : Type 0} (z : A) (n : ℕ) (l : List A) → length l ≤ n → take (length l) (filled z n l) ≡ l
-take-filled z n [] h = refl
-take-filled z zero (x ∷ l) h = absurd (not-suc-le-zero h)
-take-filled z (suc n) (x ∷ l) h = ap (λ k. x ∷ k) (take-filled z n l (le-of-suc-le-suc h))
 
 pub length-numbers : (es : List definition.Entry) → length (numbers es) ≡ length es
 length-numbers [] = refl

@@ -1,12 +1,21 @@
 // The words of a catalogue, one after the other, and the rows "after reading".
 ghost use mathlib.Core.Path.{_≡_};
-ghost use mathlib.Core.List.{[]};
+ghost use mathlib.Core.List.{[], map};
+ghost use mathlib.Core.Bool.{_&&_, not};
+ghost use Prim.Native.Nat.{_≤_};
+ghost use lib.ListN.{length, take};
+ghost use Rattle.integers.specs.All.{All};
+ghost use Rattle.lattices.specs.Volume.{isDependent};
+ghost use Rattle.lattices.specs.Refusal.{any};
 ghost use Rattle.catalogues.specs.Word.{wordsOf};
-ghost use Rattle.catalogues.specs.Read.{outside};
-ghost use Rattle.catalogue.specs.Catalogues.{catalogueOf, isClosed, wordsRead};
+ghost use Rattle.catalogues.specs.Read.{outside, firstPlace, dependentAt, lostAt};
+ghost use Rattle.catalogue.specs.Catalogues.{catalogueOf, unless, isClosed, wordsRead};
 ghost use Rattle.catalogue.specs.Words.{wordIn};
 ghost use Rattle.catalogue.specs.Store.{noted, Space};
-use super::{Catalogue, Entry, Phase, Reading, Word, decode, word_at};
+ghost use Rattle.catalogues.specs.Form.{EntryFits};
+ghost use Rattle.catalogue.specs.Readings.{isNumber};
+ghost use Rattle.catalogue.specs.Entries.{entryIn, entriesIn};
+use super::{Catalogue, Entry, Phase, Reading, Word, decode, numbered, word_at};
 
 // Whether nothing may follow.
 fn closed(phase: Phase) -> bool
@@ -70,4 +79,65 @@ pub fn read_words(bytes: &[u8]) -> Catalogue
         count: s.count,
         entries: entries,
     }
+}
+
+// Whether the vectors of an entry are dependent.
+fn dependent(e: Entry) -> bool
+    requires { ⌜ EntryFits (entryIn e) ⌝ }
+    ensures { λ r. ⌜ r ≡ isDependent (e .m) (entryIn e .vectors) ⌝ }
+{
+    let coordinates = e.coordinates;
+    let n = e.d * e.m;
+    let b = checks::basis(&coordinates[..n], e.d, e.m);
+    checks::dependent(b, e.d)
+}
+
+// Row "after reading", 5: at the head of the first dependent entry.
+pub fn independent(c: Catalogue) -> Catalogue
+    requires { ⌜ c .count ≤ 256 ⌝ }
+    requires { ⌜ All EntryFits (entriesIn c) ⌝ }
+    ensures { λ r. ⌜ r ≡ unless 5 (firstPlace dependentAt (entriesIn c)) c ⌝ }
+{
+    for k in 0..c.count {
+        let e = c.entries[k];
+        if dependent(e) {
+            return Catalogue::refused(5, e.place);
+        }
+    }
+    c
+}
+
+// The numbers of the stored entries.
+fn numbers(c: Catalogue) -> [u32; 256]
+    ensures { λ r. ⌜ r ≡ map (λ e. e .number) (c .entries) ⌝ }
+{
+    let mut numbers = [0u32; 256];
+    for k in 0..256 {
+        let e = c.entries[k];
+        numbers[k] = e.number;
+    }
+    numbers
+}
+
+// Whether an entry has a see word that names none of the first count numbers.
+fn lost(e: Entry, numbers: &[u32], count: usize) -> bool
+    requires { ⌜ count ≤ length (now numbers) ⌝ }
+    ensures { λ r. ⌜ r ≡ (e .sees && not (any (isNumber (e .see)) (take count (now (numbers .entry))))) ⌝ }
+{
+    e.sees && !numbered(numbers, count, e.see)
+}
+
+// Row "after reading", 12: at the first see word that names no entry.
+pub fn found(c: Catalogue) -> Catalogue
+    requires { ⌜ c .count ≤ 256 ⌝ }
+    ensures { λ r. ⌜ r ≡ unless 12 (firstPlace (lostAt (entriesIn c)) (entriesIn c)) c ⌝ }
+{
+    let numbers = numbers(c);
+    for k in 0..c.count {
+        let e = c.entries[k];
+        if lost(e, &numbers, c.count) {
+            return Catalogue::refused(12, e.at);
+        }
+    }
+    c
 }
