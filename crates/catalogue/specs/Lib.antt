@@ -12,3 +12,4 @@ pub mod Store
 pub mod Progress
 pub mod Entries
 pub mod Ended
+pub mod Whole

@@ -9,7 +9,8 @@ ghost use Rattle.catalogue.specs.Words.{wordIn};
 ghost use Rattle.catalogue.specs.Parts.{noEntry, noPart, putCoordinate, putVector, started, whole};
 ghost use Rattle.catalogue.specs.Readings.{isNumber, going, stopped, headRead, vectorRead, coordinateRead, entryRead, endRead, outsideRead, insideRead, afterRead, Ready, stepRead};
 ghost use Rattle.lattices.specs.Refusal.{any};
-ghost use Rattle.catalogue.specs.Catalogues.{noCatalogue};
+ghost use Rattle.catalogue.specs.Catalogues.{noCatalogue, catalogueOf};
+ghost use Rattle.catalogues.specs.Read.{read};
 mod reader;
 
 // An entry: its head and the place of the head; whether it has a see word, its number and where it stands; d times m coordinates, then zeros.
@@ -424,4 +425,25 @@ impl Reading {
             Phase::Closed => Reading::stop(14),
         }
     }
+}
+
+// Reads a catalogue: the row "whole file", the words one by one, then the rows "after reading".
+pub fn read(bytes: &[u8]) -> Catalogue
+    ensures { λ r. ⌜ r ≡ catalogueOf (read (now (bytes .entry))) ⌝ }
+{
+    if bytes.len() % 4 != 0 {
+        return Catalogue::refused(8, 0);
+    }
+    if Catalogue::MOST_BYTES < bytes.len() {
+        return Catalogue::refused(9, 0);
+    }
+    let c = reader::read_words(bytes);
+    if c.refusal != 0 {
+        return c;
+    }
+    let d = reader::independent(c);
+    if d.refusal != 0 {
+        return d;
+    }
+    reader::found(d)
 }
