@@ -13,3 +13,5 @@ pub mod Progress
 pub mod Entries
 pub mod Ended
 pub mod Whole
+pub mod Over
+pub mod Loads

@@ -12,6 +12,7 @@ ghost use Rattle.lattices.specs.Refusal.{any};
 ghost use Rattle.catalogue.specs.Catalogues.{noCatalogue, catalogueOf};
 ghost use Rattle.catalogues.specs.Read.{read};
 mod reader;
+mod writer;
 
 // An entry: its head and the place of the head; whether it has a see word, its number and where it stands; d times m coordinates, then zeros.
 pub struct Entry {

@@ -1,22 +1,26 @@
 -- "Each entry of an accepted catalogue is an accepted basis": the engine's own checks of vectors pass.
 use mathlib.Core.Path.{_≡_, refl, sym, ap, ap₂, _∙_}
 use mathlib.Core.Bool.{true, false, not, _||_}
-use mathlib.Core.List.{List, [], _∷_}
-use Prim.Native.Nat.{ℕ, _*_, _≤_}
+use mathlib.Core.List.{List, [], _∷_, _++_}
+use Prim.Native.Nat.{ℕ, zero, suc, _*_, _≤_}
 use native.Mathlib.Nat.{mul-le-mul}
 use native.Mathlib.Omega.{arith}
-use lib.ListN.{length, length-append}
+use lib.Dec.{ltb}
+use lib.IntN.{ℤ, pos, natAbs}
+use lib.ListN.{length, take, drop, length-append, length-drop, take-append-drop}
 use lib.Seq.{take-at, drop-at}
+use lib.Signed.{ltZ}
 use borrow.Author.Tests.{eq-eqb}
-use Rattle.lattices.specs.Vector.{Vec}
+use Rattle.lattices.specs.Vector.{Vec, N}
 use Rattle.lattices.specs.Volume.{isDependent}
-use Rattle.lattices.specs.Refusal.{Input, Check, vectorsOf, any, tooLong, firstOf, vectorChecks, mostVectors, mostCoordinates}
+use Rattle.lattices.specs.Refusal.{Input, Check, vectorsOf, any, tooLong, firstOf, vectorChecks, mostVectors, mostCoordinates, mostSize, mostSquare}
+use Rattle.integers.specs.Tests.{neither}
 use Rattle.lattices.specs.RefusalLaws.{one-to}
 use Rattle.integers.specs.All.{All}
 use Rattle.catalogues.specs.Catalogue.{Entry, coordinates, inputOf, accepted}
 use Rattle.catalogues.specs.Read.{read}
 use Rattle.catalogues.specs.Form.{VectorFits, EntryFits, Independent}
-use Rattle.catalogues.specs.WellFormed.{well-formed}
+use Rattle.catalogues.specs.WellFormed.{any-append, well-formed}
 
 none-applies : (cs : List Check) (i : Input) → All (λ c. c .condition i ≡ false) cs → firstOf cs i ≡ 0
 none-applies [] i p = refl
@@ -42,6 +46,17 @@ vectors-back m [] p = refl
 vectors-back m (v ∷ vs) p =
     ap₂ _∷_ (take-at v (coordinates vs) m (p .0 .full))
     (ap (vectorsOf (length vs) m) (drop-at v (coordinates vs) m (p .0 .full)) ∙ vectors-back m vs (p .1))
+
+-- and numbers, cut into vectors and given again
+pub numbers-back : (d m : ℕ) (l : List ℤ) → length l ≡ d * m → coordinates (vectorsOf d m l) ≡ l
+numbers-back zero m [] e = refl
+numbers-back zero m (x ∷ l) e = absurd (omega (arith, e))
+numbers-back (suc d) m l e = ap (λ k. take m l ++ k) (numbers-back d m (drop m l) (omega (arith, e, length-drop m l))) ∙ take-append-drop m l
+
+-- no coordinate is beyond the limit
+pub all-near : (m : ℕ) (vs : List Vec) → All (VectorFits m) vs → any (λ x. ltb mostSize (natAbs x)) (coordinates vs) ≡ false
+all-near m [] p = refl
+all-near m (v ∷ vs) p = any-append (λ x. ltb mostSize (natAbs x)) v (coordinates vs) (neither _ (ltZ (pos mostSquare) (N v)) (p .0 .short) .0) (all-near m vs (p .1))
 
 pub all-short : (m : ℕ) (vs : List Vec) → All (VectorFits m) vs → any tooLong vs ≡ false
 all-short m [] p = refl

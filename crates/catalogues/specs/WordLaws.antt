@@ -1,7 +1,7 @@
 -- Decoding and encoding are inverse to each other, and so are taking bytes as words and writing words as bytes.
 use mathlib.Core.Path.{_≡_, refl, ap, ap₂, _∙_}
 use mathlib.Core.Bool.{Bool, true, false}
-use mathlib.Core.List.{List, [], _∷_}
+use mathlib.Core.List.{List, [], _∷_, _++_}
 use mathlib.Core.Logic.{_≢_}
 use Prim.Native.Nat.{ℕ, suc, _+_, _*_, _/_, _%_, _^_, _<_}
 use native.Mathlib.Omega.{arith}
@@ -121,3 +121,7 @@ length-words (a ∷ []) = refl
 length-words (a ∷ b ∷ []) = refl
 length-words (a ∷ b ∷ c ∷ []) = refl
 length-words (a ∷ b ∷ c ∷ d ∷ bytes) = omega (arith, length-words bytes)
+
+pub bytes-append : (ws us : List ℕ) → bytesOf (ws ++ us) ≡ bytesOf ws ++ bytesOf us
+bytes-append [] us = refl
+bytes-append (w ∷ ws) us = ap (λ l. w % 256 ∷ w / 256 % 256 ∷ w / 65536 % 256 ∷ w / 16777216 % 256 ∷ l) (bytes-append ws us)
