@@ -31,10 +31,10 @@ pub lost-at : (c : Catalogue) (e : Entry) {t : Bool} → t ≡ (e .sees && not (
     → Says (lostAt (entriesIn c)) (entryIn e) t (e .at)
 lost-at c e h = record {
   place =
-    ap (λ t. placeIf t (e .at)) h
-    ∙ ap (λ l. placeIf (e .sees && not (any (isNumber (e .see)) l)) (e .at)) (take-map (λ e. e .number) (c .count) (c .entries))
-    ∙ ap (λ t. placeIf (e .sees && not t) (e .at)) (any-numbers (e .see) (take (c .count) (c .entries)))
-    ∙ go (e .sees) (any (isNumbered (e .see)) (entriesIn c)) refl;
+      ap (λ t. placeIf t (e .at)) h
+      ∙ ap (λ l. placeIf (e .sees && not (any (isNumber (e .see)) l)) (e .at)) (take-map (λ e. e .number) (c .count) (c .entries))
+      ∙ ap (λ t. placeIf (e .sees && not t) (e .at)) (any-numbers (e .see) (take (c .count) (c .entries)))
+      ∙ go (e .sees) (any (isNumbered (e .see)) (entriesIn c)) refl;
 }
   where
     named : (t : Bool) → _≡_ {A = Option ℕ} (placeIf (not t) (e .at)) (elim t [ true ↦ none | false ↦ some (e .at) ])

@@ -89,16 +89,16 @@ module _ (c : Catalogue) (long : length (c .entries) ≡ 256) (few : c .count �
   length-entries = length-map (take (c .count) (c .entries)) entryIn ∙ omega (arith, length-take (c .count) (c .entries))
 
   module _ (k : ℕ) (here : k < c .count) where
-    inside : k < length (entriesIn c)
+    pub inside : k < length (entriesIn c)
     inside = omega (arith, length-entries)
 
-    at-place : getD (entriesIn c) k (entryIn beyond) ≡ entryIn (entryAt c k)
+    pub at-place : getD (entriesIn c) k (entryIn beyond) ≡ entryIn (entryAt c k)
     at-place =
         getD-map entryIn (take (c .count) (c .entries)) beyond (entryIn beyond) k (omega (arith, length-take (c .count) (c .entries)))
         ∙ ap entryIn (getD-take (c .count) (c .entries) k beyond here)
 
-    pub entry-fits : All EntryFits (entriesIn c) → EntryFits (entryIn (entryAt c k))
-    entry-fits p = subst EntryFits at-place (all-at EntryFits (entriesIn c) (entryIn beyond) p k inside)
+    pub entry-has : (P : definition.Entry → Type 0) → All P (entriesIn c) → P (entryIn (entryAt c k))
+    entry-has P p = subst P at-place (all-at P (entriesIn c) (entryIn beyond) p k inside)
 
     module _ {f : definition.Entry → Option ℕ} {t : Bool} {p : ℕ} (says : Says f (entryIn (entryAt c k)) t p) where
       -- the place that is told, or the first after it

@@ -15,3 +15,6 @@ pub mod Ended
 pub mod Whole
 pub mod Over
 pub mod Loads
+pub mod Upto
+pub mod Writing
+pub mod Again

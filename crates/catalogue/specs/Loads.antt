@@ -8,7 +8,7 @@ use native.Mathlib.Nat.{mul-le-mul}
 use native.Mathlib.Numerals.{add-one}
 use native.Mathlib.Omega.{arith}
 use lib.IntN.{ℤ, pos, negsuc, natAbs, _+ℤ_}
-use lib.ListN.{length, getD, take, length-map}
+use lib.ListN.{length, getD, take, length-append, length-map}
 use lib.Seq.{length-take-le, take-suc}
 use lib.Signed.{nonNeg}
 use mir.Syntax.{w64}
@@ -20,7 +20,7 @@ use Rattle.lattices.specs.RefusalLaws.{one-to}
 use Rattle.checks.specs.Any.{beyond}
 use Rattle.catalogues.specs.Word.{Word, encode}
 use Rattle.catalogues.specs.Catalogue.{Entry, coordinates}
-use Rattle.catalogues.specs.Write.{headWord, coordinateWord}
+use Rattle.catalogues.specs.Write.{headWord, coordinateWord, seeWords, entryWords}
 use Rattle.catalogues.specs.Form.{EntryFits}
 use Rattle.catalogues.specs.EntriesAccepted.{numbers-back, all-near}
 use Rattle.catalogues.specs.ReadVectors.{encoded}
@@ -57,6 +57,9 @@ encoded-more cs j h =
 -- its head and coordinates; its see word comes after them
 abbrev pub basisWords : Entry → List Word
 basisWords e = headWord (e .head) ∷ map coordinateWord (coordinates (e .vectors))
+
+pub basis-and-see : (e : Entry) → length (entryWords e) ≡ length (basisWords e) + length (seeWords (e .see))
+basis-and-see e = length-append (basisWords e) (seeWords (e .see))
 
 -- the words as the code writes them, n being d times m
 module _ (e : stored.Entry) (fits : EntryFits (entryIn e)) (long : length (e .coordinates) ≡ 16) where

@@ -11,6 +11,9 @@ ghost use Rattle.catalogue.specs.Readings.{isNumber, going, stopped, hea
 ghost use Rattle.lattices.specs.Refusal.{any};
 ghost use Rattle.catalogue.specs.Catalogues.{noCatalogue, catalogueOf};
 ghost use Rattle.catalogues.specs.Read.{read};
+ghost use Rattle.catalogues.specs.Output.{output};
+ghost use Rattle.catalogue.specs.Writing.{writtenOf};
+
 mod reader;
 mod writer;
 
@@ -32,6 +35,13 @@ pub struct Catalogue {
     pub place: usize,
     pub count: usize,
     pub entries: [Entry; 256],
+}
+
+// What a writing says: a refusal and its place, or how many bytes were written.
+pub struct Written {
+    pub refusal: u64,
+    pub place: usize,
+    pub length: usize,
 }
 
 impl Catalogue {
@@ -447,4 +457,20 @@ pub fn read(bytes: &[u8]) -> Catalogue
         return d;
     }
     reader::found(d)
+}
+
+// Reads a catalogue and writes its entries, unfolded, to the lent output.
+pub fn write_out(bytes: &[u8], out: &mut [u8]) -> Written
+    ensures { λ r. ⌜ r ≡ writtenOf (output (read (now (bytes .entry))) (now (out .entry))) ⌝ }
+    ensures { λ _. ⌜ now (out .exit) ≡ output (read (now (bytes .entry))) (now (out .entry)) .lent ⌝ }
+{
+    let c = read(bytes);
+    if c.refusal != 0 {
+        return Written {
+            refusal: c.refusal,
+            place: c.place,
+            length: 0,
+        };
+    }
+    writer::write_entries(c, out)
 }

@@ -15,7 +15,14 @@ ghost use Rattle.catalogue.specs.Store.{noted, Space};
 ghost use Rattle.catalogues.specs.Form.{EntryFits};
 ghost use Rattle.catalogue.specs.Readings.{isNumber};
 ghost use Rattle.catalogue.specs.Entries.{entryIn, entriesIn};
-use super::{Catalogue, Entry, Phase, Reading, Word, decode, numbered, word_at};
+use super::Catalogue;
+use super::Entry;
+use super::Phase;
+use super::Reading;
+use super::Word;
+use super::decode;
+use super::numbered;
+use super::word_at;
 
 // Whether nothing may follow.
 fn closed(phase: Phase) -> bool

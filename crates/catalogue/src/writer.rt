@@ -5,16 +5,22 @@ ghost use mathlib.Core.Bool.{false};
 ghost use Prim.Native.Nat.{_+_, _*_, _^_, _≤_, _<_};
 ghost use lib.IntN.{natAbs};
 ghost use lib.ListN.{length};
+ghost use Rattle.integers.specs.All.{All};
 ghost use Rattle.lattices.specs.Refusal.{any};
 ghost use Rattle.checks.specs.Any.{beyond};
 ghost use Rattle.catalogues.specs.Word.{head, see, end, encode};
 ghost use Rattle.catalogue.specs.Over.{overWords};
-ghost use Rattle.catalogues.specs.Write.{coordinateWord, seeWords, entryWords};
-ghost use Rattle.catalogues.specs.Form.{EntryFits};
+ghost use Rattle.catalogues.specs.Write.{coordinateWord, seeWords, entryWords, entriesWords};
+ghost use Rattle.catalogues.specs.Catalogue.{accepted};
+ghost use Rattle.catalogues.specs.Output.{output};
+ghost use Rattle.catalogues.specs.Form.{EntryFits, WellFormed};
 ghost use Rattle.catalogues.specs.ReadEntries.{SeeFits};
-ghost use Rattle.catalogue.specs.Entries.{entryIn};
+ghost use Rattle.catalogue.specs.Entries.{entryIn, entriesIn};
 ghost use Rattle.catalogue.specs.Loads.{basisWords};
-use super::{Catalogue, Entry};
+ghost use Rattle.catalogue.specs.Writing.{writtenOf};
+use super::Catalogue;
+use super::Entry;
+use super::Written;
 
 // The word at index k of the bytes, lowest byte first.
 fn put_word(out: &mut [u8], k: usize, w: u32)
@@ -114,4 +120,72 @@ fn put_entry(out: &mut [u8], k: usize, e: Entry) -> usize
 {
     let n = put_basis(out, k, e);
     put_see(out, n, e)
+}
+
+// How many words an entry takes.
+fn count_entry(e: Entry) -> usize
+    requires { ⌜ EntryFits (entryIn e) ⌝ }
+    ensures { λ r. ⌜ r ≡ length (entryWords (entryIn e)) ⌝ }
+{
+    let n = 1 + e.d * e.m;
+    if e.sees {
+        return n + 1;
+    }
+    n
+}
+
+// How many words the entries take.
+fn count_words(c: Catalogue) -> usize
+    requires { ⌜ c .count ≤ 256 ⌝ }
+    requires { ⌜ All EntryFits (entriesIn c) ⌝ }
+    ensures { λ r. ⌜ r ≡ length (entriesWords (entriesIn c)) ⌝ }
+{
+    let mut n = 0;
+    for k in 0..c.count {
+        let e = c.entries[k];
+        n = n + count_entry(e);
+    }
+    n
+}
+
+// The entries from the start on; the index after them.
+fn put_entries(c: Catalogue, out: &mut [u8]) -> usize
+    requires { ⌜ c .count ≤ 256 ⌝ }
+    requires { ⌜ All EntryFits (entriesIn c) ⌝ }
+    requires { ⌜ All (λ e. SeeFits (e .see)) (entriesIn c) ⌝ }
+    requires { ⌜ length (entriesWords (entriesIn c)) * 4 ≤ length (now out) ⌝ }
+    ensures { λ r. ⌜ r ≡ length (entriesWords (entriesIn c)) ⌝ }
+    ensures { λ _. ⌜ now (out .exit) ≡ overWords (now (out .entry)) 0 (map encode (entriesWords (entriesIn c))) ⌝ }
+{
+    let mut n = 0;
+    for k in 0..c.count {
+        let e = c.entries[k];
+        n = put_entry(out, n, e);
+    }
+    n
+}
+
+// Writes the entries to the lent output, which stays as it is when it is too short for them.
+pub fn write_entries(c: Catalogue, out: &mut [u8]) -> Written
+    requires { ⌜ c .count ≤ 256 ⌝ }
+    requires { ⌜ WellFormed (entriesIn c) ⌝ }
+    ensures { λ r. ⌜ r ≡ writtenOf (output (accepted (entriesIn c)) (now (out .entry))) ⌝ }
+    ensures { λ _. ⌜ now (out .exit) ≡ output (accepted (entriesIn c)) (now (out .entry)) .lent ⌝ }
+{
+    let n = count_words(c) * 4 + 4;
+    if out.len() < n {
+        return Written {
+            refusal: 16,
+            place: 0,
+            length: 0,
+        };
+    }
+    let k = put_entries(c, out);
+    let w = end_word(c.count);
+    put_word(out, k, w);
+    Written {
+        refusal: 0,
+        place: 0,
+        length: n,
+    }
 }

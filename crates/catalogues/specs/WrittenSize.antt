@@ -71,12 +71,12 @@ length-see : (o : Option See) → length (seeWords o) ≤ 1
 length-see none = omega arith
 length-see (some s) = omega arith
 
-length-entry : (e : Entry) → EntryFits e → length (entryWords e) ≤ 18
+pub length-entry : (e : Entry) → EntryFits e → length (entryWords e) ≤ 18
 length-entry e p =
     let cs = coordinates (e .vectors) in
     omega (arith, few-coordinates e p, length-append (map coordinateWord cs) (seeWords (e .see)), length-map cs coordinateWord, length-see (e .see))
 
-length-entries : (es : List Entry) → All EntryFits es → length (entriesWords es) ≤ length es * 18
+pub length-entries : (es : List Entry) → All EntryFits es → length (entriesWords es) ≤ length es * 18
 length-entries [] p = omega arith
 length-entries (e ∷ es) p = omega (arith, length-append (entryWords e) (entriesWords es), length-entry e (p .0), length-entries es (p .1))
 

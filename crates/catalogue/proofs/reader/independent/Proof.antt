@@ -4,8 +4,9 @@ use Prim.Native.Nat.{ℕ, _-_, _≤_}
 use native.Mathlib.Omega.{arith}
 use lib.ListN.{length, drop}
 use Rattle.catalogues.specs.Read.{firstPlace, dependentAt}
+use Rattle.catalogues.specs.Form.{EntryFits}
 use Rattle.catalogue.specs.Catalogues.{unless}
-use Rattle.catalogue.specs.Entries.{entryIn, entriesIn, all-stored, entryAt, Says, entry-fits, first-here, first-later, first-end}
+use Rattle.catalogue.specs.Entries.{entryIn, entriesIn, all-stored, entryAt, Says, entry-has, first-here, first-later, first-end}
 use Rattle.catalogue.specs.Ended.{dependent-at}
 use borrow.Author.Needs.{needs}
 use Rattle.catalogue.proofs.reader.independent.Statement.{statement}
@@ -32,7 +33,7 @@ element-copy-out-e c = search needs
 dependent-requires : tie.Need-dependent-requires Inv-loop μ-loop
 dependent-requires c κs =
     let s = c .before .before .before in
-    entry-fits (s .args .t1) (long s) (s .pre .0) _ (search needs) (s .pre .1)
+    entry-has (s .args .t1) (long s) (s .pre .0) _ (search needs) EntryFits (s .pre .1)
 
 refused-requires : tie.Need-refused-requires Inv-loop μ-loop
 refused-requires c κs = search needs

@@ -72,11 +72,12 @@ returns c =
     let out = s .args .out .now in
     let k = s .args .k in
     let p = c .before .before in
-    let h = p .before .before .before .before .before .before in
-    ( omega (arith, length-basis e (s .pre .0) (long s))
-    , p .put-coordinates .ensures
-    ∙ over-more out k (encode (headWord (entryIn e .head)) ∷ []) (encoded (take (e .d * e .m) (e .coordinates))) (h .put-word .ensures ∙ ap (λ w. overWords out k (w ∷ [])) (h .before .before .head-word .ensures)) refl (omega (arith, s .pre .1))
-    ∙ ap (overWords out k) (basis-encoded e (s .pre .0) (long s)) )
+    let h = p .before .before .before .before .before .before in (
+      omega (arith, length-basis e (s .pre .0) (long s)),
+      p .put-coordinates .ensures
+          ∙ over-more out k (encode (headWord (entryIn e .head)) ∷ []) (encoded (take (e .d * e .m) (e .coordinates))) (h .put-word .ensures ∙ ap (λ w. overWords out k (w ∷ [])) (h .before .before .head-word .ensures)) refl (omega (arith, s .pre .1))
+          ∙ ap (overWords out k) (basis-encoded e (s .pre .0) (long s)),
+    )
 
 pub put-basis-spec : {M : Type 1} → statement M
 put-basis-spec =

@@ -82,12 +82,13 @@ loop-again c =
     let a = s .args in
     let cs = a .coordinates .now in
     let j = l .loop .j in
-    let word = p .before .before .coordinate-word .ensures ∙ ap (λ x. encode (coordinateWord x)) (toZ-ofZ {w = w64} (fits s j)) in
-    ( search needs
-    , p .put-word .ensures
-    ∙ ap (λ w. overWords (l .loop .out) (a .k + j) (w ∷ [])) word
-    ∙ over-more (a .out .now) (a .k) (encoded (take j cs)) (encode (coordinateWord (getD cs j (pos 0))) ∷ []) (l .loop .inv .1) (ap (λ n. a .k + n) (sym (length-first cs j (l .loop .inv .0)))) (room l)
-    ∙ ap (overWords (a .out .now) (a .k)) (encoded-more cs j (p .before .before .before .before .loop-test .taken)) )
+    let word = p .before .before .coordinate-word .ensures ∙ ap (λ x. encode (coordinateWord x)) (toZ-ofZ {w = w64} (fits s j)) in (
+      search needs,
+      p .put-word .ensures
+          ∙ ap (λ w. overWords (l .loop .out) (a .k + j) (w ∷ [])) word
+          ∙ over-more (a .out .now) (a .k) (encoded (take j cs)) (encode (coordinateWord (getD cs j (pos 0))) ∷ []) (l .loop .inv .1) (ap (λ n. a .k + n) (sym (length-first cs j (l .loop .inv .0)))) (room l)
+          ∙ ap (overWords (a .out .now) (a .k)) (encoded-more cs j (p .before .before .before .before .loop-test .taken)),
+    )
 
 same-length : tie.Need-same-length Inv-loop μ-loop
 same-length c = long (c .before)

@@ -27,9 +27,10 @@ present c =
 
 returns : tie.Need-returns
 returns c =
-    let a = c .before .before .before .args in
-    ( omega (arith, ap (λ o. length (seeWords o)) (absent c))
-    , sym (ap (λ o. overWords (a .out .now) (a .k) (map encode (seeWords o))) (absent c) ∙ over-none (a .out .now) (a .k)) )
+    let a = c .before .before .before .args in (
+      omega (arith, ap (λ o. length (seeWords o)) (absent c)),
+      sym (ap (λ o. overWords (a .out .now) (a .k) (map encode (seeWords o))) (absent c) ∙ over-none (a .out .now) (a .k)),
+    )
 
 see-word-requires : tie.Need-see-word-requires
 see-word-requires c κs = subst SeeFits (present c) (c .before .before .before .pre .0)
@@ -49,11 +50,12 @@ returns-2 : tie.Need-returns-2
 returns-2 c =
     let p = c .before .before in
     let e = p .before .before .before in
-    let a = e .before .before .before .args in
-    ( omega (arith, ap (λ o. length (seeWords o)) (present e))
-    , p .put-word .ensures
-    ∙ ap (λ w. overWords (a .out .now) (a .k) (w ∷ [])) (p .before .before .see-word .ensures)
-    ∙ sym (ap (λ o. overWords (a .out .now) (a .k) (map encode (seeWords o))) (present e)) )
+    let a = e .before .before .before .args in (
+      omega (arith, ap (λ o. length (seeWords o)) (present e)),
+      p .put-word .ensures
+          ∙ ap (λ w. overWords (a .out .now) (a .k) (w ∷ [])) (p .before .before .see-word .ensures)
+          ∙ sym (ap (λ o. overWords (a .out .now) (a .k) (map encode (seeWords o))) (present e)),
+    )
 
 pub put-see-spec : {M : Type 1} → statement M
 put-see-spec =
