@@ -11,8 +11,8 @@ use Rattle.catalogues.specs.Catalogue.{Outcome, refused, accepted, mostEntries}
 use Rattle.catalogues.specs.Read.{State, outside, inside, after, closed, Step, next, stop, step, afterReading, atLast, readWords}
 use Rattle.catalogue.specs.declared.Catalogue.{Catalogue}
 use Rattle.catalogue.specs.declared.Entry.{Entry}
-use Rattle.catalogue.specs.declared.Phase.{Phase}
-use Rattle.catalogue.specs.declared.Phase.the-variants.{Outside, Inside, After, Closed}
+use Rattle.catalogue.specs.declared.reading.Phase.{Phase}
+use Rattle.catalogue.specs.declared.reading.Phase.the-variants.{Outside, Inside, After, Closed}
 use Rattle.catalogue.specs.Parts.{noEntry}
 use Rattle.catalogue.specs.Filled.{filled}
 use Rattle.catalogue.specs.Shown.{entryOf}

@@ -1,10 +1,9 @@
 -- The rows "after reading", as the code decides them entry by entry.
 use mathlib.Core.Path.{_≡_, refl, sym, ap, _∙_}
-use mathlib.Core.Bool.{Bool, true, false, not, _&&_, _||_}
-use mathlib.Core.List.{List, [], _∷_, map}
+use mathlib.Core.Bool.{Bool, true, false, not, _&&_}
+use mathlib.Core.List.{List, map}
 use mathlib.Core.Option.{Option, none, some}
 use Prim.Native.Nat.{ℕ}
-use lib.Dec.{eqb}
 use lib.ListN.{take}
 use Rattle.integers.specs.All.{take-map}
 use Rattle.lattices.specs.Volume.{isDependent}
@@ -13,6 +12,7 @@ use Rattle.catalogues.specs.Catalogue as definition
 use Rattle.catalogues.specs.Read.{isNumbered, dependentAt, lostAt}
 use Rattle.catalogue.specs.declared.Entry.{Entry}
 use Rattle.catalogue.specs.declared.Catalogue.{Catalogue}
+use Rattle.catalogue.specs.Filled.{any-map}
 use Rattle.catalogue.specs.Readings.{isNumber}
 use Rattle.catalogue.specs.Entries.{seeIn, entryIn, entriesIn, placeIf, Says}
 
@@ -24,8 +24,7 @@ dependent-at e h = record { place = ap (λ t. placeIf t (e .place)) h ∙ go (is
     go false = refl
 
 any-numbers : (n : ℕ) (l : List Entry) → any (isNumber n) (map (λ e. e .number) l) ≡ any (isNumbered n) (map entryIn l)
-any-numbers n [] = refl
-any-numbers n (e ∷ l) = ap (λ t. eqb (e .number) n || t) (any-numbers n l)
+any-numbers n l = any-map (isNumber n) (λ e. e .number) l ∙ sym (any-map (isNumbered n) entryIn l)
 
 pub lost-at : (c : Catalogue) (e : Entry) {t : Bool} → t ≡ (e .sees && not (any (isNumber (e .see)) (take (c .count) (map (λ e. e .number) (c .entries)))))
     → Says (lostAt (entriesIn c)) (entryIn e) t (e .at)

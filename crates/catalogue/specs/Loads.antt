@@ -1,4 +1,4 @@
--- A coordinate plus 20,000 as code computes it, and the words of coordinates one by one.
+-- What the code computes to write an entry: a coordinate plus 20,000, the words of coordinates one by one, and of a stored entry.
 use mathlib.Core.Path.{_≡_, sym, ap, _∙_, subst}
 use mathlib.Core.Bool.{false}
 use lib.Dec.{T}

@@ -2,7 +2,7 @@
 use mathlib.Core.Path.{_≡_, refl, sym, ap, ap₂, _∙_, subst}
 use mathlib.Core.Logic.{_≢_}
 use mathlib.Core.Bool.{true, false, cond, true≢false}
-use mathlib.Core.List.{List, [], _∷_}
+use mathlib.Core.List.{List, []}
 use Prim.Native.Nat.{ℕ, suc, _+_, _≤_, _<_}
 use native.Mathlib.Numerals.{add-one}
 use native.Mathlib.Omega.{arith}
@@ -16,9 +16,8 @@ use Rattle.catalogues.specs.Read.{State, outside, inside, after, closed, Step, 
 use Rattle.catalogues.specs.Moves.{Moves, by-head, by-coordinate, by-see, by-end, Going, moved}
 use Rattle.catalogues.specs.WellFormed.{Known, known-moves}
 use Rattle.catalogue.specs.declared.Entry.{Entry}
-use Rattle.catalogue.specs.declared.Reading.{Reading}
-use Rattle.catalogue.specs.Filled.{filled, filled-none}
-use Rattle.catalogue.specs.Parts.{noEntry}
+use Rattle.catalogue.specs.declared.reading.Reading.{Reading}
+use Rattle.catalogue.specs.Filled.{filled}
 use Rattle.catalogue.specs.Catalogues.{noCatalogue, stored, holding, catalogueOf, isClosed, wordsLast, wordsRead}
 use Rattle.catalogue.specs.Readings.{stopped, stepRead, Ready}
 use Rattle.catalogue.specs.States.{readingOf, stepOf, numbersOf, step-shown}

@@ -17,13 +17,13 @@ use Rattle.catalogues.specs.Catalogue as definition
 use Rattle.catalogues.specs.Catalogue.{Head, See, coordinates}
 use Rattle.catalogues.specs.Read.{State, outside, inside, after, closed, Step, next, stop, checked, isNumbered, withEntry, headRows, atHead, coordinateOf, withVector, atCoordinate, atEnd, step}
 use Rattle.catalogues.specs.WellFormed.{any-snoc, load-within}
-use Rattle.catalogue.specs.declared.Phase.{Phase}
-use Rattle.catalogue.specs.declared.Phase.the-variants.{Outside, Inside, After, Closed}
+use Rattle.catalogue.specs.declared.reading.Phase.{Phase}
+use Rattle.catalogue.specs.declared.reading.Phase.the-variants.{Outside, Inside, After, Closed}
 use Rattle.catalogue.specs.declared.Entry.{Entry}
-use Rattle.catalogue.specs.declared.Part.{Part}
-use Rattle.catalogue.specs.declared.Reading.{Reading}
-use Rattle.catalogue.specs.Filled.{filled, take-filled, filled-padded, map-snoc}
-use Rattle.catalogue.specs.Parts.{noEntry, noPart, started, whole}
+use Rattle.catalogue.specs.declared.parts.Part.{Part}
+use Rattle.catalogue.specs.declared.reading.Reading.{Reading}
+use Rattle.catalogue.specs.Filled.{filled, take-filled, filled-padded, map-snoc, any-map}
+use Rattle.catalogue.specs.Parts.{noEntry, noPart, started}
 use Rattle.catalogue.specs.Shown.{partOf, entryOf, part-coordinate, part-vector}
 use Rattle.catalogue.specs.Readings.{isNumber, going, stopped, headRead, vectorPhase, vectorRead, columnRead, coordinateRead, endRead, stepRead}
 
@@ -79,15 +79,11 @@ pub length-numbers : (es : List definition.Entry) → length (numbers es) ≡ le
 length-numbers [] = refl
 length-numbers (e ∷ es) = ap suc (length-numbers es)
 
-any-numbers : (n : ℕ) (es : List definition.Entry) → any (isNumber n) (numbers es) ≡ any (isNumbered n) es
-any-numbers n [] = refl
-any-numbers n (e ∷ es) = ap (λ t. eqb (e .head .number) n || t) (any-numbers n es)
-
 used-numbers : (n : ℕ) (es : List definition.Entry) → length es ≤ 256 → any (isNumber n) (take (length es) (filled 0 256 (numbers es))) ≡ any (isNumbered n) es
 used-numbers n es h =
     ap (λ k. any (isNumber n) (take k (filled 0 256 (numbers es)))) (sym (length-numbers es))
     ∙ ap (any (isNumber n)) (take-filled 0 256 (numbers es) (omega (arith, length-numbers es)))
-    ∙ any-numbers n es
+    ∙ any-map (isNumber n) (λ e. e .head .number) es
 
 -- ---- a head and the end, after entries
 

@@ -15,7 +15,7 @@ use Rattle.catalogues.specs.Catalogue.{Head}
 use Rattle.catalogues.specs.Read.{State, outside, inside, after, closed, coordinateOf, withVector, withCoordinate}
 use Rattle.catalogues.specs.Moves.{Moves, by-head, by-coordinate, by-see, by-end, Between, between, unreferred}
 use Rattle.catalogue.specs.declared.Entry.{Entry}
-use Rattle.catalogue.specs.declared.Reading.{Reading}
+use Rattle.catalogue.specs.declared.reading.Reading.{Reading}
 use Rattle.catalogue.specs.Filled.{filled, filled-next, map-snoc}
 use Rattle.catalogue.specs.Parts.{noEntry}
 use Rattle.catalogue.specs.Shown.{entryOf}

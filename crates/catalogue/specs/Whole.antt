@@ -1,12 +1,12 @@
 -- A whole file: what the code finds row by row is what the definition reads.
 use mathlib.Core.Path.{_≡_, refl, sym, ap, ap₂, _∙_, subst}
 use mathlib.Core.Logic.{_≢_}
-use mathlib.Core.Bool.{Bool, true, false, not}
+use mathlib.Core.Bool.{Bool, not}
 use mathlib.Core.List.{List, [], _∷_}
 use mathlib.Core.Option.{Option, none, some}
 use Prim.Native.Nat.{ℕ, suc, _%_, _≤_, _<_}
 use native.Mathlib.Omega.{arith}
-use lib.Dec.{eqb, ltb}
+use lib.Dec.{ltb}
 use lib.ListN.{length}
 use borrow.Author.Tests.{eq-eqb, ne-eqb, lt-ltb, le-ltb}
 use Rattle.integers.specs.All.{All}
@@ -19,7 +19,7 @@ use Rattle.catalogues.specs.Form.{EntryFits, Entered}
 use Rattle.catalogues.specs.Moves.{Moves, Going, moved}
 use Rattle.catalogues.specs.WellFormed.{Known, known-moves}
 use Rattle.catalogue.specs.declared.Catalogue.{Catalogue}
-use Rattle.catalogue.specs.Catalogues.{noCatalogue, stored, holding, catalogueOf, unless, wordsLast, wordsRead, ending, words-end}
+use Rattle.catalogue.specs.Catalogues.{noCatalogue, catalogueOf, unless, wordsLast, wordsRead, ending, words-end}
 use Rattle.catalogue.specs.Entries.{entriesIn, entries-back}
 
 -- ---- the words: a refusal has a number, and entries are within the limits
@@ -54,10 +54,6 @@ enters bytes = words-enter (outside []) 0 (wordsOf bytes) (record { few = omega 
 -- both rows as the code hands catalogues on
 abbrev pub ended : Catalogue → Catalogue
 ended c = unless 5 (firstPlace dependentAt (entriesIn c)) (unless 12 (firstPlace (lostAt (entriesIn c)) (entriesIn c)) c)
-
-pub unless-few : (n : ℕ) (a : Option ℕ) (c : Catalogue) → c .count ≤ 256 → unless n a c .count ≤ 256
-unless-few n (some p) c h = omega arith
-unless-few n none c h = h
 
 few : (o : Outcome) → Enters o → catalogueOf o .count ≤ 256
 few (refused n p) k = omega arith
@@ -96,20 +92,20 @@ module _ (o : Outcome) (k : Enters o) {c : Catalogue} (is : c ≡ catalogueOf o)
   after-words e = ap ended is ∙ sym (ends o k (sym (ap (λ c. c .refusal) is) ∙ e))
 
 -- 5, and 12 when there is no 5
-module _ (c : Catalogue) {d : Catalogue} (e : c .refusal ≡ 0) where
-  pub ended-5 : d ≡ unless 5 (firstPlace dependentAt (entriesIn c)) c → d .refusal ≢ 0 → d ≡ ended c
-  ended-5 is h = go (firstPlace dependentAt (entriesIn c)) is
+module _ (c : Catalogue) (e : c .refusal ≡ 0) {d : Catalogue} (is : d ≡ unless 5 (firstPlace dependentAt (entriesIn c)) c) where
+  pub ended-5 : d .refusal ≢ 0 → d ≡ ended c
+  ended-5 h = go (firstPlace dependentAt (entriesIn c)) is
     where
       go : (a : Option ℕ) → d ≡ unless 5 a c → d ≡ unless 5 a (unless 12 (firstPlace (lostAt (entriesIn c)) (entriesIn c)) c)
       go (some p) is = is
       go none is = absurd (h (ap (λ c. c .refusal) is ∙ e))
 
-  pub ended-12 : {r : Catalogue} → d ≡ unless 5 (firstPlace dependentAt (entriesIn c)) c → d .refusal ≡ 0 → r ≡ unless 12 (firstPlace (lostAt (entriesIn d)) (entriesIn d)) d → r ≡ ended c
-  ended-12 {r} is h last = go (firstPlace dependentAt (entriesIn c)) is
+  pub ended-12 : {r : Catalogue} → d .refusal ≡ 0 → r ≡ unless 12 (firstPlace (lostAt (entriesIn c)) (entriesIn c)) c → r ≡ ended c
+  ended-12 {r} h last = go (firstPlace dependentAt (entriesIn c)) is
     where
       go : (a : Option ℕ) → d ≡ unless 5 a c → r ≡ unless 5 a (unless 12 (firstPlace (lostAt (entriesIn c)) (entriesIn c)) c)
       go (some p) is = absurd (let z : 5 ≡ 0 = sym (ap (λ c. c .refusal) is) ∙ h in omega arith)
-      go none is = last ∙ ap (λ c. unless 12 (firstPlace (lostAt (entriesIn c)) (entriesIn c)) c) is
+      go none is = last
 
 -- ---- the row "whole file", then the words
 

@@ -1,13 +1,12 @@
 -- The end word after the entries, and the outcome of writing as the code hands it out.
-use mathlib.Core.Path.{_≡_, sym, ap, ap₂, _∙_}
-use mathlib.Core.Bool.{Bool, true, false}
+use mathlib.Core.Path.{_≡_, sym, ap, _∙_}
+use mathlib.Core.Bool.{Bool}
 use mathlib.Core.List.{List, [], _∷_, _++_, map, map-append}
 use Prim.Native.Nat.{ℕ, _+_, _*_, _≤_, _<_}
 use native.Mathlib.Omega.{arith}
-use lib.Dec.{ltb}
 use lib.ListN.{length, drop, length-append, length-map}
 use borrow.Author.Tests.{lt-ltb, le-ltb}
-use Rattle.catalogues.specs.Word.{end, encode, bytesOf}
+use Rattle.catalogues.specs.Word.{end, encode}
 use Rattle.catalogues.specs.WordLaws.{length-bytes}
 use Rattle.catalogues.specs.Catalogue.{Entry, accepted}
 use Rattle.catalogues.specs.Read.{checked}

@@ -17,12 +17,12 @@ ghost use Rattle.catalogue.specs.Readings.{isNumber};
 ghost use Rattle.catalogue.specs.Entries.{entryIn, entriesIn};
 use super::Catalogue;
 use super::Entry;
-use super::Phase;
-use super::Reading;
-use super::Word;
-use super::decode;
-use super::numbered;
-use super::word_at;
+use super::reading::Phase;
+use super::reading::Reading;
+use super::reading::numbered;
+use super::words::Word;
+use super::words::decode;
+use super::words::word_at;
 
 // Whether nothing may follow.
 fn closed(phase: Phase) -> bool

@@ -1,12 +1,10 @@
 -- Row by row, as in the definition.
-use mathlib.Core.Path.{_≡_, sym, ap, _∙_, subst}
+use mathlib.Core.Path.{_≡_, _∙_}
 use Prim.Native.Nat.{ℕ, _≤_}
-use native.Mathlib.Omega.{arith}
 use mathlib.Core.List.{List}
-use Rattle.catalogues.specs.Read.{firstPlace, dependentAt, read}
+use Rattle.catalogues.specs.Read.{read}
 use Rattle.catalogue.specs.Catalogues.{catalogueOf, ending}
-use Rattle.catalogue.specs.Entries.{entriesIn}
-use Rattle.catalogue.specs.Whole.{words, enters, ended, unless-few, few-entries, entries-fit, stays-refused, after-words, ended-5, ended-12, refused-8, refused-9, by-words}
+use Rattle.catalogue.specs.Whole.{words, enters, ended, few-entries, entries-fit, stays-refused, after-words, ended-5, ended-12, refused-8, refused-9, by-words}
 use borrow.Author.Needs.{needs}
 use Rattle.catalogue.proofs.read.Statement.{statement}
 use Rattle.catalogue.proofs.read.Tie as tie
@@ -36,7 +34,7 @@ to-file c = by-words (bytes c) (c .before .before .if1 .left) (c .before .if2 .l
 few : (c : tie.After-read-words) → c .read-words .result .count ≤ 256
 few c = few-entries (words (bytes c)) (enters (bytes c)) (c .read-words .ensures)
 
--- what the row 5 left has the outcome of the file
+-- what the rows after reading make of it is the outcome of the file
 closes : (c : tie.Else3) → ended (c .before .before .read-words .result) ≡ catalogueOf (read (bytes (c .before .before)))
 closes c =
     let w = c .before .before in
@@ -52,22 +50,19 @@ independent-requires c κs =
     let w = c .before .before in
     (few w, entries-fit (words (bytes w)) (enters (bytes w)) (w .read-words .ensures))
 
+found-requires : tie.Need-found-requires
+found-requires c κs = few (c .before .before .before)
+
 returns-4 : tie.Need-returns-4
 returns-4 c =
-    let i = c .before .before in
+    let i = c .before .before .before in
     ended-5 (i .before .before .before .read-words .result) (i .before .if3 .left) (i .independent .ensures) (c .if4 .taken) ∙ closes (i .before)
-
-found-requires : tie.Need-found-requires
-found-requires c κs =
-    let i = c .before .before in
-    let w = i .before .before .before in
-    let r = w .read-words .result in
-    subst (λ d. d .count ≤ 256) (sym (i .independent .ensures)) (unless-few 5 (firstPlace dependentAt (entriesIn r)) r (few w))
 
 returns-5 : tie.Need-returns-5
 returns-5 c =
-    let i = c .before .before .before in
-    ended-12 (i .before .before .before .read-words .result) (i .before .if3 .left) (i .independent .ensures) (c .before .if4 .left) (c .found .ensures) ∙ closes (i .before)
+    let f = c .before .before in
+    let i = f .before in
+    ended-12 (i .before .before .before .read-words .result) (i .before .if3 .left) (i .independent .ensures) (c .if4 .left) (f .found .ensures) ∙ closes (i .before)
 
 pub read-spec : {M : Type 1} → statement M
 read-spec =
@@ -80,6 +75,6 @@ read-spec =
     read-words-requires
     returns-3
     independent-requires
-    returns-4
     found-requires
+    returns-4
     returns-5)

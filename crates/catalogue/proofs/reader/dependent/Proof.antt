@@ -1,17 +1,15 @@
 -- The array of the entry's vectors has the same rows.
-use mathlib.Core.Path.{_≡_, sym, ap, _∙_}
-use Prim.Native.Nat.{ℕ, _*_, _≤_}
-use native.Mathlib.Nat.{mul-le-mul}
+use mathlib.Core.Path.{_≡_, sym, _∙_}
+use Prim.Native.Nat.{_*_, _≤_}
 use native.Mathlib.Omega.{arith}
 use lib.ListN.{length, take}
-use lib.Seq.{length-take-le}
 use mathlib.Core.Bool.{false}
 use Rattle.lattices.specs.Refusal.{any, tooLong}
 use Rattle.lattices.specs.RefusalLaws.{one-to}
-use Rattle.catalogues.specs.Form.{EntryFits}
 use Rattle.catalogues.specs.EntriesAccepted.{all-short}
 use Rattle.checks.specs.Rows.{short, long-rows, dependent-rows}
 use Rattle.catalogue.specs.Entries.{entryIn}
+use Rattle.catalogue.specs.Loads.{most, cut}
 use borrow.Author.Needs.{needs}
 use Rattle.catalogue.proofs.reader.dependent.Statement.{statement}
 use Rattle.catalogue.proofs.reader.dependent.Tie as tie
@@ -22,14 +20,11 @@ few c = one-to 4 _ (c .pre .head .d) .1
 narrow : (c : tie.Start) → c .args .e .m ≤ 4
 narrow c = one-to 4 _ (c .pre .head .m) .1
 
-most : (c : tie.Start) → c .args .e .d * c .args .e .m ≤ 16
-most c = omega (arith, mul-le-mul (few c) (narrow c))
-
 long : (c : tie.Start) → length (c .args .e .coordinates) ≡ 16
 long c = search needs
 
-cut : (c : tie.Start) → length (take (c .args .e .d * c .args .e .m) (c .args .e .coordinates)) ≡ c .args .e .d * c .args .e .m
-cut c = length-take-le _ _ (omega (arith, most c, long c))
+at-most : (c : tie.Start) → c .args .e .d * c .args .e .m ≤ 16
+at-most c = most (c .args .e) (c .pre) (long c)
 
 -- the vectors of the entry are within the length limit
 near : (c : tie.After-basis) → any tooLong (take (c .before .before .before .before .args .e .d) (c .basis .result)) ≡ false
@@ -40,18 +35,18 @@ near c =
     ∙ all-short (e .m) (entryIn e .vectors) (s .pre .vectors)
 
 mul-n : tie.Need-mul-n
-mul-n c = omega (arith, most (c .before .before))
+mul-n c = omega (arith, at-most (c .before .before))
 
 array-share-prefix-coordinates : tie.Need-array-share-prefix-coordinates
-array-share-prefix-coordinates c = omega (arith, most (c .before .before), long (c .before .before))
+array-share-prefix-coordinates c = omega (arith, at-most (c .before .before), long (c .before .before))
 
 slice-aggregate-basis : tie.Need-slice-aggregate-basis
-slice-aggregate-basis c = sym (cut (c .before .before .before))
+slice-aggregate-basis c = sym (cut (c .before .before .before .args .e) (c .before .before .before .pre) (long (c .before .before .before)))
 
 basis-requires : tie.Need-basis-requires
 basis-requires c κs =
     let s = c .before .before .before in
-    (few s, (narrow s, cut s))
+    (few s, (narrow s, cut (s .args .e) (s .pre) (long s)))
 
 dependent-requires : tie.Need-dependent-requires
 dependent-requires c κs = (few (c .before .before .before .before), short _ _ (near c))

@@ -1,7 +1,6 @@
 -- None of the first k entries is dependent, so the rest decides.
 use mathlib.Core.Path.{_≡_, refl, sym, ap, _∙_}
-use Prim.Native.Nat.{ℕ, _-_, _≤_}
-use native.Mathlib.Omega.{arith}
+use Prim.Native.Nat.{_-_}
 use lib.ListN.{length, drop}
 use Rattle.catalogues.specs.Read.{firstPlace, dependentAt}
 use Rattle.catalogues.specs.Form.{EntryFits}

@@ -1,9 +1,8 @@
 -- After i words the state is one that the definition reaches.
-use mathlib.Core.Path.{_≡_, refl, sym, ap, ap₂, _∙_, subst}
-use mathlib.Core.Logic.{_⊎_, ⊎-elim, _≢_}
-use mathlib.Core.List.{List, []}
-use Prim.Native.Nat.{ℕ, suc, _+_, _-_, _/_, _≤_, _<_}
-use native.Mathlib.Numerals.{add-one}
+use mathlib.Core.Path.{_≡_, sym, ap, _∙_, subst}
+use mathlib.Core.Logic.{_⊎_, ⊎-elim}
+use mathlib.Core.List.{[]}
+use Prim.Native.Nat.{ℕ, _-_, _/_, _≤_, _<_}
 use native.Mathlib.Omega.{arith}
 use lib.ListN.{length, getD, replicate}
 use borrow.Author.Needs.{needs}
@@ -12,10 +11,10 @@ use Rattle.catalogues.specs.Word.{decode, wordsOf}
 use Rattle.catalogues.specs.WordLaws.{length-words}
 use Rattle.catalogue.specs.Words.{wordIn}
 use Rattle.catalogue.specs.Filled.{filled, length-filled}
-use Rattle.catalogue.specs.Catalogues.{noCatalogue, stored, catalogueOf, isClosed}
+use Rattle.catalogue.specs.Catalogues.{noCatalogue, stored, catalogueOf}
 use Rattle.catalogue.specs.States.{numbersOf}
-use Rattle.catalogue.specs.Store.{put, noted}
-use Rattle.catalogue.specs.Progress.{Reached, at-start, reached-ready, refuses, moves-on, keeps, counted, counted-head, stores-one, stores-none, missing, complete}
+use Rattle.catalogue.specs.Store.{put}
+use Rattle.catalogue.specs.Progress.{Reached, at-start, reached-ready, refuses, keeps, counted, counted-head, stores-one, stores-none, missing, complete}
 use Rattle.catalogue.proofs.reader.read_words.Statement.{statement}
 use Rattle.catalogue.proofs.reader.read_words.Tie as tie
 

@@ -1,6 +1,6 @@
 -- One word for the head, d times m for the coordinates, one for a see word.
 use mathlib.Core.Path.{_≡_, ap}
-use Prim.Native.Nat.{ℕ, _+_, _*_, _≤_}
+use Prim.Native.Nat.{_+_, _*_, _≤_}
 use native.Mathlib.Omega.{arith}
 use lib.ListN.{length}
 use Rattle.catalogues.specs.Write.{seeWords, entryWords}

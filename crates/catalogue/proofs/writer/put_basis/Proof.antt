@@ -1,11 +1,9 @@
 -- A head's word, then the words of d times m coordinates.
 use mathlib.Core.Path.{_≡_, refl, sym, ap, _∙_}
 use mathlib.Core.List.{[], _∷_}
-use Prim.Native.Nat.{ℕ, _+_, _*_, _≤_}
+use Prim.Native.Nat.{_*_, _≤_}
 use native.Mathlib.Omega.{arith}
 use lib.ListN.{length, take}
-use Rattle.lattices.specs.RefusalLaws.{one-to}
-use Rattle.catalogues.specs.Form.{mostNumber}
 use Rattle.catalogues.specs.Word.{encode}
 use Rattle.catalogues.specs.Write.{headWord}
 use Rattle.catalogues.specs.ReadEntries.{head-range}

@@ -1,11 +1,10 @@
 -- The length is known first; then the entries, then the end word.
 use mathlib.Core.Path.{_≡_, sym, ap, _∙_}
 use mathlib.Core.List.{[], _∷_}
-use Prim.Native.Nat.{ℕ, _+_, _*_, _≤_}
+use Prim.Native.Nat.{_+_, _*_, _≤_}
 use native.Mathlib.Omega.{arith}
 use lib.ListN.{length}
-use Rattle.catalogues.specs.Write.{entriesWords, write}
-use Rattle.catalogues.specs.Output.{output}
+use Rattle.catalogues.specs.Write.{write}
 use Rattle.catalogues.specs.ReadBack.{sees-fit}
 use Rattle.catalogue.specs.Entries.{entriesIn, all-stored, length-entries}
 use Rattle.catalogue.specs.Over.{overWords}
