@@ -2,20 +2,28 @@
 ghost use Prim.Native.Nat.{_≤_};
 ghost use lib.ListN.{length};
 
-// The bytes of the words, lowest byte first, as far as there is room; how many there are.
+// The bytes of a word from n on, lowest byte first, if there is room; the index after them.
+fn put(bytes: &mut [u8], n: usize, w: u32) -> usize
+    requires { ⌜ n ≤ length (now bytes) ⌝ }
+    ensures { λ r. ⌜ r ≤ length (now (bytes .entry)) ⌝ }
+{
+    if bytes.len() - n < 4 {
+        return n;
+    }
+    bytes[n] = (w % 256) as u8;
+    bytes[n + 1] = (w / 256 % 256) as u8;
+    bytes[n + 2] = (w / 65536 % 256) as u8;
+    bytes[n + 3] = (w / 16777216) as u8;
+    n + 4
+}
+
+// The bytes of the words, as far as there is room; how many there are.
 pub(crate) fn store(words: &[u32], bytes: &mut [u8]) -> usize
     ensures { λ r. ⌜ r ≤ length (now (bytes .entry)) ⌝ }
 {
     let mut n = 0;
     for i in 0..words.len() {
-        if 4 <= bytes.len() - n {
-            let w = words[i];
-            bytes[n] = (w % 256) as u8;
-            bytes[n + 1] = (w / 256 % 256) as u8;
-            bytes[n + 2] = (w / 65536 % 256) as u8;
-            bytes[n + 3] = (w / 16777216) as u8;
-            n = n + 4;
-        }
+        n = put(bytes, n, words[i]);
     }
     n
 }
@@ -32,31 +40,25 @@ fn push(words: &mut [u32], at: usize, w: u32) -> usize
     at
 }
 
-// An entry of the unit vectors of this many coordinates; the index after its last coordinate.
-fn units(words: &mut [u32], at: usize, number: u32, side: usize) -> usize
+// An entry: its number, d and m as in a head, and the words after its head; the index after it.
+fn entry(words: &mut [u32], at: usize, number: u32, shape: u32, rest: &[u32]) -> usize
     requires { ⌜ at ≤ length (now words) ⌝ }
     ensures { λ r. ⌜ r ≤ length (now (words .entry)) ⌝ }
 {
-    let s = if side < 5 { side } else { 4 };
-    let d = s as u32;
-    let mut n = push(words, at, 268435456 + number % 1048576 * 256 + d * 17);
-    for k in 0..s * s {
-        let x = if k % (s + 1) == 0 { 20001 } else { 20000 };
-        n = push(words, n, 536870912 + x);
+    let mut n = push(words, at, 268435456 + number % 1048576 * 256 + shape % 256);
+    for k in 0..rest.len() {
+        n = push(words, n, rest[k]);
     }
     n
 }
 
-// Entries numbered from 1, with see words from each to itself or without, and the end word; how many words they take.
-pub(crate) fn fill(words: &mut [u32; 4609], count: u32, side: usize, sees: bool) -> usize
-    ensures { λ r. ⌜ r ≤ 4609 ⌝ }
+// Entries alike, numbered from 1, and the end word; how many words they take.
+pub(crate) fn alike(words: &mut [u32], count: u32, shape: u32, rest: &[u32]) -> usize
+    ensures { λ r. ⌜ r ≤ length (now (words .entry)) ⌝ }
 {
     let mut n = 0;
     for k in 0..count {
-        n = units(words, n, k + 1, side);
-        if sees {
-            n = push(words, n, 805306368 + (k + 1) % 1048576);
-        }
+        n = entry(words, n, k % 1048575 + 1, shape, rest);
     }
     push(words, n, 1073741824 + count % 1048576)
 }

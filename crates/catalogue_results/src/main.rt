@@ -1,9 +1,5 @@
 // One catalogue for each refusal of reading and each place that it can stand at, and the catalogues of document 01: what reading gives,
 // and what writing it out again leaves of a lent output.
-ghost use Prim.Native.Nat.{_≤_};
-ghost use lib.ListN.{length};
-use libc::STDOUT_FILENO;
-
 mod forms;
 mod shown;
 
@@ -12,6 +8,13 @@ fn run(name: &[u8], words: &[u32]) {
     let mut bytes = [0u8; 18440];
     let n = forms::store(words, &mut bytes);
     shown::outcome(name, &bytes[..n]);
+}
+
+// Entries alike, as many as are counted.
+fn many(name: &[u8], count: u32, shape: u32, rest: &[u32]) {
+    let mut words = [0u32; 4609];
+    let n = forms::alike(&mut words, count, shape, rest);
+    run(name, &words[..n]);
 }
 
 // The sole end word, and the catalogue in full.
@@ -48,9 +51,30 @@ fn whole_file() {
     shown::outcome(b"five bytes", b"\x00\x00\x00\x40\x00");
     shown::outcome(b"18441 bytes", &[0; 18441]);
     shown::outcome(b"18440 bytes", &[0; 18440]);
-    let mut words = [0u32; 4609];
-    let n = forms::fill(&mut words, 256, 4, true);
-    run(b"18436 bytes", &words[..n]);
+    many(
+        b"18436 bytes",
+        256,
+        0x44,
+        &[
+            0x20004E21,
+            0x20004E20,
+            0x20004E20,
+            0x20004E20,
+            0x20004E20,
+            0x20004E21,
+            0x20004E20,
+            0x20004E20,
+            0x20004E20,
+            0x20004E20,
+            0x20004E21,
+            0x20004E20,
+            0x20004E20,
+            0x20004E20,
+            0x20004E20,
+            0x20004E21,
+            0x30000001,
+        ],
+    );
 }
 
 // Kinds that cannot stand where they do.
@@ -91,9 +115,7 @@ fn missing() {
 
 // Row "head", its conditions in their order.
 fn heads() {
-    let mut words = [0u32; 4609];
-    let n = forms::fill(&mut words, 257, 1, false);
-    run(b"a 257th head", &words[..n]);
+    many(b"a 257th head", 257, 0x11, &[0x20004E21]);
     run(b"d = 0", &[0x10000101]);
     run(b"d = 5, m = 0", &[0x10000150]);
     run(b"m = 0", &[0x10000110]);

@@ -16,13 +16,16 @@ fn refused(number: u64, place: usize) {
     printing::newline();
 }
 
-// Writes a blank and the coordinate for each of the first n.
-fn vectors(coordinates: [i64; 16], n: usize) {
+// Writes a blank and z.
+fn coordinate(z: i64) {
+    io::write_all(STDOUT_FILENO, b" ");
+    printing::signed(z);
+}
+
+// Writes the coordinates at all sixteen places.
+fn vectors(coordinates: [i64; 16]) {
     for i in 0..16 {
-        if i < n {
-            io::write_all(STDOUT_FILENO, b" ");
-            printing::signed(coordinates[i]);
-        }
+        coordinate(coordinates[i]);
     }
     printing::newline();
 }
@@ -42,17 +45,24 @@ fn entry(e: catalogue::Entry) {
     printing::newline();
     io::write_all(STDOUT_FILENO, b"v");
     let coordinates = e.coordinates;
-    let n = if e.d < 5 && e.m < 5 { e.d * e.m } else { 16 };
-    vectors(coordinates, n);
+    vectors(coordinates);
 }
 
 // Writes the first entries.
 fn entries(c: catalogue::Catalogue) {
-    let n = if c.count < 5 { c.count } else { 5 };
-    for k in 0..n {
-        let e = c.entries[k];
-        entry(e);
+    for k in 0..5 {
+        if k < c.count {
+            let e = c.entries[k];
+            entry(e);
+        }
     }
+}
+
+// A byte as a number.
+fn wide(b: u8) -> u64
+    ensures { λ r. ⌜ r ≤ 255 ⌝ }
+{
+    b as u64
 }
 
 // A number that tells lists of bytes apart.
@@ -61,26 +71,31 @@ fn digest(bytes: &[u8]) -> u64
 {
     let mut s = 0;
     for i in 0..bytes.len() {
-        s = (s * 31 + bytes[i] as u64 + 1) % 65521;
+        s = (s * 31 + wide(bytes[i]) + 1) % 65521;
     }
     s
 }
 
-// Writes the outcome of writing to this much lent room, and the digest of the room afterwards.
-fn copied(bytes: &[u8], room: usize) {
-    let mut out = [170u8; 18440];
-    if room <= 18440 {
-        let w = catalogue::write_out(bytes, &mut out[..room]);
-        if w.refusal != 0 {
-            refused(w.refusal, w.place);
-        } else {
-            io::write_all(STDOUT_FILENO, b"written");
-            field(w.length as u64);
-            printing::newline();
-        }
-        io::write_all(STDOUT_FILENO, b"out");
-        field(digest(&out[..room]));
+// Writes the outcome of writing to the lent room, and the digest of the room afterwards.
+fn copied(bytes: &[u8], room: &mut [u8]) {
+    let w = catalogue::write_out(bytes, room);
+    if w.refusal != 0 {
+        refused(w.refusal, w.place);
+    } else {
+        io::write_all(STDOUT_FILENO, b"written");
+        field(w.length as u64);
         printing::newline();
+    }
+    io::write_all(STDOUT_FILENO, b"out");
+    field(digest(room));
+    printing::newline();
+}
+
+// Lends this many bytes.
+fn lend(bytes: &[u8], n: usize) {
+    let mut room = [170u8; 18440];
+    if n <= 18440 {
+        copied(bytes, &mut room[..n]);
     }
 }
 
@@ -92,7 +107,7 @@ pub(crate) fn outcome(name: &[u8], bytes: &[u8]) {
     let c = catalogue::read(bytes);
     if c.refusal != 0 {
         refused(c.refusal, c.place);
-        copied(bytes, 4);
+        lend(bytes, 4);
         return;
     }
     io::write_all(STDOUT_FILENO, b"read");
@@ -101,8 +116,8 @@ pub(crate) fn outcome(name: &[u8], bytes: &[u8]) {
     entries(c);
     let n = bytes.len();
     if 0 < n && n <= 18436 {
-        copied(bytes, n + 4);
-        copied(bytes, n);
-        copied(bytes, n - 1);
+        lend(bytes, n + 4);
+        lend(bytes, n);
+        lend(bytes, n - 1);
     }
 }
