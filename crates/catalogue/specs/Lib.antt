@@ -1,11 +1,20 @@
 -- The code of the catalogue against its definitions.
 pub mod Words
 pub mod Parts
-pub mod Catalogues
 pub mod Filled
 pub mod Shown
+pub mod Catalogues
 pub mod Readings
 pub mod Turns
 pub mod States
 pub mod Room
 pub mod Store
+pub mod Progress
+pub mod Entries
+pub mod Ended
+pub mod Whole
+pub mod Over
+pub mod Loads
+pub mod Upto
+pub mod Writing
+pub mod Again

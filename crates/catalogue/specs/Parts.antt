@@ -4,7 +4,7 @@ use Prim.Native.Nat.{ℕ, _+_}
 use lib.IntN.{ℤ, pos}
 use lib.ListN.{set, replicate}
 use Rattle.catalogue.specs.declared.Entry.{Entry}
-use Rattle.catalogue.specs.declared.Part.{Part}
+use Rattle.catalogue.specs.declared.parts.Part.{Part}
 
 abbrev pub noEntry : Entry
 noEntry = record { number = 0; d = 0; m = 0; place = 0; sees = false; see = 0; at = 0; coordinates = replicate 16 (pos 0) }

@@ -7,11 +7,11 @@ use lib.ListN.{length, take}
 use Rattle.lattices.specs.Refusal.{any, oneTo, tooLong}
 use Rattle.catalogues.specs.Word.{Word, head, coordinate, see, end, other}
 use Rattle.catalogues.specs.Read.{checked, coordinateOf}
-use Rattle.catalogue.specs.declared.Phase.{Phase}
-use Rattle.catalogue.specs.declared.Phase.the-variants.{Outside, Inside, After, Closed}
+use Rattle.catalogue.specs.declared.reading.Phase.{Phase}
+use Rattle.catalogue.specs.declared.reading.Phase.the-variants.{Outside, Inside, After, Closed}
 use Rattle.catalogue.specs.declared.Entry.{Entry}
-use Rattle.catalogue.specs.declared.Part.{Part}
-use Rattle.catalogue.specs.declared.Reading.{Reading}
+use Rattle.catalogue.specs.declared.parts.Part.{Part}
+use Rattle.catalogue.specs.declared.reading.Reading.{Reading}
 use Rattle.catalogue.specs.Parts.{noEntry, noPart, started, putCoordinate, putVector, whole}
 
 abbrev pub isNumber : ℕ → ℕ → Bool

@@ -4,22 +4,21 @@ use mathlib.Core.Logic.{_≢_}
 use mathlib.Core.Bool.{Bool, true, false}
 use mathlib.Core.List.{List, [], _∷_, _++_}
 use mathlib.Core.Option.{some}
-use Prim.Native.Nat.{ℕ, _*_, _≤_, _<_}
+use Prim.Native.Nat.{ℕ, _≤_, _<_}
 use native.Mathlib.Nat.{mul-le-mul-right}
 use native.Mathlib.Omega.{arith}
 use lib.Dec.{eqb}
 use lib.ListN.{length, length-append}
 use borrow.Author.Tests.{eqb-false, not-false}
 use Rattle.lattices.specs.Vector.{Vec}
-use Rattle.integers.specs.All.{All}
 use Rattle.lattices.specs.RefusalLaws.{one-to}
 use Rattle.catalogues.specs.Word.{Word}
 use Rattle.catalogues.specs.Catalogue as definition
 use Rattle.catalogues.specs.Catalogue.{Head, coordinates}
 use Rattle.catalogues.specs.Read.{State, outside, inside, after, closed, coordinateOf, withVector, withCoordinate}
-use Rattle.catalogues.specs.Form.{VectorFits}
 use Rattle.catalogues.specs.Moves.{Moves, by-head, by-coordinate, by-see, by-end}
 use Rattle.catalogues.specs.WellFormed.{Known}
+use Rattle.catalogues.specs.EntriesAccepted.{length-coordinates}
 use Rattle.catalogue.specs.Filled.{filled, length-filled}
 use Rattle.catalogue.specs.Readings.{Ready}
 use Rattle.catalogue.specs.States.{readingOf, numbersOf, Fine}
@@ -30,8 +29,6 @@ Due (outside es) = Unit {0}
 Due (inside es h vs v) = (length vs < h .d) × (length v < h .m)
 Due (after es h vs) = Unit {0}
 Due (closed es) = Unit {0}
-
--- ---- limits of a head
 
 -- ---- what is due is kept
 
@@ -62,10 +59,6 @@ due-moves (by-see es h vs s) k d = tt
 due-moves (by-end b) k d = tt
 
 -- ---- so there is room
-
-length-coordinates : (m : ℕ) (vs : List Vec) → All (VectorFits m) vs → length (coordinates vs) ≡ length vs * m
-length-coordinates m [] f = omega arith
-length-coordinates m (v ∷ vs) f = omega (arith, length-append v (coordinates vs), length-coordinates m vs (f .1), f .0 .full)
 
 places : (es : List definition.Entry) (h : Head) (vs : List Vec) (v : Vec) → Known (inside es h vs v) → Due (inside es h vs v) → length (coordinates vs ++ v) < 16
 places es h vs v k d =

@@ -10,7 +10,7 @@ use Rattle.lattices.specs.Vector.{Vec}
 use Rattle.catalogues.specs.Catalogue as definition
 use Rattle.catalogues.specs.Catalogue.{Head, See, coordinates}
 use Rattle.catalogue.specs.declared.Entry.{Entry}
-use Rattle.catalogue.specs.declared.Part.{Part}
+use Rattle.catalogue.specs.declared.parts.Part.{Part}
 use Rattle.catalogue.specs.Filled.{filled, filled-next}
 use Rattle.catalogue.specs.Parts.{started, putCoordinate, putVector, whole}
 

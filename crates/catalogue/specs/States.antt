@@ -3,8 +3,7 @@ use mathlib.Core.Path.{_≡_, refl, sym, ap, ap₂, _∙_}
 use mathlib.Core.Bool.{Bool, true, false, not, _&&_, _||_}
 use mathlib.Core.List.{List, [], _∷_, _++_, map}
 use mathlib.Core.Option.{Option, none, some}
-use Prim.Native.Nat.{ℕ, zero, suc, _+_, _≤_, _<_}
-use native.Mathlib.Nat.{le-of-suc-le-suc, not-suc-le-zero}
+use Prim.Native.Nat.{ℕ, suc, _+_, _≤_, _<_}
 use native.Mathlib.Omega.{arith}
 use lib.Dec.{leb, ltb, eqb}
 use lib.IntN.{pos, natAbs}
@@ -18,13 +17,13 @@ use Rattle.catalogues.specs.Catalogue as definition
 use Rattle.catalogues.specs.Catalogue.{Head, See, coordinates}
 use Rattle.catalogues.specs.Read.{State, outside, inside, after, closed, Step, next, stop, checked, isNumbered, withEntry, headRows, atHead, coordinateOf, withVector, atCoordinate, atEnd, step}
 use Rattle.catalogues.specs.WellFormed.{any-snoc, load-within}
-use Rattle.catalogue.specs.declared.Phase.{Phase}
-use Rattle.catalogue.specs.declared.Phase.the-variants.{Outside, Inside, After, Closed}
+use Rattle.catalogue.specs.declared.reading.Phase.{Phase}
+use Rattle.catalogue.specs.declared.reading.Phase.the-variants.{Outside, Inside, After, Closed}
 use Rattle.catalogue.specs.declared.Entry.{Entry}
-use Rattle.catalogue.specs.declared.Part.{Part}
-use Rattle.catalogue.specs.declared.Reading.{Reading}
-use Rattle.catalogue.specs.Filled.{filled, filled-padded, map-snoc}
-use Rattle.catalogue.specs.Parts.{noEntry, noPart, started, whole}
+use Rattle.catalogue.specs.declared.parts.Part.{Part}
+use Rattle.catalogue.specs.declared.reading.Reading.{Reading}
+use Rattle.catalogue.specs.Filled.{filled, take-filled, filled-padded, map-snoc, any-map}
+use Rattle.catalogue.specs.Parts.{noEntry, noPart, started}
 use Rattle.catalogue.specs.Shown.{partOf, entryOf, part-coordinate, part-vector}
 use Rattle.catalogue.specs.Readings.{isNumber, going, stopped, headRead, vectorPhase, vectorRead, columnRead, coordinateRead, endRead, stepRead}
 
@@ -76,24 +75,15 @@ step-rows (r ∷ rows) s = go (r .0) (step-rows rows s)
 
 -- ---- numbers that are used
 
-take-filled : {A : Type 0} (z : A) (n : ℕ) (l : List A) → length l ≤ n → take (length l) (filled z n l) ≡ l
-take-filled z n [] h = refl
-take-filled z zero (x ∷ l) h = absurd (not-suc-le-zero h)
-take-filled z (suc n) (x ∷ l) h = ap (λ k. x ∷ k) (take-filled z n l (le-of-suc-le-suc h))
-
 pub length-numbers : (es : List definition.Entry) → length (numbers es) ≡ length es
 length-numbers [] = refl
 length-numbers (e ∷ es) = ap suc (length-numbers es)
-
-any-numbers : (n : ℕ) (es : List definition.Entry) → any (isNumber n) (numbers es) ≡ any (isNumbered n) es
-any-numbers n [] = refl
-any-numbers n (e ∷ es) = ap (λ t. eqb (e .head .number) n || t) (any-numbers n es)
 
 used-numbers : (n : ℕ) (es : List definition.Entry) → length es ≤ 256 → any (isNumber n) (take (length es) (filled 0 256 (numbers es))) ≡ any (isNumbered n) es
 used-numbers n es h =
     ap (λ k. any (isNumber n) (take k (filled 0 256 (numbers es)))) (sym (length-numbers es))
     ∙ ap (any (isNumber n)) (take-filled 0 256 (numbers es) (omega (arith, length-numbers es)))
-    ∙ any-numbers n es
+    ∙ any-map (isNumber n) (λ e. e .head .number) es
 
 -- ---- a head and the end, after entries
 

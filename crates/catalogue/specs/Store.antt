@@ -15,21 +15,19 @@ use Rattle.catalogues.specs.Catalogue.{Head}
 use Rattle.catalogues.specs.Read.{State, outside, inside, after, closed, coordinateOf, withVector, withCoordinate}
 use Rattle.catalogues.specs.Moves.{Moves, by-head, by-coordinate, by-see, by-end, Between, between, unreferred}
 use Rattle.catalogue.specs.declared.Entry.{Entry}
-use Rattle.catalogue.specs.declared.Reading.{Reading}
+use Rattle.catalogue.specs.declared.reading.Reading.{Reading}
 use Rattle.catalogue.specs.Filled.{filled, filled-next, map-snoc}
 use Rattle.catalogue.specs.Parts.{noEntry}
 use Rattle.catalogue.specs.Shown.{entryOf}
+use Rattle.catalogue.specs.Catalogues.{stored}
 use Rattle.catalogue.specs.States.{readingOf, lastOf, last-snoc, numbers, numbersOf, length-numbers, Fine}
 
--- the whole entries of a state, and the array of them
+-- the whole entries of a state
 abbrev pub wholeIn : State → List definition.Entry
 wholeIn (outside es) = es
 wholeIn (inside es h vs v) = es
 wholeIn (after es h vs) = es
 wholeIn (closed es) = es
-
-abbrev pub stored : List definition.Entry → List Entry
-stored es = filled noEntry 256 (map entryOf es)
 
 -- what a step stores: the entry that its word made whole, if it did
 abbrev pub put : List Entry → Reading → Reading → List Entry
@@ -83,6 +81,14 @@ noted l n (coordinate load) = l
 noted l n (see number) = l
 noted l n (end count) = l
 noted l n (other k load) = l
+
+-- there is room for the number of a head
+abbrev pub Space : ℕ → Word → Type 0
+Space n (head number d m) = n < 256
+Space n (coordinate load) = Unit {0}
+Space n (see number) = Unit {0}
+Space n (end count) = Unit {0}
+Space n (other k load) = Unit {0}
 
 new-number : (es : List definition.Entry) (n : ℕ) → length es < 256 → set (filled 0 256 (numbers es)) (length es) n ≡ filled 0 256 (numbers es ++ (n ∷ []))
 new-number es n h =

@@ -14,10 +14,10 @@ use borrow.Author.Tests.{eq-eqb, ne-eqb}
 use Rattle.integers.specs.Size.{within-sub, fits-within}
 use Rattle.lattices.specs.Refusal.{any, oneTo, tooLong}
 use Rattle.catalogues.specs.Read.{checked, coordinateOf}
-use Rattle.catalogue.specs.declared.Phase.{Phase}
-use Rattle.catalogue.specs.declared.Phase.the-variants.{Inside, After}
-use Rattle.catalogue.specs.declared.Part.{Part}
-use Rattle.catalogue.specs.declared.Reading.{Reading}
+use Rattle.catalogue.specs.declared.reading.Phase.{Phase}
+use Rattle.catalogue.specs.declared.reading.Phase.the-variants.{Inside, After}
+use Rattle.catalogue.specs.declared.parts.Part.{Part}
+use Rattle.catalogue.specs.declared.reading.Reading.{Reading}
 use Rattle.catalogue.specs.Parts.{started, putCoordinate, putVector}
 use Rattle.catalogue.specs.Readings.{isNumber, going, stopped, headRead, vectorPhase, vectorRead, columnRead, coordinateRead}
 

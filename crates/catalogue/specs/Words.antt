@@ -7,8 +7,8 @@ use lib.ListN.{length, getD}
 use borrow.Author.Tests.{ne-eqb}
 use Rattle.catalogues.specs.Word as words
 use Rattle.catalogues.specs.Word.{wordsOf}
-use Rattle.catalogue.specs.declared.Word.{Word}
-use Rattle.catalogue.specs.declared.Word.the-variants.{Head, Coordinate, See, End, Other}
+use Rattle.catalogue.specs.declared.words.Word.{Word}
+use Rattle.catalogue.specs.declared.words.Word.the-variants.{Head, Coordinate, See, End, Other}
 
 abbrev pub wordIn : Word → words.Word
 wordIn (Head number d m) = words.head number d m

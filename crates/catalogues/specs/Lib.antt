@@ -4,6 +4,7 @@ pub mod Word
 pub mod Catalogue
 pub mod Read
 pub mod Write
+pub mod Output
 pub mod Form
 pub mod Placed
 pub mod Examples

@@ -38,7 +38,7 @@ see-fits : (es : List Entry) → All EntryFits es → (o : Option See) → Names
 see-fits es p none q = tt
 see-fits es p (some s) q = let r = number-of es (s .number) p q in omega arith
 
-sees-fit : (all es : List Entry) → All EntryFits all → All (λ e. Names all (e .see)) es → All (λ e. SeeFits (e .see)) es
+pub sees-fit : (all es : List Entry) → All EntryFits all → All (λ e. Names all (e .see)) es → All (λ e. SeeFits (e .see)) es
 sees-fit all [] p q = tt
 sees-fit all (e ∷ es) p q = (see-fits all p (e .see) (q .0), sees-fit all es p (q .1))
 

@@ -23,9 +23,12 @@ wordsSoFar (inside es h vs v) = entriesWords es ++ (headWord h ∷ map coordinat
 wordsSoFar (after es h vs) = entriesWords (withEntry es h vs none)
 wordsSoFar (closed es) = catalogueWords es
 
-entries-snoc : (es : List Entry) (e : Entry) → entriesWords (es ++ (e ∷ [])) ≡ entriesWords es ++ entryWords e
-entries-snoc [] e = append-nil (entryWords e)
-entries-snoc (f ∷ es) e = ap (λ l. entryWords f ++ l) (entries-snoc es e) ∙ sym (append-assoc (entryWords f) (entriesWords es) (entryWords e))
+pub entries-append : (es fs : List Entry) → entriesWords (es ++ fs) ≡ entriesWords es ++ entriesWords fs
+entries-append [] fs = refl
+entries-append (e ∷ es) fs = ap (λ l. entryWords e ++ l) (entries-append es fs) ∙ sym (append-assoc (entryWords e) (entriesWords es) (entriesWords fs))
+
+pub entries-snoc : (es : List Entry) (e : Entry) → entriesWords (es ++ (e ∷ [])) ≡ entriesWords es ++ entryWords e
+entries-snoc es e = entries-append es (e ∷ []) ∙ ap (λ l. entriesWords es ++ l) (append-nil (entryWords e))
 
 coordinates-snoc : (vs : List Vec) (v : Vec) → coordinates (vs ++ (v ∷ [])) ≡ coordinates vs ++ v
 coordinates-snoc [] v = append-nil v

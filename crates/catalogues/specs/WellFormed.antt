@@ -31,9 +31,12 @@ rest-false : (s t : Bool) → (s && t) ≡ false → s ≡ true → t ≡ false
 rest-false true t e f = e
 rest-false false t e f = absurd (true≢false (sym f))
 
+pub any-append : {A : Type 0} (f : A → Bool) (l k : List A) → any f l ≡ false → any f k ≡ false → any f (l ++ k) ≡ false
+any-append f [] k e q = q
+any-append f (b ∷ l) k e q = let p = neither (f b) (any f l) e in ap₂ _||_ (p .0) (any-append f l k (p .1) q)
+
 pub any-snoc : {A : Type 0} (f : A → Bool) (l : List A) (a : A) → any f l ≡ false → f a ≡ false → any f (l ++ (a ∷ [])) ≡ false
-any-snoc f [] a e q = ap (λ t. t || false) q
-any-snoc f (b ∷ l) a e q = let p = neither (f b) (any f l) e in ap₂ _||_ (p .0) (any-snoc f l a (p .1) q)
+any-snoc f l a e q = any-append f l (a ∷ []) e (ap (λ t. t || false) q)
 
 pub eqb-turned : (a b : ℕ) → eqb a b ≡ false → eqb b a ≡ false
 eqb-turned a b e = ne-eqb b a (λ p. eqb-false a b e (sym p))

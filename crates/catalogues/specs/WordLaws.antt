@@ -1,7 +1,7 @@
 -- Decoding and encoding are inverse to each other, and so are taking bytes as words and writing words as bytes.
 use mathlib.Core.Path.{_≡_, refl, ap, ap₂, _∙_}
 use mathlib.Core.Bool.{Bool, true, false}
-use mathlib.Core.List.{List, [], _∷_}
+use mathlib.Core.List.{List, [], _∷_, _++_}
 use mathlib.Core.Logic.{_≢_}
 use Prim.Native.Nat.{ℕ, suc, _+_, _*_, _/_, _%_, _^_, _<_}
 use native.Mathlib.Omega.{arith}
@@ -114,3 +114,14 @@ words-bytes (w ∷ words) h = ap₂ _∷_ (bytes-word w (h .0)) (words-bytes wor
 pub length-bytes : (words : List ℕ) → length (bytesOf words) ≡ length words * 4
 length-bytes [] = refl
 length-bytes (w ∷ words) = omega (arith, length-bytes words)
+
+pub length-words : (bytes : List ℕ) → length (wordsOf bytes) ≡ length bytes / 4
+length-words [] = refl
+length-words (a ∷ []) = refl
+length-words (a ∷ b ∷ []) = refl
+length-words (a ∷ b ∷ c ∷ []) = refl
+length-words (a ∷ b ∷ c ∷ d ∷ bytes) = omega (arith, length-words bytes)
+
+pub bytes-append : (ws us : List ℕ) → bytesOf (ws ++ us) ≡ bytesOf ws ++ bytesOf us
+bytes-append [] us = refl
+bytes-append (w ∷ ws) us = ap (λ l. w % 256 ∷ w / 256 % 256 ∷ w / 65536 % 256 ∷ w / 16777216 % 256 ∷ l) (bytes-append ws us)

@@ -10,17 +10,17 @@ use lib.IntN.{pos, natAbs}
 use lib.ListN.{length, length-append, length-map}
 use lib.Signed.{ltZ}
 use Rattle.lattices.specs.Vector.{Vec, N}
-use Rattle.lattices.specs.Refusal.{any, mostVectors, mostCoordinates, mostSquare, mostSize}
-use Rattle.integers.specs.All.{All}
-use Rattle.catalogues.specs.All.{all-append, all-map}
+use Rattle.lattices.specs.Refusal.{any, mostSquare, mostSize}
+use Rattle.integers.specs.All.{All, all-append}
+use Rattle.catalogues.specs.All.{all-map}
 use Rattle.catalogues.specs.Word.{Word, head, see, end, encode, bytesOf}
 use Rattle.catalogues.specs.WordLaws.{length-bytes}
 use Rattle.catalogues.specs.Catalogue.{Head, See, Entry, coordinates, mostEntries, mostBytes}
 use Rattle.catalogues.specs.Write.{headWord, coordinateWord, seeWords, entryWords, entriesWords, catalogueWords}
 use Rattle.catalogues.specs.Form.{HeadFits, VectorFits, EntryFits}
 use Rattle.integers.specs.Tests.{neither}
+use Rattle.catalogues.specs.EntriesAccepted.{few-coordinates}
 use Rattle.catalogues.specs.ReadVectors.{load-most}
-use Rattle.lattices.specs.RefusalLaws.{one-to}
 use Rattle.catalogues.specs.ReadEntries.{SeeFits, head-range}
 
 abbrev pub Small : Word → Type 0
@@ -67,22 +67,16 @@ words-small es few p q =
 
 -- ---- how many
 
-length-coordinates : (m : ℕ) (vs : List Vec) → m ≤ mostCoordinates → All (VectorFits m) vs → length (coordinates vs) ≤ length vs * mostCoordinates
-length-coordinates m [] h p = omega arith
-length-coordinates m (v ∷ vs) h p = omega (arith, length-append v (coordinates vs), p .0 .full, length-coordinates m vs h (p .1))
-
 length-see : (o : Option See) → length (seeWords o) ≤ 1
 length-see none = omega arith
 length-see (some s) = omega arith
 
-length-entry : (e : Entry) → EntryFits e → length (entryWords e) ≤ 18
+pub length-entry : (e : Entry) → EntryFits e → length (entryWords e) ≤ 18
 length-entry e p =
     let cs = coordinates (e .vectors) in
-    let d = one-to mostVectors (e .head .d) (p .head .d) in
-    let m = one-to mostCoordinates (e .head .m) (p .head .m) in
-    omega (arith, p .count, length-coordinates (e .head .m) (e .vectors) (m .1) (p .vectors), length-append (map coordinateWord cs) (seeWords (e .see)), length-map cs coordinateWord, length-see (e .see))
+    omega (arith, few-coordinates e p, length-append (map coordinateWord cs) (seeWords (e .see)), length-map cs coordinateWord, length-see (e .see))
 
-length-entries : (es : List Entry) → All EntryFits es → length (entriesWords es) ≤ length es * 18
+pub length-entries : (es : List Entry) → All EntryFits es → length (entriesWords es) ≤ length es * 18
 length-entries [] p = omega arith
 length-entries (e ∷ es) p = omega (arith, length-append (entryWords e) (entriesWords es), length-entry e (p .0), length-entries es (p .1))
 

@@ -1,0 +1,210 @@
+// One catalogue for each refusal of reading and each place that it can stand at, and the catalogues of document 01: what reading gives,
+// and what writing it out again leaves of a lent output.
+mod forms;
+mod shown;
+
+// The words as bytes.
+fn run(name: &[u8], words: &[u32]) {
+    let mut bytes = [0u8; 18440];
+    let n = forms::store(words, &mut bytes);
+    shown::outcome(name, &bytes[..n]);
+}
+
+// Entries alike, as many as are counted.
+fn many(name: &[u8], count: u32, shape: u32, rest: &[u32]) {
+    let mut words = [0u32; 4609];
+    let n = forms::alike(&mut words, count, shape, rest);
+    run(name, &words[..n]);
+}
+
+// The sole end word, and the catalogue in full.
+fn document() {
+    run(b"the sole word 40000000", &[0x40000000]);
+    shown::outcome(b"no bytes", b"");
+    run(
+        b"a catalogue in full",
+        &[
+            0x10000722,
+            0x20004E21,
+            0x20004E20,
+            0x20004E24,
+            0x20004E21,
+            0x10000922,
+            0x20004E22,
+            0x20004E20,
+            0x20004E20,
+            0x20004E23,
+            0x3000000C,
+            0x10000C22,
+            0x20004E20,
+            0x20004E21,
+            0x20004E21,
+            0x20004E20,
+            0x30000009,
+            0x40000003,
+        ],
+    );
+}
+
+// Row "whole file": 8 comes before 9, and 18,436 bytes are not too many.
+fn whole_file() {
+    shown::outcome(b"five bytes", b"\x00\x00\x00\x40\x00");
+    shown::outcome(b"18441 bytes", &[0; 18441]);
+    shown::outcome(b"18440 bytes", &[0; 18440]);
+    many(
+        b"18436 bytes",
+        256,
+        0x44,
+        &[
+            0x20004E21,
+            0x20004E20,
+            0x20004E20,
+            0x20004E20,
+            0x20004E20,
+            0x20004E21,
+            0x20004E20,
+            0x20004E20,
+            0x20004E20,
+            0x20004E20,
+            0x20004E21,
+            0x20004E20,
+            0x20004E20,
+            0x20004E20,
+            0x20004E20,
+            0x20004E21,
+            0x30000001,
+        ],
+    );
+}
+
+// Kinds that cannot stand where they do.
+fn kinds() {
+    run(b"a coordinate first", &[0x20004E20]);
+    run(b"a see word first", &[0x30000001]);
+    run(b"kind 0", &[0x00000000]);
+    run(
+        b"kind 15 after an entry",
+        &[0x10000111, 0x20004E21, 0xF0000000],
+    );
+    run(
+        b"a see word for a coordinate",
+        &[0x10000112, 0x20004E21, 0x30000001],
+    );
+    run(b"a head for a coordinate", &[0x10000112, 0x10000112]);
+    run(b"the end for a coordinate", &[0x10000111, 0x40000001]);
+    run(
+        b"a coordinate too many",
+        &[0x10000111, 0x20004E21, 0x20004E21],
+    );
+    run(
+        b"a second see word",
+        &[0x10000111, 0x20004E21, 0x30000001, 0x30000001],
+    );
+}
+
+// No word where one is due: after a head, within a vector, after an entry, after a see word.
+fn missing() {
+    run(b"no first coordinate", &[0x10000111]);
+    run(b"no second coordinate", &[0x10000112, 0x20004E21]);
+    run(b"no end", &[0x10000111, 0x20004E21]);
+    run(
+        b"no end after a see word",
+        &[0x10000111, 0x20004E21, 0x30000001],
+    );
+}
+
+// Row "head", its conditions in their order.
+fn heads() {
+    many(b"a 257th head", 257, 0x11, &[0x20004E21]);
+    run(b"d = 0", &[0x10000101]);
+    run(b"d = 5, m = 0", &[0x10000150]);
+    run(b"m = 0", &[0x10000110]);
+    run(b"m = 5, number 0", &[0x10000015]);
+    run(b"number 0", &[0x10000011]);
+    run(b"a number used", &[0x10000111, 0x20004E21, 0x10000111]);
+    run(
+        b"the greatest number",
+        &[0x1FFFFF11, 0x20004E21, 0x40000001],
+    );
+}
+
+// Row "coordinate", on both sides of its limits.
+fn coordinates() {
+    run(b"20000", &[0x10000111, 0x20009C40, 0x40000001]);
+    run(b"20001", &[0x10000111, 0x20009C41, 0x40000001]);
+    run(b"-20000", &[0x10000111, 0x20000000, 0x40000001]);
+    run(
+        b"20000,1",
+        &[0x10000112, 0x20009C40, 0x20004E21, 0x40000001],
+    );
+    run(
+        b"20001 before the last",
+        &[0x10000112, 0x20009C41, 0x20004E20],
+    );
+    run(
+        b"a second vector too long",
+        &[0x10000122, 0x20004E21, 0x20004E20, 0x20009C40, 0x20009C40],
+    );
+}
+
+// Row "end": 13, then 14.
+fn ends() {
+    run(b"another count", &[0x40000001]);
+    run(b"another count, words follow", &[0x40000001, 0x40000000]);
+    run(b"words follow", &[0x40000000, 0x40000000]);
+    run(
+        b"words follow an entry",
+        &[0x10000111, 0x20004E21, 0x40000001, 0x00000000],
+    );
+}
+
+// The rows "after reading": 5 at a head, 12 at a see word, 5 before 12.
+fn after_reading() {
+    run(b"a zero vector", &[0x10000111, 0x20004E20, 0x40000001]);
+    run(
+        b"the second is dependent, the first one's see word is lost",
+        &[
+            0x10000111,
+            0x20004E21,
+            0x30000009,
+            0x10000211,
+            0x20004E20,
+            0x40000002,
+        ],
+    );
+    run(
+        b"more vectors than coordinates",
+        &[0x10000121, 0x20004E21, 0x20004E22, 0x40000001],
+    );
+    run(
+        b"a lost see word",
+        &[0x10000111, 0x20004E21, 0x30000009, 0x40000001],
+    );
+    run(
+        b"the second see word is lost",
+        &[
+            0x10000111,
+            0x20004E21,
+            0x30000002,
+            0x10000211,
+            0x20004E22,
+            0x30000003,
+            0x40000002,
+        ],
+    );
+    run(
+        b"a see word that names its own",
+        &[0x10000111, 0x20004E21, 0x30000001, 0x40000001],
+    );
+}
+
+fn main() {
+    document();
+    whole_file();
+    kinds();
+    missing();
+    heads();
+    coordinates();
+    ends();
+    after_reading();
+}

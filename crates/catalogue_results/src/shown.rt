@@ -1,0 +1,123 @@
+// What reading gives, and what writing leaves, in lines of numbers.
+ghost use Prim.Native.Nat.{_≤_};
+use libc::STDOUT_FILENO;
+
+// Writes a blank and n.
+fn field(n: u64) {
+    io::write_all(STDOUT_FILENO, b" ");
+    printing::number(n);
+}
+
+// Writes the refusal and its place.
+fn refused(number: u64, place: usize) {
+    io::write_all(STDOUT_FILENO, b"refused");
+    field(number);
+    field(place as u64);
+    printing::newline();
+}
+
+// Writes a blank and z.
+fn coordinate(z: i64) {
+    io::write_all(STDOUT_FILENO, b" ");
+    printing::signed(z);
+}
+
+// Writes the coordinates at all sixteen places.
+fn vectors(coordinates: [i64; 16]) {
+    for i in 0..16 {
+        coordinate(coordinates[i]);
+    }
+    printing::newline();
+}
+
+// Writes an entry: number, d, m and place, the see word's number and place, the coordinates.
+fn entry(e: catalogue::Entry) {
+    io::write_all(STDOUT_FILENO, b"entry");
+    field(e.number as u64);
+    field(e.d as u64);
+    field(e.m as u64);
+    field(e.place as u64);
+    if e.sees {
+        io::write_all(STDOUT_FILENO, b" see");
+        field(e.see as u64);
+        field(e.at as u64);
+    }
+    printing::newline();
+    io::write_all(STDOUT_FILENO, b"v");
+    let coordinates = e.coordinates;
+    vectors(coordinates);
+}
+
+// Writes the first entries.
+fn entries(c: catalogue::Catalogue) {
+    for k in 0..5 {
+        if k < c.count {
+            let e = c.entries[k];
+            entry(e);
+        }
+    }
+}
+
+// A byte as a number.
+fn wide(b: u8) -> u64
+    ensures { λ r. ⌜ r ≤ 255 ⌝ }
+{
+    b as u64
+}
+
+// A number that tells lists of bytes apart.
+fn digest(bytes: &[u8]) -> u64
+    ensures { λ r. ⌜ r ≤ 65520 ⌝ }
+{
+    let mut s = 0;
+    for i in 0..bytes.len() {
+        s = (s * 31 + wide(bytes[i]) + 1) % 65521;
+    }
+    s
+}
+
+// Writes the outcome of writing to the lent room, and the digest of the room afterwards.
+fn copied(bytes: &[u8], room: &mut [u8]) {
+    let w = catalogue::write_out(bytes, room);
+    if w.refusal != 0 {
+        refused(w.refusal, w.place);
+    } else {
+        io::write_all(STDOUT_FILENO, b"written");
+        field(w.length as u64);
+        printing::newline();
+    }
+    io::write_all(STDOUT_FILENO, b"out");
+    field(digest(room));
+    printing::newline();
+}
+
+// Lends this many bytes.
+fn lend(bytes: &[u8], n: usize) {
+    let mut room = [170u8; 18440];
+    if n <= 18440 {
+        copied(bytes, &mut room[..n]);
+    }
+}
+
+// Writes the name of some bytes, what reading gives, and what writing leaves: with room beyond, and where they are accepted with room that is
+// just long enough, and with one byte less.
+pub(crate) fn outcome(name: &[u8], bytes: &[u8]) {
+    io::write_all(STDOUT_FILENO, name);
+    printing::newline();
+    let c = catalogue::read(bytes);
+    if c.refusal != 0 {
+        refused(c.refusal, c.place);
+        lend(bytes, 4);
+        return;
+    }
+    io::write_all(STDOUT_FILENO, b"read");
+    field(c.count as u64);
+    printing::newline();
+    entries(c);
+    let n = bytes.len();
+    if 0 < n && n <= 18436 {
+        lend(bytes, n + 4);
+        lend(bytes, n);
+        lend(bytes, n - 1);
+    }
+}
