@@ -14,10 +14,11 @@ use Rattle.reductions.specs.Demand.{Reduces, Nears, both-services}
 use Rattle.catalogues.specs.Catalogue.{Entry, accepted}
 use Rattle.catalogues.specs.Read.{read}
 use Rattle.catalogues.specs.Write.{write}
+use Rattle.catalogues.specs.Output.{Output, untouched, filledWith, output}
 use Rattle.catalogues.specs.Form.{Names, WellFormed}
 use Rattle.catalogues.specs.WellFormed.{well-formed}
 use Rattle.folds.specs.Fold.{standing, closedList, lookup, folded}
-use Rattle.folds.specs.Services.{Output, nothing, output, foldedOutcome, foldOf, lookedUp, lookedIn, lookupOf}
+use Rattle.folds.specs.Services.{foldedOutcome, foldOf, lookedUp, lookedIn, lookupOf}
 use Rattle.folds.specs.Meaning.{Among, Stands, Sees, Prints, Folds, Finds, LooksUp}
 use Rattle.folds.specs.SameLattice.{sound-entries, one-trans}
 use Rattle.folds.specs.StandingLaws.{all-self, stands-once, standing-is, standing-among, standing-one, standing-twice}
@@ -28,25 +29,25 @@ use Rattle.folds.specs.PrintingLaws.{folded-prints, printing-some, print
 
 -- ---- the answers for an accepted file
 
-pub accepted-fold : (file : List ℕ) (es : List Entry) → read file ≡ accepted es → (room : ℕ) → foldOf file room ≡ output room (accepted (folded es))
+pub accepted-fold : (file : List ℕ) (es : List Entry) → read file ≡ accepted es → (out : List ℕ) → foldOf file out ≡ output (accepted (folded es)) out
 unfolding foldOf
-accepted-fold file es e room = ap (λ o. output room (foldedOutcome o)) e
+accepted-fold file es e out = ap (λ o. output (foldedOutcome o) out) e
 
 pub accepted-lookup : (file : List ℕ) (es : List Entry) → read file ≡ accepted es → (n : ℕ) → lookupOf file n ≡ lookedUp (lookup (closedList es) n)
 unfolding lookupOf
 accepted-lookup file es e n = ap (λ o. lookedIn o n) e
 
 -- with room for the bytes or without
-given : List ℕ → Bool → Output
-given bytes b = elim b [ true ↦ nothing 16 0 | false ↦ record { refusal = 0; place = 0; bytes = bytes } ]
+given : List ℕ → List ℕ → Bool → Output
+given bytes out b = elim b [ true ↦ untouched 16 0 out | false ↦ filledWith bytes out ]
 
-pub enough-room : (room : ℕ) (es : List Entry) → length (write es) ≤ room → output room (accepted es) ≡ record { refusal = 0; place = 0; bytes = write es }
+pub enough-room : (es : List Entry) (out : List ℕ) → length (write es) ≤ length out → output (accepted es) out ≡ filledWith (write es) out
 unfolding given
-enough-room room es h = ap (given (write es)) (le-ltb room (length (write es)) h)
+enough-room es out h = ap (given (write es) out) (le-ltb (length out) (length (write es)) h)
 
-pub no-room : (room : ℕ) (es : List Entry) → room < length (write es) → output room (accepted es) ≡ nothing 16 0
+pub no-room : (es : List Entry) (out : List ℕ) → length out < length (write es) → output (accepted es) out ≡ untouched 16 0 out
 unfolding given
-no-room room es h = ap (given (write es)) (lt-ltb room (length (write es)) h)
+no-room es out h = ap (given (write es) out) (lt-ltb (length out) (length (write es)) h)
 
 -- ---- the fold
 
@@ -62,10 +63,10 @@ fold-theorem file es e =
     let fs = folded es in
     let readable = folded-accepted es w in
     record {
-      written = λ room h. accepted-fold file es e room ∙ enough-room room fs h;
-      short = λ room h. accepted-fold file es e room ∙ no-room room fs h;
+      written = λ out h. accepted-fold file es e out ∙ enough-room fs out h;
+      short = λ out h. accepted-fold file es e out ∙ no-room fs out h;
       readable = readable;
-      again = λ room. accepted-fold (write fs) fs readable room ∙ ap (λ gs. output room (accepted gs)) (folded-twice es w) ∙ sym (accepted-fold file es e room);
+      again = λ out. accepted-fold (write fs) fs readable out ∙ ap (λ gs. output (accepted gs) out) (folded-twice es w) ∙ sym (accepted-fold file es e out);
       printing = folded-prints es w;
       unique = λ a b s t o. stands-once o s t;
       apart = printing-apart fs (folded-prints es w) (w .entered .distinct);

@@ -2,6 +2,7 @@
 use mathlib.Core.Path.{_≡_, refl}
 use mathlib.Core.List.{List, [], _∷_, _++_, map}
 use Prim.Native.Nat.{ℕ}
+use lib.ListN.{replicate}
 use Rattle.lattices.specs.Vector.{dot, comb, _⊕_, _⊙_}
 use Rattle.lattices.specs.Volume.{squaredVolume, isDependent}
 use Rattle.lattices.specs.Nearest.{least, nearest}
@@ -10,9 +11,10 @@ use Rattle.minima.specs.Members.{isMember}
 use Rattle.catalogues.specs.Word.{decode, encode, bytesOf}
 use Rattle.catalogues.specs.Read.{step, readWords, read}
 use Rattle.catalogues.specs.Write.{write}
+use Rattle.catalogues.specs.Output.{Output, untouched, filledWith}
 use Rattle.catalogues.specs.Examples.{full}
 use Rattle.folds.specs.Fold.{sameLattice, standing, folded}
-use Rattle.folds.specs.Services.{Output, nothing, Lookup, nowhere, foldOf, lookupOf}
+use Rattle.folds.specs.Services.{Lookup, nowhere, foldOf, lookupOf}
 use Rattle.folds.specs.Listing.{listingOf}
 
 -- entry 12 is folded into 7, so the see word of entry 9 names 7
@@ -39,9 +41,6 @@ fullListing =
 abbrev pub refusedListing : List ℕ
 refusedListing = 114 ∷ 101 ∷ 102 ∷ 117 ∷ 115 ∷ 101 ∷ 100 ∷ 32 ∷ 49 ∷ 48 ∷ 32 ∷ 48 ∷ 10 ∷ []
 
-abbrev pub writes : List ℕ → Output
-writes bytes = record { refusal = 0; place = 0; bytes = bytes }
-
 abbrev pub finds : ℕ → Lookup
 finds n = record { refusal = 0; place = 0; standing = n }
 
@@ -56,27 +55,32 @@ circleFolded = 0x10000111 ∷ 0x20004E21 ∷ 0x30000003 ∷ 0x10000311 ∷ 0x200
 abbrev pub wider : List ℕ
 wider = 0x10000111 ∷ 0x20004E21 ∷ 0x10000212 ∷ 0x20004E21 ∷ 0x20004E20 ∷ 0x40000002 ∷ []
 
--- a file, the length of the output, and what the fold gives
+-- a file, the lent output, and what the fold gives
 pub record Example : Type 0 where
   pub file : List ℕ
-  pub room : ℕ
+  pub lent : List ℕ
   pub output : Output
 
-abbrev pub gives : List ℕ → ℕ → Output → Example
-gives words room output = record { file = bytesOf words; room = room; output = output }
+-- the bytes of these words, or a refusal, for an output of zeros
+abbrev pub gives : List ℕ → (room : ℕ) → List ℕ → Example
+gives words room folded = record { file = bytesOf words; lent = replicate room 0; output = filledWith (bytesOf folded) (replicate room 0) }
+
+abbrev pub refuses : List ℕ → (room number place : ℕ) → Example
+refuses words room number place = record { file = bytesOf words; lent = replicate room 0; output = untouched number place (replicate room 0) }
 
 abbrev pub examples : List Example
 examples =
-    gives full 48 (writes (bytesOf fullFolded))
-    ∷ gives full 47 (nothing 16 0)
-    ∷ gives fullFolded 48 (writes (bytesOf fullFolded))
-    ∷ gives circle 100 (writes (bytesOf circleFolded))
-    ∷ gives wider 24 (writes (bytesOf wider))
-    ∷ gives (0x40000000 ∷ []) 4 (writes (bytesOf (0x40000000 ∷ [])))
-    ∷ gives [] 0 (nothing 10 0)
+    gives full 50 fullFolded
+    ∷ gives full 48 fullFolded
+    ∷ refuses full 47 16 0
+    ∷ gives fullFolded 48 fullFolded
+    ∷ gives circle 100 circleFolded
+    ∷ gives wider 24 wider
+    ∷ gives (0x40000000 ∷ []) 4 (0x40000000 ∷ [])
+    ∷ refuses [] 0 10 0
     ∷ []
 
-pub folds-hold : map (λ x. foldOf (x .file) (x .room)) examples ≡ map (λ x. x .output) examples
+pub folds-hold : map (λ x. foldOf (x .file) (x .lent)) examples ≡ map (λ x. x .output) examples
 unfolding dot comb _⊕_ _⊙_ squaredVolume isDependent least nearest insert order credited greedy isMember decode encode step readWords read write sameLattice standing folded foldOf
 folds-hold = refl
 

@@ -11,8 +11,9 @@ use Rattle.lattices.specs.Vector.{Vec, N, In, Independent}
 use Rattle.catalogues.specs.Catalogue.{See, Entry, accepted}
 use Rattle.catalogues.specs.Read.{read}
 use Rattle.catalogues.specs.Write.{write}
+use Rattle.catalogues.specs.Output.{untouched, filledWith}
 use Rattle.folds.specs.Fold.{folded}
-use Rattle.folds.specs.Services.{nothing, foldOf, nowhere, lookupOf}
+use Rattle.folds.specs.Services.{foldOf, nowhere, lookupOf}
 
 -- ---- entries of a file
 
@@ -78,13 +79,13 @@ Apart (g ∷ gs) = All (λ h. ¬ OneLattice g h) gs × Apart gs
 
 -- ---- the fold of an accepted file with entries es
 pub record Folds (file : List ℕ) (es : List Entry) : Type 0 where
-  -- an output that is long enough receives the folded catalogue, and a shorter one is refused
-  pub written : (room : ℕ) → length (write (folded es)) ≤ room → foldOf file room ≡ record { refusal = 0; place = 0; bytes = write (folded es) }
-  pub short : (room : ℕ) → room < length (write (folded es)) → foldOf file room ≡ nothing 16 0
+  -- an output that is long enough receives the folded catalogue and keeps the rest; a shorter one is refused and stays as it was
+  pub written : (out : List ℕ) → length (write (folded es)) ≤ length out → foldOf file out ≡ filledWith (write (folded es)) out
+  pub short : (out : List ℕ) → length out < length (write (folded es)) → foldOf file out ≡ untouched 16 0 out
   -- which is an accepted catalogue
   pub readable : read (write (folded es)) ≡ accepted (folded es)
   -- and folds to the same bytes
-  pub again : (room : ℕ) → foldOf (write (folded es)) room ≡ foldOf file room
+  pub again : (out : List ℕ) → foldOf (write (folded es)) out ≡ foldOf file out
   -- it prints the standing entries in file order, and no others
   pub printing : Printing es es (folded es)
   -- no two standing entries generate one lattice, and no two entries printed

@@ -1,37 +1,20 @@
 -- Fold and lookup for every list of bytes: "A catalogue's rows run from 'whole file' to 'after reading'; the rows for lookup and output
 -- concern the call alone."
-use mathlib.Core.Bool.{true, false}
 use mathlib.Core.List.{List, []}
 use mathlib.Core.Option.{Option, none, some}
 use Prim.Native.Nat.{ℕ}
-use lib.Dec.{ltb}
-use lib.ListN.{length}
 use Rattle.catalogues.specs.Catalogue.{Outcome, refused, accepted}
 use Rattle.catalogues.specs.Read.{read}
-use Rattle.catalogues.specs.Write.{write}
+use Rattle.catalogues.specs.Output.{Output, output}
 use Rattle.folds.specs.Fold.{closedList, lookup, folded}
-
--- what is written to a lent output; a refusal writes nothing
-pub record Output : Type 0 where
-  pub refusal : ℕ
-  pub place : ℕ
-  pub bytes : List ℕ
-
-abbrev pub nothing : (number place : ℕ) → Output
-nothing number place = record { refusal = number; place = place; bytes = [] }
-
--- row "output, folded or not": "16 lent output shorter than what is to be written"; the catalogue's own refusals come first
-abbrev pub output : (room : ℕ) → Outcome → Output
-output room (refused n p) = nothing n p
-output room (accepted es) = elim (ltb room (length (write es))) [ true ↦ nothing 16 0 | false ↦ record { refusal = 0; place = 0; bytes = write es } ]
 
 abbrev pub foldedOutcome : Outcome → Outcome
 foldedOutcome (refused n p) = refused n p
 foldedOutcome (accepted es) = accepted (folded es)
 
--- the fold of a file, for an output of `room` bytes
-unfoldable pub foldOf : List ℕ → (room : ℕ) → Output
-foldOf file room = output room (foldedOutcome (read file))
+-- the fold of a file, written to a lent output
+unfoldable pub foldOf : (file out : List ℕ) → Output
+foldOf file out = output (foldedOutcome (read file)) out
 
 pub record Lookup : Type 0 where
   pub refusal : ℕ
