@@ -63,6 +63,19 @@ nth-tabulate zero f i h = absurd (not-suc-le-zero h)
 nth-tabulate (suc n) f zero h = refl
 nth-tabulate (suc n) f (suc i) h = nth-tabulate n (λ i. f (suc i)) i (le-of-suc-le-suc h)
 
+tabulate-all : (n : ℕ) (l : List ℤ) → length l ≡ n → tabulate n (nth l) ≡ l
+unfolding tabulate
+tabulate-all zero [] e = refl
+tabulate-all zero (x ∷ l) e = absurd (omega arith)
+tabulate-all (suc n) [] e = absurd (omega arith)
+tabulate-all (suc n) (x ∷ l) e = ap (λ t. x ∷ t) (tabulate-all n l (omega arith))
+
+-- the sixteen entries of the product, one by one
+pub wedged-entries : (a : Vec) (w : List ℤ) → let r = nth (wedged a w) in
+    (r 0 ∷ r 1 ∷ r 2 ∷ r 3 ∷ r 4 ∷ r 5 ∷ r 6 ∷ r 7 ∷ r 8 ∷ r 9 ∷ r 10 ∷ r 11 ∷ r 12 ∷ r 13 ∷ r 14 ∷ r 15 ∷ []) ≡ wedged a w
+unfolding tabulate
+wedged-entries a w = tabulate-all 16 (wedged a w) (length-wedged a w)
+
 -- at all sixteen places the two sides compute to the same sums
 sixteen : (x y z t : ℤ) (w : List ℤ)
     → tabulate 16 (λ s. expansion (x ∷ y ∷ z ∷ t ∷ []) w s 4) ≡ wedged (x ∷ y ∷ z ∷ t ∷ []) w

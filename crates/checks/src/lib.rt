@@ -91,11 +91,11 @@ fn any_long(b: [[i64; 4]; 4], d: usize) -> bool
 }
 
 // The entry at place s of the exterior product of a vector and a form: over the coordinates taken, from the last on.
-fn entry(a: [i64; 4], w: [i64; 16], s: usize) -> i64
+fn entry(a: [i64; 4], w: &[i64; 16], s: usize) -> i64
     requires { ⌜ ((i : ℕ) → Within 20000 (nth a i)) ⌝ }
-    requires { ⌜ ((i : ℕ) → Within 8000000000000 (nth w i)) ⌝ }
+    requires { ⌜ ((i : ℕ) → Within 8000000000000 (nth (now w) i)) ⌝ }
     requires { ⌜ s < 16 ⌝ }
-    ensures { λ r. ⌜ r ≡ nth (wedged a w) s ⌝ }
+    ensures { λ r. ⌜ r ≡ nth (wedged a (now (w .entry))) s ⌝ }
 {
     let mut sum = 0;
     let mut rest = s;
@@ -110,17 +110,30 @@ fn entry(a: [i64; 4], w: [i64; 16], s: usize) -> i64
     sum
 }
 
-// The exterior product of a vector and a form.
-fn wedge(a: [i64; 4], w: [i64; 16]) -> [i64; 16]
+// The exterior product of a vector and a form. Written out, each place is a constant where its entry is computed.
+fn wedge(a: [i64; 4], w: &[i64; 16]) -> [i64; 16]
     requires { ⌜ ((i : ℕ) → Within 20000 (nth a i)) ⌝ }
-    requires { ⌜ ((i : ℕ) → Within 8000000000000 (nth w i)) ⌝ }
-    ensures { λ r. ⌜ r ≡ wedged a w ⌝ }
+    requires { ⌜ ((i : ℕ) → Within 8000000000000 (nth (now w) i)) ⌝ }
+    ensures { λ r. ⌜ r ≡ wedged a (now (w .entry)) ⌝ }
 {
-    let mut r = [0; 16];
-    for s in 0..16 {
-        r[s] = entry(a, w, s);
-    }
-    r
+    [
+        entry(a, w, 0),
+        entry(a, w, 1),
+        entry(a, w, 2),
+        entry(a, w, 3),
+        entry(a, w, 4),
+        entry(a, w, 5),
+        entry(a, w, 6),
+        entry(a, w, 7),
+        entry(a, w, 8),
+        entry(a, w, 9),
+        entry(a, w, 10),
+        entry(a, w, 11),
+        entry(a, w, 12),
+        entry(a, w, 13),
+        entry(a, w, 14),
+        entry(a, w, 15),
+    ]
 }
 
 // The volume of the first d vectors, from the last on: the minors of vectors within the length limit are small.
@@ -134,7 +147,8 @@ fn volume(b: [[i64; 4]; 4], d: usize) -> [i64; 16]
     let mut i = d;
     while 0 < i {
         i -= 1;
-        w = wedge(b[i], w);
+        let next = wedge(b[i], &w);
+        w = next;
     }
     w
 }

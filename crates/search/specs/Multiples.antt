@@ -25,7 +25,7 @@ use Rattle.search.specs.Numbers.{moved, gainOf, negative, improvesOf}
 use Rattle.search.specs.Filled.{zero-row}
 use Rattle.search.specs.Fits.{nth-moved}
 use Rattle.search.specs.Found.{Better, None}
-use Rattle.search.specs.Steps.{steps, count}
+use Rattle.search.specs.Steps.{steps}
 
 -- taking the multiple q away leads to a smaller value: it shortens, or it keeps the length and lowers the coefficient
 abbrev pub Lowers : ℤ → ℤ → ℤ → Type 0
@@ -103,6 +103,11 @@ negative-single zero i q h l = absurd (omega arith)
 negative-single (suc n) zero q h l = below-< {x = q} {y = pos 0} (replicate n (pos 0)) (zeros (replicate n (pos 0))) l
 negative-single (suc n) (suc i) q h l = below-≡ {x = pos 0} {y = pos 0} (set (replicate n (pos 0)) i q) (zeros (set (replicate n (pos 0)) i q)) refl ∙ negative-single n i q (omega arith) l
 
+positive-single : (n i : ℕ) → i < n → negative (set (replicate n (pos 0)) i (pos 1)) ≡ false
+positive-single zero i h = absurd (omega arith)
+positive-single (suc n) zero h = below-> {x = pos 1} {y = pos 0} (replicate n (pos 0)) (zeros (replicate n (pos 0))) (ltZ-yes tt)
+positive-single (suc n) (suc i) h = below-≡ {x = pos 0} {y = pos 0} (set (replicate n (pos 0)) i (pos 1)) (zeros (set (replicate n (pos 0)) i (pos 1))) refl ∙ positive-single n i (omega arith)
+
 module _ (g : List (List ℤ)) (c : List ℤ) (i : ℕ) (short : i < 3) (q : ℤ) where
   gain-single : gainOf g (c ⊕ c) (single i q) ≡ q *ℤ (q *ℤ nth (getD g i []) i -ℤ pos 2 *ℤ nth c i)
   unfolding gainOf
@@ -134,44 +139,49 @@ module _ (g : List (List ℤ)) (c : List ℤ) (i : ℕ) (short : i < 3) (q : ℤ
     improves = lower l;
   }
 
--- ---- one vector: where neither 1 nor −1 leads to a smaller value, no list of the table does
+-- ---- where neither 1 nor −1 leads to a smaller value, the lists of one vector do not
 
 pub record Settled (k : ℕ) (g : List (List ℤ)) (c : List ℤ) : Type 0 where
   pub still : (i : ℕ) → i < k → Still (nth (getD g i []) i) (nth c i)
 
-module _ (g : List (List ℤ)) (c : List ℤ) (s : Still (nth (getD g 0 []) 0) (nth c 0)) where
-  plus : improvesOf g (c ⊕ c) (single 0 (pos 1)) ≡ false
+module _ (g : List (List ℤ)) (c : List ℤ) (i : ℕ) (short : i < 3) (s : Still (nth (getD g i []) i) (nth c i)) where
+  plus : improvesOf g (c ⊕ c) (single i (pos 1)) ≡ false
   unfolding improvesOf
   plus = pick (≤ℤ-or-<ℤ x (pos 0))
     where
       x : ℤ
-      x = gainOf g (c ⊕ c) (single 0 (pos 1))
+      x = gainOf g (c ⊕ c) (single i (pos 1))
 
       nonneg : pos 0 ≤ℤ x
-      nonneg = subst (λ x. pos 0 ≤ℤ x) (sym (gain-single g c 0 (omega arith) (pos 1))) (law (nth (getD g 0 []) 0) (nth c 0) (s .1))
+      nonneg = subst (λ x. pos 0 ≤ℤ x) (sym (gain-single g c i short (pos 1))) (law (nth (getD g i []) i) (nth c i) (s .1))
         where
           law : (n p : ℤ) → (pos 2 *ℤ p) ≤ℤ n → pos 0 ≤ℤ (pos 1 *ℤ (pos 1 *ℤ n -ℤ pos 2 *ℤ p))
           law n p h = by-nn (n ∷ p ∷ []) (le h) (search reads depth 20) (search reads depth 20) tt
 
-      pick : (x ≤ℤ pos 0) ⊎ (pos 0 <ℤ x) → negative (x ∷ single 0 (pos 1)) ≡ false
-      pick (inl k) = below-≡ {x = x} {y = pos 0} (single 0 (pos 1)) (zeros (single 0 (pos 1))) (≤ℤ-antisymm k nonneg) ∙ refl
-      pick (inr k) = below-> {x = x} {y = pos 0} (single 0 (pos 1)) (zeros (single 0 (pos 1))) k
+      pick : (x ≤ℤ pos 0) ⊎ (pos 0 <ℤ x) → negative (x ∷ single i (pos 1)) ≡ false
+      pick (inl k) = below-≡ {x = x} {y = pos 0} (single i (pos 1)) (zeros (single i (pos 1))) (≤ℤ-antisymm k nonneg) ∙ positive-single 3 i short
+      pick (inr k) = below-> {x = x} {y = pos 0} (single i (pos 1)) (zeros (single i (pos 1))) k
 
-  minus : improvesOf g (c ⊕ c) (single 0 (negsuc 0)) ≡ false
+  minus : improvesOf g (c ⊕ c) (single i (negsuc 0)) ≡ false
   unfolding improvesOf
-  minus = below-> {x = gainOf g (c ⊕ c) (single 0 (negsuc 0))} {y = pos 0} (single 0 (negsuc 0)) (zeros (single 0 (negsuc 0)))
-      (subst (λ x. pos 0 <ℤ x) (sym (gain-single g c 0 (omega arith) (negsuc 0))) (law (nth (getD g 0 []) 0) (nth c 0) (s .0)))
+  minus = below-> {x = gainOf g (c ⊕ c) (single i (negsuc 0))} {y = pos 0} (single i (negsuc 0)) (zeros (single i (negsuc 0)))
+      (subst (λ x. pos 0 <ℤ x) (sym (gain-single g c i short (negsuc 0))) (law (nth (getD g i []) i) (nth c i) (s .0)))
     where
       law : (n p : ℤ) → negℤ n <ℤ (pos 2 *ℤ p) → pos 0 <ℤ (negsuc 0 *ℤ (negsuc 0 *ℤ n -ℤ pos 2 *ℤ p))
       law n p h = by-lt (n ∷ p ∷ []) (lt h) (search reads depth 20) (search reads depth 20) tt
 
-pub few-none : (k : ℕ) → k < 2 → (g : List (List ℤ)) (c : List ℤ) → Settled k g c → None (count k) g (c ⊕ c)
+-- the first two pairs of the table are those of the first two vectors alone
+pub singles-none : (k : ℕ) → k ≤ 2 → (g : List (List ℤ)) (c : List ℤ) → Settled k g c → None (2 * k) g (c ⊕ c)
 unfolding steps _⊙_
-few-none zero h g c s i l = absurd (omega arith)
-few-none (suc zero) h g c s zero l = plus g c (s .still 0 (omega arith))
-few-none (suc zero) h g c s (suc zero) l = minus g c (s .still 0 (omega arith))
-few-none (suc zero) h g c s (suc (suc i)) l = absurd (omega arith)
-few-none (suc (suc k)) h g c s i l = absurd (omega arith)
+singles-none zero h g c s i l = absurd (omega arith)
+singles-none (suc k) h g c s zero l = plus g c 0 (omega arith) (s .still 0 (omega arith))
+singles-none (suc k) h g c s (suc zero) l = minus g c 0 (omega arith) (s .still 0 (omega arith))
+singles-none (suc k) h g c s (suc (suc zero)) l = plus g c 1 (omega arith) (s .still 1 (omega arith))
+singles-none (suc k) h g c s (suc (suc (suc zero))) l = minus g c 1 (omega arith) (s .still 1 (omega arith))
+singles-none (suc k) h g c s (suc (suc (suc (suc i)))) l = absurd (omega arith)
+
+pub fewer-settled : {k : ℕ} {g : List (List ℤ)} {c : List ℤ} (j : ℕ) → j ≤ k → Settled k g c → Settled j g c
+fewer-settled j h s = record { still = λ i l. s .still i (omega arith) }
 
 -- ---- bits
 

@@ -13,7 +13,7 @@ ghost use Rattle.lattices.specs.Nearest.{nearest};
 ghost use Rattle.lattices.specs.Answer.{padded};
 ghost use Rattle.minima.specs.Digits.{Bounded};
 ghost use Rattle.search.specs.Numbers.{moved, gainOf, negative, Sized};
-ghost use Rattle.search.specs.Found.{Found, Decided};
+ghost use Rattle.search.specs.Found.{Found, Decided, None};
 ghost use Rattle.search.specs.Multiples.{Lowers, Multiple, Settled};
 ghost use Rattle.search.specs.Gram.{Products, Gram};
 ghost use Rattle.search.specs.Searchable.{Searchable};
@@ -131,16 +131,18 @@ struct Step {
     better: bool,
 }
 
-// The first list of the table that improves. A list and its opposite differ in their change by four inner products, not twelve.
+// The first list of the table that improves, where those of one vector, the first two pairs, do not. A list and its opposite differ in their change by four inner products, not twelve.
 fn walk(g: [[i64; 3]; 3], h: [i64; 3], k: usize) -> Step
     requires { ⌜ k ≤ 3 ⌝ }
     requires { ⌜ Sized 4000000000 g h ⌝ }
+    requires { ⌜ 2 ≤ k ⌝ }
+    requires { ⌜ None 4 g h ⌝ }
     ensures { λ r. ⌜ Decided k g h r ⌝ }
 {
     let n = PAIRS[k];
     // once before the loop: a constant is built wherever it is named
     let lists = LISTS;
-    for i in 0..n {
+    for i in 2..n {
         let e = lists[2 * i];
         let v = gain(g, h, e);
         if improves(v, e) {

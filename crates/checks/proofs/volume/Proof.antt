@@ -35,8 +35,8 @@ array-copy-out-wedge c = search needs
 
 wedge-requires : tie.Need-wedge-requires Inv-loop μ-loop
 wedge-requires c κs =
-    let s = c .before .before .before in
-    let l = c .before .before .loop in
+    let s = c .before .before .before .before in
+    let l = c .before .before .before .loop in
     let rest = drop (l .i) (take (s .args .d) (s .args .t1)) in (
       short-within (getD (s .args .t1) (l .i - 1) []) (s .pre .1 (l .i - 1) (omega arith)),
       λ j. subst (λ w. Within 8000000000000 (nth w j)) (sym (l .inv .1))
@@ -48,8 +48,8 @@ loop-less c = search needs
 
 loop-again : tie.Need-loop-again Inv-loop μ-loop
 loop-again c =
-    let a = c .before .before .before .before .args in
-    let l = c .before .before .before .loop in
+    let a = c .before .before .before .before .before .args in
+    let l = c .before .before .before .before .loop in
     let back : l .i - 1 + 1 ≡ l .i = omega arith in (
       search needs,
       c .wedge .ensures

@@ -1,79 +1,103 @@
--- The first s entries are those of the exterior product.
-use mathlib.Core.List.{[], _∷_, _++_}
-use mathlib.Core.Path.{_≡_, refl, sym, ap, ap₂, _∙_}
-use Prim.Native.Nat.{_≤_, _-_}
-use native.Mathlib.Numerals.{add-one}
-use native.Mathlib.Omega.{arith}
-use lib.Seq.{take-suc, take-suc-set, take-all}
-use lib.ListN.{take, length, set, length-set}
-use lib.IntN.{pos}
-use mir.Val.{ofZ, toZ}
+-- The sixteen entries are those of the exterior product.
+use mathlib.Core.Path.{refl, ap₂, _∙_}
+use mathlib.Core.List.{_∷_}
 use mir.Facts.{toZ-ofZ}
 use mir.Syntax.{w64}
+use denote.Ref.{now}
+use Rattle.checks.specs.Minors.{wedged-entries}
 use borrow.Author.Needs.{needs}
-use Rattle.lattices.specs.Vector.{nth}
-use Rattle.checks.specs.Minors.{length-wedged, wedged}
 use Rattle.checks.proofs.wedge.Statement.{statement}
 use Rattle.checks.proofs.wedge.Tie as tie
+use Rattle.checks.proofs.entry.Reads as entry-reads
 
-abbrev Inv-loop : tie.InvT-loop
-Inv-loop a w r₀ s₀ r s = (s ≤ 16) × ((length r ≡ 16) × (take s r ≡ take s (wedged a w)))
-
-abbrev μ-loop : tie.MeasureT-loop
-μ-loop a w r₀ s₀ r s = 16 - s
-
-loop-holds : tie.Need-loop-holds Inv-loop μ-loop
-loop-holds c = (search needs, (refl, refl))
-
-entry-requires : tie.Need-entry-requires Inv-loop μ-loop
+entry-requires : tie.Need-entry-requires
 entry-requires c κs = search needs
 
-mul-r : tie.Need-mul-r Inv-loop μ-loop
-mul-r c = search needs
+entry-requires-2 : tie.Need-entry-requires-2
+entry-requires-2 c κs = search needs
 
-array-set-from-r : tie.Need-array-set-from-r Inv-loop μ-loop
-array-set-from-r c = search needs
+entry-requires-3 : tie.Need-entry-requires-3
+entry-requires-3 c κs = search needs
 
-add-s : tie.Need-add-s Inv-loop μ-loop
-add-s c = search needs
+entry-requires-4 : tie.Need-entry-requires-4
+entry-requires-4 c κs = search needs
 
-loop-less : tie.Need-loop-less Inv-loop μ-loop
-loop-less c = search needs
+entry-requires-5 : tie.Need-entry-requires-5
+entry-requires-5 c κs = search needs
 
-loop-again : tie.Need-loop-again Inv-loop μ-loop
-loop-again c =
-    let a = c .before .before .before .args in
-    let l = c .before .before .loop in
-    let x : toZ w64 (ofZ w64 (c .entry .result)) ≡ nth (wedged (a .a) (a .w)) (l .s) = toZ-ofZ {w = w64} (record { sfits = c .entry .ok }) ∙ c .entry .ensures in (
-      search needs,
-      (
-        length-set (l .r) (l .s) _ ∙ l .inv .1 .0,
-        ap (λ n. take n (set (l .r) (l .s) (toZ w64 (ofZ w64 (c .entry .result))))) (add-one (l .s))
-            ∙ take-suc-set (l .r) (l .s) _ (omega (arith, l .inv .1 .0))
-            ∙ ap₂ (λ t x. t ++ (x ∷ [])) (l .inv .1 .1) x
-            ∙ sym (take-suc (wedged (a .a) (a .w)) (l .s) (pos 0) (omega (arith, length-wedged (a .a) (a .w))))
-            ∙ ap (λ n. take n (wedged (a .a) (a .w))) (sym (add-one (l .s))),
-      ),
-    )
+entry-requires-6 : tie.Need-entry-requires-6
+entry-requires-6 c κs = search needs
 
-returns : tie.Need-returns Inv-loop μ-loop
+entry-requires-7 : tie.Need-entry-requires-7
+entry-requires-7 c κs = search needs
+
+entry-requires-8 : tie.Need-entry-requires-8
+entry-requires-8 c κs = search needs
+
+entry-requires-9 : tie.Need-entry-requires-9
+entry-requires-9 c κs = search needs
+
+entry-requires-10 : tie.Need-entry-requires-10
+entry-requires-10 c κs = search needs
+
+entry-requires-11 : tie.Need-entry-requires-11
+entry-requires-11 c κs = search needs
+
+entry-requires-12 : tie.Need-entry-requires-12
+entry-requires-12 c κs = search needs
+
+entry-requires-13 : tie.Need-entry-requires-13
+entry-requires-13 c κs = search needs
+
+entry-requires-14 : tie.Need-entry-requires-14
+entry-requires-14 c κs = search needs
+
+entry-requires-15 : tie.Need-entry-requires-15
+entry-requires-15 c κs = search needs
+
+entry-requires-16 : tie.Need-entry-requires-16
+entry-requires-16 c κs = search needs
+
+returns : tie.Need-returns
 returns c =
-    let a = c .before .before .args in
-    let l = c .before .loop in
-    let p : length (l .r) ≤ l .s = search needs in
-    sym (take-all (l .s) (l .r) p) ∙ l .inv .1 .1 ∙ take-all (l .s) (wedged (a .a) (a .w)) (omega (arith, length-wedged (a .a) (a .w)))
+    let s = c .before .before .before .before .before .before .before .before .before .before .before .before .before .before .before .before in
+    (ap₂ _∷_ (toZ-ofZ {w = w64} (record { sfits = c .before .before .before .before .before .before .before .before .before .before .before .before .before .before .before .entry .ok }) ∙ c .before .before .before .before .before .before .before .before .before .before .before .before .before .before .before .entry .ensures)
+    (ap₂ _∷_ (toZ-ofZ {w = w64} (record { sfits = c .before .before .before .before .before .before .before .before .before .before .before .before .before .before .entry2 .ok }) ∙ c .before .before .before .before .before .before .before .before .before .before .before .before .before .before .entry2 .ensures)
+    (ap₂ _∷_ (toZ-ofZ {w = w64} (record { sfits = c .before .before .before .before .before .before .before .before .before .before .before .before .before .entry3 .ok }) ∙ c .before .before .before .before .before .before .before .before .before .before .before .before .before .entry3 .ensures)
+    (ap₂ _∷_ (toZ-ofZ {w = w64} (record { sfits = c .before .before .before .before .before .before .before .before .before .before .before .before .entry4 .ok }) ∙ c .before .before .before .before .before .before .before .before .before .before .before .before .entry4 .ensures)
+    (ap₂ _∷_ (toZ-ofZ {w = w64} (record { sfits = c .before .before .before .before .before .before .before .before .before .before .before .entry5 .ok }) ∙ c .before .before .before .before .before .before .before .before .before .before .before .entry5 .ensures)
+    (ap₂ _∷_ (toZ-ofZ {w = w64} (record { sfits = c .before .before .before .before .before .before .before .before .before .before .entry6 .ok }) ∙ c .before .before .before .before .before .before .before .before .before .before .entry6 .ensures)
+    (ap₂ _∷_ (toZ-ofZ {w = w64} (record { sfits = c .before .before .before .before .before .before .before .before .before .entry7 .ok }) ∙ c .before .before .before .before .before .before .before .before .before .entry7 .ensures)
+    (ap₂ _∷_ (toZ-ofZ {w = w64} (record { sfits = c .before .before .before .before .before .before .before .before .entry8 .ok }) ∙ c .before .before .before .before .before .before .before .before .entry8 .ensures)
+    (ap₂ _∷_ (toZ-ofZ {w = w64} (record { sfits = c .before .before .before .before .before .before .before .entry9 .ok }) ∙ c .before .before .before .before .before .before .before .entry9 .ensures)
+    (ap₂ _∷_ (toZ-ofZ {w = w64} (record { sfits = c .before .before .before .before .before .before .entry10 .ok }) ∙ c .before .before .before .before .before .before .entry10 .ensures)
+    (ap₂ _∷_ (toZ-ofZ {w = w64} (record { sfits = c .before .before .before .before .before .entry11 .ok }) ∙ c .before .before .before .before .before .entry11 .ensures)
+    (ap₂ _∷_ (toZ-ofZ {w = w64} (record { sfits = c .before .before .before .before .entry12 .ok }) ∙ c .before .before .before .before .entry12 .ensures)
+    (ap₂ _∷_ (toZ-ofZ {w = w64} (record { sfits = c .before .before .before .entry13 .ok }) ∙ c .before .before .before .entry13 .ensures)
+    (ap₂ _∷_ (toZ-ofZ {w = w64} (record { sfits = c .before .before .entry14 .ok }) ∙ c .before .before .entry14 .ensures)
+    (ap₂ _∷_ (toZ-ofZ {w = w64} (record { sfits = c .before .entry15 .ok }) ∙ c .before .entry15 .ensures)
+    (ap₂ _∷_ (toZ-ofZ {w = w64} (record { sfits = c .entry16 .ok }) ∙ c .entry16 .ensures)
+    refl))))))))))))))))
+    ∙ wedged-entries (s .args .a) (now (s .args .w))
 
 pub wedge-spec : {M : Type 1} → statement M
 wedge-spec =
     tie.close
     (tie.spec
-    Inv-loop
-    μ-loop
-    loop-holds
     entry-requires
-    mul-r
-    array-set-from-r
-    add-s
-    loop-less
-    loop-again
+    entry-requires-2
+    entry-requires-3
+    entry-requires-4
+    entry-requires-5
+    entry-requires-6
+    entry-requires-7
+    entry-requires-8
+    entry-requires-9
+    entry-requires-10
+    entry-requires-11
+    entry-requires-12
+    entry-requires-13
+    entry-requires-14
+    entry-requires-15
+    entry-requires-16
     returns)

@@ -16,7 +16,7 @@ use Rattle.search.specs.Numbers.{gainOf, negative, improvesOf}
 use Rattle.search.specs.Fits.{change-within, pair-within, gain-opposite}
 use Rattle.search.specs.Multiples.{within-twice}
 use Rattle.search.specs.Found.{Decided, None, none-pair, decided-at, decided-none}
-use Rattle.search.specs.Steps.{steps, pairs, pairs-≤, steps-bounded, steps-long, opposite-at}
+use Rattle.search.specs.Steps.{steps, pairs, pairs-≤, two-pairs, steps-bounded, steps-long, opposite-at}
 use borrow.Author.Needs.{needs}
 use Rattle.search.proofs.walk.Statement.{statement}
 use Rattle.search.proofs.walk.Tie as tie
@@ -39,7 +39,7 @@ array-read-n c = search needs
 -- the constant table is the table of steps
 loop-holds : tie.Need-loop-holds Inv-loop μ-loop
 unfolding steps _⊙_
-loop-holds c = (refl, (search needs, λ j h. absurd (omega arith)))
+loop-holds c = (refl, (two-pairs (c .args .k) (c .pre .0) (c .pre .1 .1 .0), c .pre .1 .1 .1))
 
 few : (c : tie.In-loop Inv-loop μ-loop) → c .before .loop .i < 13
 few c = omega (arith, pairs-≤ (c .before .before .args .k) (c .before .before .pre .0))
@@ -59,7 +59,7 @@ array-copy-out-e c = omega (arith, few c)
 gain-requires : tie.Need-gain-requires Inv-loop μ-loop
 gain-requires c κs =
     let a = c .before .before in
-    (a .before .pre .1, subst (λ t. Bounded 1 (getD t (2 * a .loop .i) [])) (sym (a .loop .inv .0)) (bounded (c .before)))
+    (a .before .pre .1 .0, subst (λ t. Bounded 1 (getD t (2 * a .loop .i) [])) (sym (a .loop .inv .0)) (bounded (c .before)))
 
 -- the change that a list makes, and its size
 changed : (c : tie.After-gain Inv-loop μ-loop) →
@@ -73,7 +73,7 @@ change c =
     let b = c .before .before in
     let a = b .before in
     subst (Within 15600000000) (sym (changed c))
-    (change-within (a .before .args .g) (a .before .args .h) (getD steps (2 * a .loop .i) []) (a .before .pre .1) (steps-long (2 * a .loop .i) (omega (arith, few b))) (bounded b))
+    (change-within (a .before .args .g) (a .before .args .h) (getD steps (2 * a .loop .i) []) (a .before .pre .1 .0) (steps-long (2 * a .loop .i) (omega (arith, few b))) (bounded b))
 
 improves-requires : tie.Need-improves-requires Inv-loop μ-loop
 improves-requires c κs = tt
@@ -109,7 +109,7 @@ dot3-requires : tie.Need-dot3-requires Inv-loop μ-loop
 dot3-requires c κs =
     let b = c .before .before .before .before .before in
     let a = b .before in
-    λ j. within-le (omega arith) (within-mul (a .before .pre .1 .products j) (subst (λ t. Bounded 1 (getD t (2 * a .loop .i) [])) (sym (a .loop .inv .0)) (bounded b) j))
+    λ j. within-le (omega arith) (within-mul (a .before .pre .1 .0 .products j) (subst (λ t. Bounded 1 (getD t (2 * a .loop .i) [])) (sym (a .loop .inv .0)) (bounded b) j))
 
 -- by what the change of the opposite list differs
 product : (c : tie.After-dot3 Inv-loop μ-loop) →
@@ -123,7 +123,7 @@ size c =
     let b = c .before .before .before .before .before .before in
     let a = b .before in
     subst (Within 12000000000) (sym (product c))
-    (pair-within (a .before .args .h) (getD steps (2 * a .loop .i) []) (a .before .pre .1 .products) (steps-long (2 * a .loop .i) (omega (arith, few b))) (bounded b))
+    (pair-within (a .before .args .h) (getD steps (2 * a .loop .i) []) (a .before .pre .1 .0 .products) (steps-long (2 * a .loop .i) (omega (arith, few b))) (bounded b))
 
 doubled : (c : tie.After-dot3 Inv-loop μ-loop) → SFits w64 (pos 2 *ℤ c .dot3 .result)
 doubled c = fits-within (within-twice (size c)) tt
