@@ -8,14 +8,14 @@ use native.Mathlib.Nat.{zero-add, le-refl}
 use lib.IntN.{ℤ}
 use lib.ListN.{length}
 use Rattle.lattices.specs.Vector.{N}
-use Rattle.lattices.specs.Greedy.{Row, vectors, units, reduction}
+use Rattle.lattices.specs.Greedy.{Row, vectors, reduction}
 use Rattle.lattices.specs.Refusal.{Input, basis, firstOf, vectorChecks}
 use Rattle.lattices.specs.Answer as Definition
 use Rattle.lattices.specs.Answer.{padded, table, rowsOfV, reductionGiven, noReduction, reductionOf}
 use Rattle.reductions.specs.Accepted.{accepted}
 use Rattle.reductions.specs.Demand.{accepted-reduction}
 use Rattle.rows.specs.declared.Work.{Work}
-use Rattle.rows.specs.Rows.{rowsOf, workOf, vectorRow, tableRow, transposed}
+use Rattle.rows.specs.Rows.{workOf, vectorRow, tableRow, transposed}
 use Rattle.engine.specs.declared.Reduction.{Reduction}
 use Rattle.engine.specs.State.{rowsIn, greedyRows, greedyPasses, reduced}
 use Rattle.engine.specs.Fine.{Fine, fine-fewer, fine-greedy}
@@ -48,15 +48,6 @@ finished w = record {
   passes = w .passes;
 }
 
--- the work with which the engine begins
-unfoldable pub begun : Input → Work
-begun i = record {
-  vectors = map vectorRow (table 4 4 (basis i));
-  u = map tableRow (table 4 4 (units (i .d)));
-  v = map tableRow (table 4 4 (units (i .d)));
-  passes = 0;
-}
-
 pub vectors-back : (l : List (List ℤ)) → map (λ r. r .at) (map vectorRow l) ≡ l
 vectors-back [] = refl
 vectors-back (x ∷ l) = ap (λ t. x ∷ t) (vectors-back l)
@@ -74,9 +65,12 @@ tables-of-rows f [] = refl
 tables-of-rows f (r ∷ l) = ap (λ t. tableRow (f r) ∷ t) (tables-of-rows f l)
 
 module _ (i : Input) (e : firstOf vectorChecks i ≡ 0) where
-  pub begun-rows : rowsIn (begun i) ≡ first i e
-  unfolding begun first
-  begun-rows = ap₂ (λ b t. rowsOf b t t) (vectors-back (table 4 4 (basis i))) (tables-back (table 4 4 (units (i .d))))
+  -- the work with which the engine begins
+  abbrev pub begun : Work
+  begun = workOf (first i e) 0
+
+  begun-rows : rowsIn begun ≡ first i e
+  begun-rows = rowsIn-workOf (first i e) 0
 
   abbrev G : List Row
   G = greedyRows (i .d) (first i e)
@@ -109,25 +103,21 @@ module _ (i : Input) (e : firstOf vectorChecks i ≡ 0) where
       squares-path = ap (map N) (ap (map (λ r. r .at)) (vectors-of-rows G) ∙ vectors-back (map (λ r. r .vector) G)) ∙ last-squares i e
 
   -- the engine's answer for an accepted input
-  pub accepted-answer : finished (reduced (i .d) (begun i)) ≡ packed (reductionOf i)
-  unfolding reduced begun
+  pub accepted-answer : finished (reduced (i .d) begun) ≡ packed (reductionOf i)
+  unfolding reduced
   accepted-answer =
       ap (λ l. finished (workOf (greedyRows (i .d) l) (0 + greedyPasses (i .d) l))) begun-rows
       ∙ ap (λ n. finished (workOf G n)) (zero-add (greedyPasses (i .d) (first i e)))
       ∙ finished-rows ∙ ap packed (sym (accepted-reduction i e))
 
   -- what the engine's functions ask on the way
-  pub begun-fine : Fine (i .d) (rowsIn (begun i))
-  begun-fine = subst (Fine (i .d)) (sym begun-rows) (first-fine i e)
+  pub begun-few : 0 + greedyPasses (i .d) (first i e) ≤ 1000000000000
+  begun-few = omega (arith, few-passes (accepted i e .most) (first-fine i e))
 
-  pub begun-few : begun i .passes + greedyPasses (i .d) (rowsIn (begun i)) ≤ 1000000000000
-  unfolding begun
-  begun-few = omega (arith, few-passes (accepted i e .most) begun-fine)
-
-  pub reduced-fine : Fine 0 (rowsIn (reduced (i .d) (begun i)))
+  pub reduced-fine : Fine 0 (rowsIn (reduced (i .d) begun))
   unfolding reduced
-  reduced-fine = subst (Fine 0) (sym (rowsIn-workOf (greedyRows (i .d) (rowsIn (begun i))) (begun i .passes + greedyPasses (i .d) (rowsIn (begun i)))))
-      (fine-fewer {n = i .d} {k = 0} zero-le (fine-greedy begun-fine (i .d) (le-refl (i .d))))
+  reduced-fine = subst (Fine 0) (sym (rowsIn-workOf (greedyRows (i .d) (rowsIn begun)) (0 + greedyPasses (i .d) (rowsIn begun)) ∙ ap (greedyRows (i .d)) begun-rows))
+      (fine-fewer {n = i .d} {k = 0} zero-le (fine-greedy (first-fine i e) (i .d) (le-refl (i .d))))
 
 -- the answer for a refused input
 refused-answer : (i : Input) (n : ℕ) → firstOf vectorChecks i ≡ suc n → packed (noReduction (suc n)) ≡ packed (reductionOf i)

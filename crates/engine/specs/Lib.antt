@@ -13,3 +13,4 @@ pub mod Membership
 pub mod Tables
 pub mod Whole
 pub mod Repeat
+pub mod Loop

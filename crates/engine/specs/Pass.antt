@@ -28,11 +28,11 @@ gained-append [] v (r ∷ t) s e = absurd (omega arith)
 gained-append (x ∷ xs) v [] s e = absurd (omega arith)
 gained-append (x ∷ xs) v (r ∷ t) s e = ap (λ l. (r ⊕ x ⊙ v) ∷ l) (gained-append xs v t s (omega arith))
 
-length-gained : (x v : List ℤ) (t : List (List ℤ)) → length x ≡ length t → length (gained x v t) ≡ length t
+pub length-gained : (x v : List ℤ) (t : List (List ℤ)) → length (gained x v t) ≡ length t
 unfolding gained
-length-gained [] v t e = refl
-length-gained (x ∷ xs) v [] e = refl
-length-gained (x ∷ xs) v (r ∷ t) e = ap suc (length-gained xs v t (omega arith))
+length-gained [] v t = refl
+length-gained (x ∷ xs) v [] = refl
+length-gained (x ∷ xs) v (r ∷ t) = ap suc (length-gained xs v t)
 
 -- ---- a table with row k apart
 module _ (f : Row → List ℤ) (front : List Row) (r : Row) (rest : List Row) where
@@ -67,7 +67,7 @@ pass-seam front r rest x e =
     rowsOf-append (map (λ s. s .vector) front) (map (λ s. s .u) front) (gained x (r .v) (map (λ s. s .v) front))
     ((r .vector ⊖ comb x (map (λ s. s .vector) front)) ∷ map (λ s. s .vector) rest) ((r .u ⊖ comb x (map (λ s. s .u) front)) ∷ map (λ s. s .u) rest) (r .v ∷ map (λ s. s .v) rest)
     (length-map front (λ s. s .u) ∙ sym (length-map front (λ s. s .vector)))
-    (length-gained x (r .v) (map (λ s. s .v) front) (e ∙ sym (length-map front (λ s. s .v))) ∙ length-map front (λ s. s .v) ∙ sym (length-map front (λ s. s .vector)))
+    (length-gained x (r .v) (map (λ s. s .v) front) ∙ length-map front (λ s. s .v) ∙ sym (length-map front (λ s. s .vector)))
     ∙ ap₂ (λ a l. a ++ (less x front r ∷ l)) (sym (credited-columns x (r .v) front)) (rowsOf-parts rest)
     ∙ sym (append-assoc (credited x (r .v) front) (less x front r ∷ []) rest)
 

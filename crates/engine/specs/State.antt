@@ -1,17 +1,15 @@
 -- The rows of a work, and what the greedy steps do to them: the definitions that the engine's contracts cite.
-use mathlib.Core.List.{List, [], _++_, map}
+use mathlib.Core.List.{List, _++_, map}
 use Prim.Native.Nat.{ℕ, suc, _+_}
 use lib.ListN.{take, drop, getD}
 use Rattle.lattices.specs.Greedy.{Row, order, pass, joined, greedy}
 use Rattle.rows.specs.declared.Work.{Work}
 use Rattle.rows.specs.Rows.{rowsOf, workOf}
+pub use Rattle.rows.specs.Order.{blank}
 
 -- the four rows of a work
 abbrev pub rowsIn : Work → List Row
 rowsIn w = rowsOf (map (λ r. r .at) (w .vectors)) (map (λ r. r .at) (w .u)) (map (λ r. r .at) (w .v))
-
-abbrev pub blank : Row
-blank = record { vector = []; u = []; v = [] }
 
 -- ---- the steps on rows
 -- step 2 for the first n rows

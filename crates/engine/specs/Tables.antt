@@ -1,10 +1,11 @@
--- A pass on the three tables of the rows: what the row operations ask, and what their results pack to.
+-- A pass on the three tables of the rows: what the row operations ask, and what their results are.
 use mathlib.Core.Path.{_≡_, sym, ap, ap₂, _∙_, subst}
 use mathlib.Core.List.{List, [], map}
 use Prim.Native.Nat.{ℕ, _+_, _≤_, _<_}
 use lib.IntN.{ℤ, natAbs, _*ℤ_}
+use native.Mathlib.Omega.{arith}
 use lib.Signed.{leZ-yes}
-use lib.ListN.{length, getD, take}
+use lib.ListN.{getD, take, length-set}
 use Rattle.integers.specs.Order.{≤ℤ-trans}
 use Rattle.integers.specs.Size.{Within, load}
 use Rattle.lattices.specs.Vector.{nth}
@@ -12,23 +13,22 @@ use Rattle.lattices.specs.Nearest.{nearest}
 use Rattle.lattices.specs.Greedy.{Row}
 use Rattle.lattices.specs.Answer.{padded}
 use Rattle.minima.specs.Reduced.{Reduced}
-use Rattle.rows.specs.Rows.{Tables, rowsOf, workOf, vectorRow, tableRow, rowsOf-tables, workOf-rowsOf}
+use Rattle.rows.specs.Rows.{Four, Tables, rowsOf, rowsOf-tables}
 use Rattle.rows.specs.Minus.{room}
 use Rattle.search.specs.Searchable.{Searchable}
 use Rattle.engine.specs.State.{passRows}
 use Rattle.engine.specs.Room as Room
 use Rattle.integers.specs.All.{take-map}
 use Rattle.engine.specs.Room.{Ready, short-rows}
-use Rattle.engine.specs.Pass.{losing, gaining, pass-rows}
+use Rattle.engine.specs.Pass.{losing, gaining, length-gained, pass-rows}
 
 -- what the search finds for row k
 abbrev pub found : ℕ → List (List ℤ) → List ℤ
 found k b = padded 3 (nearest (take k b) (getD b k []))
 
--- three tables of as many rows, which are ready for a pass
+-- three tables whose rows are ready for a pass
 pub record Given (k : ℕ) (b u v : List (List ℤ)) : Type 0 where
-  pub u-length : length u ≡ length b
-  pub v-length : length v ≡ length b
+  pub four : Four b u v
   pub three : k ≤ 3
   pub ready : Ready k (rowsOf b u v)
 
@@ -37,7 +37,7 @@ module _ {k : ℕ} {b u v : List (List ℤ)} (g : Given k b u v) where
   rows = rowsOf b u v
 
   tables : Tables b u v rows
-  tables = rowsOf-tables b u v (g .u-length) (g .v-length)
+  tables = rowsOf-tables b u v (g .four .u ∙ sym (g .four .vectors)) (g .four .v ∙ sym (g .four .vectors))
 
   front-is : map (λ s. s .vector) (take k rows) ≡ take k b
   front-is = sym (take-map (λ s. s .vector) k rows) ∙ ap (take k) (tables .vectors)
@@ -48,6 +48,7 @@ module _ {k : ℕ} {b u v : List (List ℤ)} (g : Given k b u v) where
 
   pub searchable : Searchable k b (getD b k [])
   searchable = record {
+    enough = omega (arith, g .four .vectors, g .three);
     reduced = subst Reduced front-is (g .ready .reduced);
     short = λ i h. rw (tables .vectors) at (short-rows (g .ready .fine) i);
     target = ≤ℤ-trans (rw (tables .vectors) at (short-rows (g .ready .fine) k)) (leZ-yes tt);
@@ -66,16 +67,16 @@ module _ {k : ℕ} {b u v : List (List ℤ)} (g : Given k b u v) where
   v-room j i h = rw (found-is, tables .v) at (Room.v-table-room k rows (g .ready .fine) (g .three) (g .ready .reduced) j i h)
 
   -- the rows of the three tables after the row operations
-  passed-rows : let x = take k (found k b) in rowsOf (losing x b k) (losing x u k) (gaining x v k) ≡ passRows k rows
+  pub passed-rows : let x = take k (found k b) in rowsOf (losing x b k) (losing x u k) (gaining x v k) ≡ passRows k rows
   unfolding Room.x
   passed-rows =
       rw (ap (take k) (sym found-is) ∙ Room.x-taken k rows (g .ready .fine) (g .three) (g .ready .reduced))
       (rw (tables .vectors, tables .u, tables .v) at
       (pass-rows k rows (Room.long k rows (g .ready .fine) (g .three) (g .ready .reduced)) (Room.x k rows (g .ready .fine) (g .three) (g .ready .reduced)) (Room.x-count k rows (g .ready .fine) (g .three) (g .ready .reduced))))
 
-  -- packed, with the count p of passes
-  pub passed-packed : {b′ u′ v′ : List (List ℤ)} → let x = take k (found k b) in b′ ≡ losing x b k → u′ ≡ losing x u k → v′ ≡ gaining x v k
-      → length u′ ≡ length b′ → length v′ ≡ length b′ → (p : ℕ) → record { vectors = map vectorRow b′; u = map tableRow u′; v = map tableRow v′; passes = p } ≡ workOf (passRows k rows) p
-  passed-packed {b′} {u′} {v′} eb eu ev lu lv p =
-      let q : rowsOf b′ u′ v′ ≡ passRows k rows = rw (eb, eu, ev) passed-rows in
-      workOf-rowsOf b′ u′ v′ lu lv p ∙ ap (λ l. workOf l p) q
+  pub passed-four : let x = take k (found k b) in Four (losing x b k) (losing x u k) (gaining x v k)
+  passed-four = record {
+    vectors = length-set b k _ ∙ g .four .vectors;
+    u = length-set u k _ ∙ g .four .u;
+    v = length-gained (take k (found k b)) (getD v k []) v ∙ g .four .v;
+  }

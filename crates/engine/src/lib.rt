@@ -1,11 +1,13 @@
 // The lattice engine: greedy reduction with its tables, proved equal to the definition.
 ghost use mathlib.Core.Path.{_≡_};
-ghost use Prim.Native.Nat.{suc, _+_, _-_, _≤_, _<_};
+ghost use Prim.Native.Nat.{_+_, _-_, _≤_, _<_};
 ghost use mathlib.Core.List.{[]};
 ghost use lib.ListN.{getD, take};
 ghost use lib.Signed.{ltZ};
 ghost use Rattle.lattices.specs.Vector.{N};
-ghost use Rattle.engine.specs.State.{rowsIn, blank, greedyPasses, ordered, passed, reduced};
+ghost use Rattle.rows.specs.Rows.{Four, rowsOf, workOf};
+ghost use Rattle.rows.specs.Order.{Small};
+ghost use Rattle.engine.specs.State.{rowsIn, passRows, greedyPasses, reduced};
 ghost use Rattle.engine.specs.Fine.{Fine};
 ghost use Rattle.engine.specs.Room.{Ready};
 ghost use Rattle.engine.specs.Answer.{packed, finished};
@@ -16,74 +18,69 @@ ghost use Rattle.lattices.specs.Answer.{noReduction, reductionOf, noNearest, ne
 ghost use Rattle.engine.specs.Named.{packedNearest, named};
 
 // Steps 4 and 5 for row k, the rows before it being reduced: the vector nearest to it in their lattice is subtracted from it.
-fn pass(w: rows::Work, k: usize) -> rows::Work
+fn pass(b: &mut [[i64; 4]; 4], u: &mut [[i64; 4]; 4], v: &mut [[i64; 4]; 4], k: usize)
     requires { ⌜ k ≤ 3 ⌝ }
-    requires { ⌜ Ready k (rowsIn w) ⌝ }
-    requires { ⌜ w .passes ≤ 1000000000000 ⌝ }
-    ensures { λ r. ⌜ r ≡ passed k w ⌝ }
+    requires { ⌜ Four (now b) (now u) (now v) ⌝ }
+    requires { ⌜ Ready k (rowsOf (now b) (now u) (now v)) ⌝ }
+    ensures { λ _. ⌜ Four (now (b .exit)) (now (u .exit)) (now (v .exit)) ⌝ }
+    ensures { λ _. ⌜ rowsOf (now (b .exit)) (now (u .exit)) (now (v .exit)) ≡ passRows k (rowsOf (now (b .entry)) (now (u .entry)) (now (v .entry))) ⌝ }
 {
-    let vectors = w.vectors;
-    let us = w.u;
-    let vs = w.v;
-    let b = rows::vectors_of(vectors);
-    let u = rows::tables_of(us);
-    let v = rows::tables_of(vs);
-    let x = search::search(b, k, b[k]);
-    rows::Work {
-        vectors: rows::vector_rows(rows::minus_rows(b, k, x)),
-        u: rows::table_rows(rows::minus_rows(u, k, x)),
-        v: rows::table_rows(rows::credit_rows(v, k, x)),
-        passes: w.passes + 1,
-    }
+    let last = b[k];
+    let x = search::search(b, k, last);
+    rows::minus_rows(b, k, x);
+    rows::minus_rows(u, k, x);
+    rows::credit_rows(v, k, x);
 }
 
 // Step 6: is row k shorter than the row before it?
-fn shorter(w: rows::Work, k: usize) -> bool
+fn shorter(b: &[[i64; 4]; 4], k: usize) -> bool
     requires { ⌜ (0 < k) × (k ≤ 3) ⌝ }
-    requires { ⌜ Fine (suc k) (rowsIn w) ⌝ }
-    ensures { λ r. ⌜ r ≡ ltZ (N (getD (rowsIn w) k blank .vector)) (N (getD (rowsIn w) (k - 1) blank .vector)) ⌝ }
+    requires { ⌜ Small (now b) ⌝ }
+    ensures { λ r. ⌜ r ≡ ltZ (N (getD (now (b .entry)) k [])) (N (getD (now (b .entry)) (k - 1) [])) ⌝ }
 {
-    let vectors = w.vectors;
-    let b = rows::vectors_of(vectors);
     let last = b[k];
     let other = b[k - 1];
     rows::dot(last, last) < rows::dot(other, other)
 }
 
-// Step 2 for the first n rows: shortest first, equal lengths in their order.
-fn ordered(w: rows::Work, n: usize) -> rows::Work
+// Steps 1 to 6 for the first n rows, on one vector fewer at each call of itself. `before` counts the passes made so far.
+fn reduce_first(
+    vectors: [[i64; 4]; 4],
+    us: [[i64; 4]; 4],
+    vs: [[i64; 4]; 4],
+    n: usize,
+    before: u64,
+) -> rows::Work
     requires { ⌜ n ≤ 4 ⌝ }
-    requires { ⌜ Fine n (rowsIn w) ⌝ }
-    ensures { λ r. ⌜ r ≡ ordered n w ⌝ }
+    requires { ⌜ Fine n (rowsOf vectors us vs) ⌝ }
+    requires { ⌜ before + greedyPasses n (rowsOf vectors us vs) ≤ 1000000000000 ⌝ }
+    ensures { λ r. ⌜ r ≡ reduced n (workOf (rowsOf vectors us vs) before) ⌝ }
 {
-    let vectors = w.vectors;
-    let us = w.u;
-    let vs = w.v;
-    let b = rows::vectors_of(vectors);
-    let u = rows::tables_of(us);
-    let v = rows::tables_of(vs);
-    rows::order(b, u, v, n, w.passes)
-}
-
-// Steps 1 to 6 for the first n rows, on one vector fewer at each call of itself.
-fn reduce_first(w: rows::Work, n: usize) -> rows::Work
-    requires { ⌜ n ≤ 4 ⌝ }
-    requires { ⌜ Fine n (rowsIn w) ⌝ }
-    requires { ⌜ w .passes + greedyPasses n (rowsIn w) ≤ 1000000000000 ⌝ }
-    ensures { λ r. ⌜ r ≡ reduced n w ⌝ }
-{
+    let mut b = vectors;
+    let mut u = us;
+    let mut v = vs;
+    let mut passes = before;
     if n < 2 {
-        return w;
+        return rows::packed(&b, &u, &v, passes);
     }
-    let mut v = w;
     loop {
-        let o = ordered(v, n);
-        let f = reduce_first(o, n - 1);
-        let p = pass(f, n - 1);
-        if !shorter(p, n - 1) {
-            break p;
+        rows::order(&mut b, &mut u, &mut v, n);
+        // one vector is given back
+        if 2 < n {
+            let f = reduce_first(b, u, v, n - 1, passes);
+            let first = f.vectors;
+            let first_u = f.u;
+            let first_v = f.v;
+            rows::take_vectors(&mut b, first);
+            rows::take_table(&mut u, first_u);
+            rows::take_table(&mut v, first_v);
+            passes = f.passes;
         }
-        v = p;
+        pass(&mut b, &mut u, &mut v, n - 1);
+        passes += 1;
+        if !shorter(&b, n - 1) {
+            break rows::packed(&b, &u, &v, passes);
+        }
     }
 }
 
@@ -144,13 +141,7 @@ pub fn reduce(numbers: &[i64], d: usize, m: usize) -> Reduction
     }
     let b = checks::basis(numbers, d, m);
     let e = rows::unit_table(d);
-    let w = rows::Work {
-        vectors: rows::vector_rows(b),
-        u: rows::table_rows(e),
-        v: rows::table_rows(e),
-        passes: 0,
-    };
-    finished(reduce_first(w, d))
+    finished(reduce_first(b, e, e, d, 0))
 }
 
 // The answer of a search for the nearest vector: the vector, its coefficients on the reduced basis, its squared distance from the target.

@@ -5,7 +5,7 @@ use Prim.Native.Nat.{ℕ, zero, suc, _+_, _*_, _≤_, _<_}
 use native.Mathlib.Omega.{arith}
 use native.Mathlib.Decide.{decLt}
 use lib.IntN.{ℤ, pos, negsuc, natAbs, _+ℤ_, _-ℤ_, _*ℤ_, +ℤ-idr}
-use lib.ListN.{length, getD, set, take, length-take, List·getD-eq-default}
+use lib.ListN.{length-set, length, getD, set, take, length-take, List·getD-eq-default}
 use lib.Seq.{take-suc, take-suc-set, getD-take, getD-set-same}
 use lib.Signed.{_≤ℤ_, _<ℤ_, leZ-yes, ltZ-yes}
 use Rattle.integers.specs.Identity.{by-ring, reads}
@@ -33,8 +33,8 @@ pub record Near (d : ℕ) (b : List Vec) (t : Vec) : Type 0 where
   pub short : (i : ℕ) → i < d → N (getD b i []) ≤ℤ pos 400000000
   pub target : N t ≤ℤ pos 400000000
 
-pub searchable : {d : ℕ} {b : List Vec} {t : Vec} → Near d b t → Searchable d b t
-searchable n = record { reduced = n .reduced; short = n .short; target = ≤ℤ-trans (n .target) (leZ-yes tt) }
+pub searchable : {d : ℕ} {b : List Vec} {t : Vec} → d ≤ length b → Near d b t → Searchable d b t
+searchable h n = record { enough = h; reduced = n .reduced; short = n .short; target = ≤ℤ-trans (n .target) (leZ-yes tt) }
 
 -- what is left of the target is no longer
 pub near-closer : {d : ℕ} {b : List Vec} {t r : Vec} → Near d b t → N r ≤ℤ N t → Near d b r
@@ -65,7 +65,7 @@ module _ (b : List Vec) (e : length b ≡ 4) where
 
   -- the first three can be searched
   pub three : {t : Vec} (u : Vec) → Near 4 b t → N u ≤ℤ pos 3600000000 → Searchable 3 b u
-  three u n h = record { reduced = reduced-last (take 3 b) (getD b 3 []) (subst Reduced four-is (n .reduced)) .1; short = λ i l. n .short i (omega arith); target = h }
+  three u n h = record { enough = omega arith; reduced = reduced-last (take 3 b) (getD b 3 []) (subst Reduced four-is (n .reduced)) .1; short = λ i l. n .short i (omega arith); target = h }
 
 -- ---- sizes of numbers
 
@@ -176,7 +176,7 @@ module _ (k : ℕ) (b : List Vec) (u : Vec) (v : Given k (take k b) u) where
 
 module _ (b : List Vec) (e : length b ≡ 4) {r : Vec} (n : Near 4 b r) where
   pub layer-given : (j : ℤ) → Reachable (getD b 3 []) r j → Given 3 (take 3 b) (r ⊖ j ⊙ getD b 3 [])
-  layer-given j h = given 3 b (r ⊖ j ⊙ getD b 3 []) (omega arith) (omega arith) (three b e (r ⊖ j ⊙ getD b 3 []) n (h .short))
+  layer-given j h = given 3 b (r ⊖ j ⊙ getD b 3 []) (omega arith) (three b e (r ⊖ j ⊙ getD b 3 []) n (h .short))
 
   pub layer-room : (j : ℤ) → Reachable (getD b 3 []) r j → (i : ℕ) → natAbs (nth r i) + natAbs (j *ℤ nth (getD b 3 []) i) ≤ room
   layer-room j h i = omega (arith, coordinates r (n .target) i .within, within-mul (h .small) (coordinates (getD b 3 []) (n .short 3 (omega arith)) i) .within)
@@ -193,7 +193,7 @@ module _ (b : List Vec) (e : length b ≡ 4) {r : Vec} (n : Near 4 b r) where
       (n .short 3 (omega arith)) (≤ℤ-trans (n .target) (leZ-yes tt))
 
   pub alone-searchable : Searchable 1 (set b 0 (getD b 3 [])) r
-  alone-searchable = record { reduced = subst Reduced (sym alone-is) (alone-given .reduced); short = short; target = alone-given .target }
+  alone-searchable = record { enough = omega (arith, length-set b 0 (getD b 3 [])); reduced = subst Reduced (sym alone-is) (alone-given .reduced); short = short; target = alone-given .target }
     where
       short : (i : ℕ) → i < 1 → N (getD (set b 0 (getD b 3 [])) i []) ≤ℤ pos 400000000
       short zero h = rw (getD-set-same b 0 (getD b 3 []) [] (omega arith)) (n .short 3 (omega arith))
@@ -207,4 +207,4 @@ module _ (b : List Vec) (e : length b ≡ 4) {r : Vec} (n : Near 4 b r) where
 
 -- what the nearest vector leaves
 pub left-bounded : {d : ℕ} {b : List Vec} {v r : Vec} → Near d b v → r ≈ v ⊖ comb (nearest (take d b) v) (take d b) → Bounded 100000 r
-left-bounded {d} {b} {v} {r} n e = long r (≤ℤ-trans (≤ℤ-of-≡ (≈-N e)) (≤ℤ-trans (nearest-shorter (take d b) v) (searchable n .target)))
+left-bounded {d} {b} {v} {r} n e = long r (≤ℤ-trans (≤ℤ-of-≡ (≈-N e)) (≤ℤ-trans (nearest-shorter (take d b) v) (≤ℤ-trans (n .target) (leZ-yes tt))))

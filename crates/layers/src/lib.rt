@@ -70,8 +70,8 @@ fn left(b: [[i64; 4]; 4], k: usize, y: [i64; 3], s: [i64; 4]) -> [i64; 4]
 {
     let mut t = b;
     t[k] = s;
-    let u = rows::minus_rows(t, k, y);
-    u[k]
+    rows::minus_rows(&mut t, k, y);
+    t[k]
 }
 
 // The best of layer j, by the search among the first three vectors.
@@ -81,7 +81,7 @@ fn layer(b: [[i64; 4]; 4], r: [i64; 4], j: i64) -> Step
     ensures { λ s. ⌜ Solved (take 3 b) (getD b 3 []) r j s ⌝ }
 {
     let u = rows::minus_multiple(r, j, b[3]);
-    let y = search::search(b, 3, u);
+    let y = search::search(&b, 3, u);
     let rest = left(b, 3, y, u);
     let list = [y[0], y[1], y[2], j];
     Step {
@@ -98,7 +98,7 @@ fn along(b: [[i64; 4]; 4], r: [i64; 4]) -> i64
 {
     let mut a = b;
     a[0] = b[3];
-    let q = search::search(a, 1, r);
+    let q = search::search(&a, 1, r);
     q[0]
 }
 
@@ -165,7 +165,7 @@ pub fn closest(b: [[i64; 4]; 4], d: usize, t: [i64; 4]) -> Found
     if d == 4 {
         return closest_of_four(b, t);
     }
-    let y = search::search(b, d, t);
+    let y = search::search(&b, d, t);
     Found {
         list: [y[0], y[1], y[2], 0],
         rest: left(b, d, y, t),

@@ -2,8 +2,8 @@
 pub mod Rows
 pub mod Dot
 pub mod Front
+pub mod Packing
 pub mod Minus
 pub mod Loss
 pub mod Gain
-pub mod Places
 pub mod Order

@@ -3,12 +3,13 @@ use mathlib.Core.Path.{_≡_, refl, sym, ap, ap₂, _∙_}
 use mathlib.Core.List.{List, [], _∷_}
 use Prim.Native.Nat.{ℕ, zero, suc, _+_, _≤_, _<_}
 use native.Mathlib.Omega.{arith}
-use lib.IntN.{ℤ, negsuc, natAbs, _*ℤ_, +ℤ-assoc, *ℤ-zero, zero-*ℤ}
+use lib.IntN.{ℤ, pos, negsuc, natAbs, _*ℤ_, +ℤ-assoc, *ℤ-zero, zero-*ℤ}
 use lib.ListN.{length, getD, set, take}
 use lib.Seq.{set-getD}
 use Rattle.integers.specs.Ring.{*ℤ-+ℤ, negsuc-zero-*ℤ}
 use Rattle.integers.specs.Size.{load, size-add, size-sub}
 use Rattle.integers.specs.Lists.{entries}
+use Rattle.integers.specs.Identity.{by-ring, reads}
 use Rattle.lattices.specs.Vector.{nth, comb, _⊕_, _⊙_, _⊖_}
 
 -- ---- sums and multiples of lists, as equations of lists
@@ -30,6 +31,13 @@ unfolding _⊕_ _⊙_
 ⊙-⊕ k [] v = refl
 ⊙-⊕ k (x ∷ u) [] = refl
 ⊙-⊕ k (x ∷ u) (y ∷ v) = ap₂ _∷_ (*ℤ-+ℤ k x y) (⊙-⊕ k u v)
+
+-- a multiple by 0 changes nothing
+pub ⊖-nothing : (a b : List ℤ) → length b ≤ length a → a ⊖ pos 0 ⊙ b ≡ a
+unfolding _⊕_ _⊙_
+⊖-nothing a [] h = ⊕-nil a
+⊖-nothing [] (y ∷ b) h = absurd (omega arith)
+⊖-nothing (x ∷ a) (y ∷ b) h = ap₂ _∷_ (by-ring (x ∷ y ∷ []) (search reads) (search reads) tt) (⊖-nothing a b (omega arith))
 
 -- ---- one more row
 

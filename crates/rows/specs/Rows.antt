@@ -4,7 +4,7 @@ use mathlib.Core.List.{List, [], _∷_, map, map-map}
 use Prim.Native.Nat.{ℕ, zero, suc}
 use native.Mathlib.Omega.{arith}
 use lib.IntN.{ℤ}
-use lib.ListN.{length, getD, take, drop}
+use lib.ListN.{length, getD, set, take, drop, length-map}
 use Rattle.lattices.specs.Vector.{nth, _⊕_, _⊙_}
 use Rattle.lattices.specs.Greedy.{Row, credited}
 use Rattle.rows.specs.declared.VectorRow.{VectorRow}
@@ -43,6 +43,12 @@ gained (x ∷ xs) v (r ∷ t) = (r ⊕ x ⊙ v) ∷ gained xs v t
 unfoldable pub transposed : List (List ℤ) → List (List ℤ)
 transposed t = map (λ i. map (λ r. nth r i) t) (0 ∷ 1 ∷ 2 ∷ 3 ∷ [])
 
+-- three tables of four rows
+pub record Four (bs us vs : List (List ℤ)) : Type 0 where
+  pub vectors : length bs ≡ 4
+  pub u : length us ≡ 4
+  pub v : length vs ≡ 4
+
 -- ---- the three tables of rows, and the rows of three tables
 
 pub record Tables (bs us vs : List (List ℤ)) (rows : List Row) : Type 0 where
@@ -60,6 +66,12 @@ rowsOf-tables (b ∷ bs) (u ∷ us) [] e f = absurd (omega arith)
 rowsOf-tables (b ∷ bs) (u ∷ us) (v ∷ vs) e f =
     let t = rowsOf-tables bs us vs (omega arith) (omega arith) in
     record { vectors = ap (λ l. b ∷ l) (t .vectors); u = ap (λ l. u ∷ l) (t .u); v = ap (λ l. v ∷ l) (t .v) }
+
+pub four-rows : {bs us vs : List (List ℤ)} → Four bs us vs → length (rowsOf bs us vs) ≡ 4
+four-rows {bs} {us} {vs} f =
+    sym (length-map (rowsOf bs us vs) (λ r. r .vector))
+    ∙ ap length (rowsOf-tables bs us vs (f .u ∙ sym (f .vectors)) (f .v ∙ sym (f .vectors)) .vectors)
+    ∙ f .vectors
 
 pub rowsOf-parts : (rows : List Row) → rowsOf (map (λ r. r .vector) rows) (map (λ r. r .u) rows) (map (λ r. r .v) rows) ≡ rows
 unfolding rowsOf
@@ -134,3 +146,11 @@ four (a ∷ b ∷ c ∷ f ∷ g ∷ l) d e = absurd (omega arith)
 
 pub map-four : {A B : Type 0} (f : A → B) (l : List A) (d : A) → length l ≡ 4 → f (getD l 0 d) ∷ f (getD l 1 d) ∷ f (getD l 2 d) ∷ f (getD l 3 d) ∷ [] ≡ map f l
 map-four f l d e = ap (map f) (four l d e)
+
+pub set-four : {A : Type 0} (l : List A) {p q r s : A} → length l ≡ 4 → set (set (set (set l 0 p) 1 q) 2 r) 3 s ≡ p ∷ q ∷ r ∷ s ∷ []
+set-four [] e = absurd (omega arith)
+set-four (a ∷ []) e = absurd (omega arith)
+set-four (a ∷ b ∷ []) e = absurd (omega arith)
+set-four (a ∷ b ∷ c ∷ []) e = absurd (omega arith)
+set-four (a ∷ b ∷ c ∷ f ∷ []) e = refl
+set-four (a ∷ b ∷ c ∷ f ∷ g ∷ l) e = absurd (omega arith)

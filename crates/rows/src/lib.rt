@@ -3,15 +3,15 @@
 ghost use mathlib.Core.Path.{_≡_};
 ghost use mathlib.Core.List.{[], _++_, map};
 ghost use Prim.Native.Nat.{ℕ, _+_, suc, _-_, _≤_, _<_};
-ghost use lib.ListN.{getD, set, take, drop};
+ghost use lib.ListN.{length, getD, set, take, drop};
 ghost use lib.IntN.{_*ℤ_, natAbs};
 ghost use Rattle.integers.specs.Lists.{nth};
 ghost use Rattle.integers.specs.Size.{Within, load};
 ghost use Rattle.lattices.specs.Vector.{dot, N, comb, _⊖_, _⊙_};
 ghost use Rattle.lattices.specs.Greedy.{order, units};
 ghost use Rattle.lattices.specs.Answer.{table};
-ghost use Rattle.rows.specs.Rows.{rowsOf, workOf, gained, transposed, vectorRow, tableRow, firstFour};
-ghost use Rattle.rows.specs.Places.{Places, insertAt, orderedFrom};
+ghost use Rattle.rows.specs.Rows.{Four, rowsOf, workOf, gained, transposed, tableRow};
+ghost use Rattle.rows.specs.Order.{Small, exchanged, insertAt};
 ghost use Rattle.rows.specs.Minus.{room};
 
 // One vector. Its width is the only place that knows how many coordinates there may be.
@@ -45,11 +45,14 @@ pub fn dot(a: [i64; 4], b: [i64; 4]) -> i64
     sum
 }
 
-// What is left of a when q times b is taken away.
+// What is left of a when q times b is taken away. Most multiples in the tables are by 0.
 pub fn minus_multiple(a: [i64; 4], q: i64, b: [i64; 4]) -> [i64; 4]
     requires { ⌜ ((i : ℕ) → natAbs (nth a i) + natAbs (q *ℤ nth b i) ≤ room) ⌝ }
     ensures { λ r. ⌜ r ≡ a ⊖ q ⊙ b ⌝ }
 {
+    if q == 0 {
+        return a;
+    }
     let mut r = a;
     for i in 0..4 {
         r[i] -= q * b[i];
@@ -58,30 +61,28 @@ pub fn minus_multiple(a: [i64; 4], q: i64, b: [i64; 4]) -> [i64; 4]
 }
 
 // Row k loses the combination x of the rows before it.
-pub fn minus_rows(t: [[i64; 4]; 4], k: usize, x: [i64; 3]) -> [[i64; 4]; 4]
+pub fn minus_rows(t: &mut [[i64; 4]; 4], k: usize, x: [i64; 3])
     requires { ⌜ k ≤ 3 ⌝ }
-    requires { ⌜ ((i : ℕ) → natAbs (nth (getD t k []) i) + load (take k x) (take k t) i ≤ room) ⌝ }
-    ensures { λ r. ⌜ r ≡ set t k (getD t k [] ⊖ comb (take k x) (take k t)) ⌝ }
+    requires { ⌜ length (now t) ≡ 4 ⌝ }
+    requires { ⌜ ((i : ℕ) → natAbs (nth (getD (now t) k []) i) + load (take k x) (take k (now t)) i ≤ room) ⌝ }
+    ensures { λ _. ⌜ now (t .exit) ≡ set (now (t .entry)) k (getD (now (t .entry)) k [] ⊖ comb (take k x) (take k (now (t .entry)))) ⌝ }
 {
-    let mut r = t;
     for j in 0..k {
-        r[k] = minus_multiple(r[k], x[j], r[j]);
+        t[k] = minus_multiple(t[k], x[j], t[j]);
     }
-    r
 }
 
 // Each row before row k gains its number of x times row k: taken away with the other sign.
-pub fn credit_rows(t: [[i64; 4]; 4], k: usize, x: [i64; 3]) -> [[i64; 4]; 4]
+pub fn credit_rows(t: &mut [[i64; 4]; 4], k: usize, x: [i64; 3])
     requires { ⌜ k ≤ 3 ⌝ }
+    requires { ⌜ length (now t) ≡ 4 ⌝ }
     requires { ⌜ ((j : ℕ) → Within room (nth x j)) ⌝ }
-    requires { ⌜ ((j i : ℕ) → j < k → natAbs (nth (getD t j []) i) + natAbs (nth x j *ℤ nth (getD t k []) i) ≤ room) ⌝ }
-    ensures { λ r. ⌜ r ≡ gained (take k x) (getD t k []) t ⌝ }
+    requires { ⌜ ((j i : ℕ) → j < k → natAbs (nth (getD (now t) j []) i) + natAbs (nth x j *ℤ nth (getD (now t) k []) i) ≤ room) ⌝ }
+    ensures { λ _. ⌜ now (t .exit) ≡ gained (take k x) (getD (now (t .entry)) k []) (now (t .entry)) ⌝ }
 {
-    let mut r = t;
     for j in 0..k {
-        r[j] = minus_multiple(r[j], -x[j], r[k]);
+        t[j] = minus_multiple(t[j], -x[j], t[k]);
     }
-    r
 }
 
 // The first d unit rows, then zeros.
@@ -112,29 +113,22 @@ pub fn transposed(t: [[i64; 4]; 4]) -> [[i64; 4]; 4]
 }
 
 // Tables are packed in row structs, which a struct can hold, and unpacked to be worked on.
-pub fn vector_rows(t: [[i64; 4]; 4]) -> [VectorRow; 4]
-    ensures { λ r. ⌜ r ≡ map vectorRow t ⌝ }
+pub fn packed(b: &[[i64; 4]; 4], u: &[[i64; 4]; 4], v: &[[i64; 4]; 4], passes: u64) -> Work
+    requires { ⌜ Four (now b) (now u) (now v) ⌝ }
+    ensures { λ r. ⌜ r ≡ workOf (rowsOf (now (b .entry)) (now (u .entry)) (now (v .entry))) passes ⌝ }
 {
-    [
-        VectorRow { at: t[0] },
-        VectorRow { at: t[1] },
-        VectorRow { at: t[2] },
-        VectorRow { at: t[3] },
-    ]
-}
-
-pub fn vectors_of(rows: [VectorRow; 4]) -> [[i64; 4]; 4]
-    ensures { λ r. ⌜ r ≡ map (λ row. row .at) rows ⌝ }
-{
-    let a = rows[0];
-    let b = rows[1];
-    let c = rows[2];
-    let d = rows[3];
-    let p = a.at;
-    let q = b.at;
-    let r = c.at;
-    let s = d.at;
-    [p, q, r, s]
+    let mut w = Work {
+        vectors: [VectorRow { at: [0; 4] }; 4],
+        u: [TableRow { at: [0; 4] }; 4],
+        v: [TableRow { at: [0; 4] }; 4],
+        passes: passes,
+    };
+    for i in 0..4 {
+        w.vectors[i] = VectorRow { at: b[i] };
+        w.u[i] = TableRow { at: u[i] };
+        w.v[i] = TableRow { at: v[i] };
+    }
+    w
 }
 
 pub fn table_rows(t: [[i64; 4]; 4]) -> [TableRow; 4]
@@ -148,8 +142,10 @@ pub fn table_rows(t: [[i64; 4]; 4]) -> [TableRow; 4]
     ]
 }
 
-pub fn tables_of(rows: [TableRow; 4]) -> [[i64; 4]; 4]
-    ensures { λ r. ⌜ r ≡ map (λ row. row .at) rows ⌝ }
+// Unpacked to where the table is worked on: a copy fewer than by value.
+pub fn take_vectors(t: &mut [[i64; 4]; 4], rows: [VectorRow; 4])
+    requires { ⌜ length (now t) ≡ 4 ⌝ }
+    ensures { λ _. ⌜ now (t .exit) ≡ map (λ row. row .at) rows ⌝ }
 {
     let a = rows[0];
     let b = rows[1];
@@ -159,50 +155,49 @@ pub fn tables_of(rows: [TableRow; 4]) -> [[i64; 4]; 4]
     let q = b.at;
     let r = c.at;
     let s = d.at;
-    [p, q, r, s]
+    t[0] = p;
+    t[1] = q;
+    t[2] = r;
+    t[3] = s;
 }
 
-// The place at i goes past those behind it, up to n, whose rows are shorter: neighbours are exchanged.
-fn inserted(places: [usize; 4], lengths: [i64; 4], i: usize, n: usize) -> [usize; 4]
-    requires { ⌜ (i < n) × (n ≤ 4) ⌝ }
-    requires { ⌜ Places places ⌝ }
-    ensures { λ r. ⌜ Places r ⌝ }
-    ensures { λ r. ⌜ r ≡ insertAt (nth lengths) i (n - suc i) places ⌝ }
+pub fn take_table(t: &mut [[i64; 4]; 4], rows: [TableRow; 4])
+    requires { ⌜ length (now t) ≡ 4 ⌝ }
+    ensures { λ _. ⌜ now (t .exit) ≡ map (λ row. row .at) rows ⌝ }
 {
-    let mut r = places;
-    let mut j = i;
-    while j + 1 < n {
-        let p = r[j];
-        let q = r[j + 1];
-        if lengths[p] <= lengths[q] {
-            return r;
-        }
-        r[j] = q;
-        r[j + 1] = p;
-        j += 1;
-    }
-    r
+    let a = rows[0];
+    let b = rows[1];
+    let c = rows[2];
+    let d = rows[3];
+    let p = a.at;
+    let q = b.at;
+    let r = c.at;
+    let s = d.at;
+    t[0] = p;
+    t[1] = q;
+    t[2] = r;
+    t[3] = s;
 }
 
-// The places of the first n rows, shortest row first and equal lengths in their order; those from n on stay.
-fn places(lengths: [i64; 4], n: usize) -> [usize; 4]
-    requires { ⌜ n ≤ 4 ⌝ }
-    ensures { λ r. ⌜ Places r ⌝ }
-    ensures { λ r. ⌜ r ≡ orderedFrom (nth lengths) n 0 firstFour ⌝ }
+pub fn vectors_of(rows: [VectorRow; 4]) -> [[i64; 4]; 4]
+    ensures { λ r. ⌜ r ≡ map (λ row. row .at) rows ⌝ }
 {
-    let mut r = [0, 1, 2, 3];
-    let mut i = n;
-    while 0 < i {
-        i -= 1;
-        let next = inserted(r, lengths, i, n);
-        r = next;
-    }
-    r
+    let mut t = [[0; 4]; 4];
+    take_vectors(&mut t, rows);
+    t
+}
+
+pub fn tables_of(rows: [TableRow; 4]) -> [[i64; 4]; 4]
+    ensures { λ r. ⌜ r ≡ map (λ row. row .at) rows ⌝ }
+{
+    let mut t = [[0; 4]; 4];
+    take_table(&mut t, rows);
+    t
 }
 
 // The squared lengths of the vectors.
 pub fn squared_lengths(b: [[i64; 4]; 4]) -> [i64; 4]
-    requires { ⌜ ((i j : ℕ) → Within 100000 (nth (getD b i []) j)) ⌝ }
+    requires { ⌜ Small b ⌝ }
     ensures { λ r. ⌜ r ≡ map N b ⌝ }
 {
     let mut r = [0; 4];
@@ -212,29 +207,51 @@ pub fn squared_lengths(b: [[i64; 4]; 4]) -> [i64; 4]
     r
 }
 
-// The rows at the given places.
-fn rows_at(t: [[i64; 4]; 4], places: [usize; 4]) -> [[i64; 4]; 4]
-    requires { ⌜ Places places ⌝ }
-    ensures { λ r. ⌜ r ≡ map (λ i. getD t i []) places ⌝ }
+// Rows j and j + 1 change places.
+fn exchange(t: &mut [[i64; 4]; 4], j: usize)
+    requires { ⌜ length (now t) ≡ 4 ⌝ }
+    requires { ⌜ suc j < 4 ⌝ }
+    ensures { λ _. ⌜ now (t .exit) ≡ exchanged j (now (t .entry)) ⌝ }
 {
-    let i = places[0];
-    let j = places[1];
-    let k = places[2];
-    let l = places[3];
-    [t[i], t[j], t[k], t[l]]
+    let row = t[j];
+    t[j] = t[j + 1];
+    t[j + 1] = row;
+}
+
+// Row i goes past those behind it, up to n, that are shorter: neighbours change places.
+fn insert(b: &mut [[i64; 4]; 4], u: &mut [[i64; 4]; 4], v: &mut [[i64; 4]; 4], i: usize, n: usize)
+    requires { ⌜ (i < n) × (n ≤ 4) ⌝ }
+    requires { ⌜ Four (now b) (now u) (now v) ⌝ }
+    requires { ⌜ Small (now b) ⌝ }
+    ensures { λ _. ⌜ Four (now (b .exit)) (now (u .exit)) (now (v .exit)) ⌝ }
+    ensures { λ _. ⌜ Small (now (b .exit)) ⌝ }
+    ensures { λ _. ⌜ rowsOf (now (b .exit)) (now (u .exit)) (now (v .exit)) ≡ insertAt i (n - suc i) (rowsOf (now (b .entry)) (now (u .entry)) (now (v .entry))) ⌝ }
+{
+    let mut j = i;
+    while j + 1 < n {
+        let row = b[j];
+        let next = b[j + 1];
+        if dot(row, row) <= dot(next, next) {
+            return;
+        }
+        exchange(b, j);
+        exchange(u, j);
+        exchange(v, j);
+        j += 1;
+    }
 }
 
 // The first n rows in order of length, shortest first and equal lengths in their order; the rows from n on stay.
-pub fn order(b: [[i64; 4]; 4], u: [[i64; 4]; 4], v: [[i64; 4]; 4], n: usize, passes: u64) -> Work
+pub fn order(b: &mut [[i64; 4]; 4], u: &mut [[i64; 4]; 4], v: &mut [[i64; 4]; 4], n: usize)
     requires { ⌜ n ≤ 4 ⌝ }
-    requires { ⌜ ((i j : ℕ) → Within 100000 (nth (getD b i []) j)) ⌝ }
-    ensures { λ r. ⌜ r ≡ workOf (order (take n (rowsOf b u v)) ++ drop n (rowsOf b u v)) passes ⌝ }
+    requires { ⌜ Four (now b) (now u) (now v) ⌝ }
+    requires { ⌜ Small (now b) ⌝ }
+    ensures { λ _. ⌜ Four (now (b .exit)) (now (u .exit)) (now (v .exit)) ⌝ }
+    ensures { λ _. ⌜ rowsOf (now (b .exit)) (now (u .exit)) (now (v .exit)) ≡ order (take n (rowsOf (now (b .entry)) (now (u .entry)) (now (v .entry)))) ++ drop n (rowsOf (now (b .entry)) (now (u .entry)) (now (v .entry))) ⌝ }
 {
-    let at = places(squared_lengths(b), n);
-    Work {
-        vectors: vector_rows(rows_at(b, at)),
-        u: table_rows(rows_at(u, at)),
-        v: table_rows(rows_at(v, at)),
-        passes,
+    let mut i = n;
+    while 0 < i {
+        i -= 1;
+        insert(b, u, v, i, n);
     }
 }

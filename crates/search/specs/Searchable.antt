@@ -24,6 +24,7 @@ use Rattle.search.specs.Gram.{behind}
 
 -- the first k vectors of b are reduced and no longer than 20,000, the target no longer than three times that
 pub record Searchable (k : ℕ) (b : List Vec) (t : Vec) : Type 0 where
+  pub enough : k ≤ length b
   pub reduced : Reduced (take k b)
   pub short : (i : ℕ) → i < k → N (getD b i []) ≤ℤ pos 400000000
   pub target : N t ≤ℤ pos 3600000000
@@ -36,8 +37,8 @@ pub record Given (k : ℕ) (bs : List Vec) (t : Vec) : Type 0 where
   pub short : Short (pos 400000000) bs
   pub target : N t ≤ℤ pos 3600000000
 
-pub given : (k : ℕ) (b : List Vec) (t : Vec) → k ≤ 3 → k ≤ length b → Searchable k b t → Given k (take k b) t
-given k b t h l s = record { few = h; count = omega (arith, length-take k b); reduced = s .reduced; short = λ i. pick i (decLt i k); target = s .target }
+pub given : (k : ℕ) (b : List Vec) (t : Vec) → k ≤ 3 → Searchable k b t → Given k (take k b) t
+given k b t h s = record { few = h; count = omega (arith, s .enough, length-take k b); reduced = s .reduced; short = λ i. pick i (decLt i k); target = s .target }
   where
     pick : (i : ℕ) → Dec (i < k) → N (getD (take k b) i []) ≤ℤ pos 400000000
     pick i (yes m) = rw (getD-take k b i [] m) (s .short i m)

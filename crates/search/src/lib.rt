@@ -231,11 +231,11 @@ fn next_step(g: [[i64; 3]; 3], c: [i64; 3], k: usize) -> Step
 }
 
 // The inner products of the first k vectors with v, zeros behind.
-fn products(b: [[i64; 4]; 4], k: usize, v: [i64; 4]) -> [i64; 3]
+fn products(b: &[[i64; 4]; 4], k: usize, v: [i64; 4]) -> [i64; 3]
     requires { ⌜ k ≤ 3 ⌝ }
-    requires { ⌜ ((i : ℕ) → i < k → Bounded 100000 (getD b i [])) ⌝ }
+    requires { ⌜ ((i : ℕ) → i < k → Bounded 100000 (getD (now b) i [])) ⌝ }
     requires { ⌜ Bounded 100000 v ⌝ }
-    ensures { λ r. ⌜ Products (take k b) v r ⌝ }
+    ensures { λ r. ⌜ Products (take k (now (b .entry))) v r ⌝ }
 {
     let mut r = [0; 3];
     for i in 0..k {
@@ -245,10 +245,10 @@ fn products(b: [[i64; 4]; 4], k: usize, v: [i64; 4]) -> [i64; 3]
 }
 
 // The Gram matrix of the first k vectors, zeros behind.
-fn gram(b: [[i64; 4]; 4], k: usize) -> [[i64; 3]; 3]
+fn gram(b: &[[i64; 4]; 4], k: usize) -> [[i64; 3]; 3]
     requires { ⌜ k ≤ 3 ⌝ }
-    requires { ⌜ ((i : ℕ) → i < k → Bounded 100000 (getD b i [])) ⌝ }
-    ensures { λ r. ⌜ Gram (take k b) r ⌝ }
+    requires { ⌜ ((i : ℕ) → i < k → Bounded 100000 (getD (now b) i [])) ⌝ }
+    ensures { λ r. ⌜ Gram (take k (now (b .entry))) r ⌝ }
 {
     let mut g = [[0; 3]; 3];
     for i in 0..k {
@@ -258,10 +258,10 @@ fn gram(b: [[i64; 4]; 4], k: usize) -> [[i64; 3]; 3]
 }
 
 // The coefficients of the vector nearest to t in the lattice of the first k vectors: steps to a smaller value until there is none.
-pub fn search(b: [[i64; 4]; 4], k: usize, t: [i64; 4]) -> [i64; 3]
+pub fn search(b: &[[i64; 4]; 4], k: usize, t: [i64; 4]) -> [i64; 3]
     requires { ⌜ k ≤ 3 ⌝ }
-    requires { ⌜ Searchable k b t ⌝ }
-    ensures { λ r. ⌜ r ≡ padded 3 (nearest (take k b) t) ⌝ }
+    requires { ⌜ Searchable k (now b) t ⌝ }
+    ensures { λ r. ⌜ r ≡ padded 3 (nearest (take k (now (b .entry))) t) ⌝ }
 {
     let g = gram(b, k);
     let mut c = products(b, k, t);

@@ -21,14 +21,14 @@ array-set-from-a : tie.Need-array-set-from-a
 array-set-from-a c = search needs
 
 search-requires : tie.Need-search-requires
-search-requires c κs = (omega arith, alone-searchable (c .before .args .t1) (count (c .before)) (c .before .pre))
+search-requires c κs = (omega arith, alone-searchable (c .before .before .args .t1) (count (c .before .before)) (c .before .before .pre))
 
 array-copy-out-result : tie.Need-array-copy-out-result
 array-copy-out-result c = search needs
 
 returns : tie.Need-returns
 returns c =
-    let s = c .before .before .before in
+    let s = c .before .before .before .before in
     let f : SFits w64 (nth (c .before .search .result) 0) = record { sfits = c .result .given } in
     simp (toZ-ofZ, f) (along-reachable (s .args .t1) (count s) (s .pre) (c .before .search .result) (c .before .search .ensures))
 

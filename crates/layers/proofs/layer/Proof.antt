@@ -35,45 +35,45 @@ target : (c : tie.After-minus-multiple) → let s = c .before .before in c .minu
 target c = let s = c .before .before in simp (toZ-ofZ, s .fits .j) at (c .minus-multiple .ensures)
 
 search-requires : tie.Need-search-requires
-search-requires c κs = let s = c .before .before in (omega arith, rw (target c) (three (s .args .t1) (count s) _ (s .pre .0) (s .pre .1 .short)))
+search-requires c κs = let s = c .before .before .before in (omega arith, rw (target (c .before)) (three (s .args .t1) (count s) _ (s .pre .0) (s .pre .1 .short)))
 
-found : (c : tie.After-search) → let s = c .before .before .before in
+found : (c : tie.After-search) → let s = c .before .before .before .before in
     c .search .result ≡ padded 3 (nearest (take 3 (s .args .t1)) (s .args .r ⊖ s .args .j ⊙ getD (s .args .t1) 3 []))
-found c = rw (target (c .before)) at (c .search .ensures)
+found c = rw (target (c .before .before)) at (c .search .ensures)
 
 left-requires : tie.Need-left-requires
-left-requires c κs = let s = c .before .before .before in (omega arith, rw (target (c .before), found c) (left-room 3 (s .args .t1) _ (vectors s)))
+left-requires c κs = let s = c .before .before .before .before in (omega arith, rw (target (c .before .before), found c) (left-room 3 (s .args .t1) _ (vectors s)))
 
-rest : (c : tie.After-left) → let s = c .before .before .before .before in
+rest : (c : tie.After-left) → let s = c .before .before .before .before .before in
     let u = s .args .r ⊖ s .args .j ⊙ getD (s .args .t1) 3 [] in c .left .result ≡ u ⊖ comb (nearest (take 3 (s .args .t1)) u) (take 3 (s .args .t1))
-rest c = let s = c .before .before .before .before in rw (target (c .before .before), found (c .before), taken 3 (s .args .t1) _ (vectors s)) at (c .left .ensures)
+rest c = let s = c .before .before .before .before .before in rw (target (c .before .before .before), found (c .before), taken 3 (s .args .t1) _ (vectors s)) at (c .left .ensures)
 
-array-copy-out-t16 : tie.Need-array-copy-out-t16
-array-copy-out-t16 c = search needs
+array-copy-out-t17 : tie.Need-array-copy-out-t17
+array-copy-out-t17 c = search needs
 
-array-copy-out-t19 : tie.Need-array-copy-out-t19
-array-copy-out-t19 c = search needs
+array-copy-out-t20 : tie.Need-array-copy-out-t20
+array-copy-out-t20 c = search needs
 
-array-copy-out-t22 : tie.Need-array-copy-out-t22
-array-copy-out-t22 c = search needs
+array-copy-out-t23 : tie.Need-array-copy-out-t23
+array-copy-out-t23 c = search needs
 
 improves-requires : tie.Need-improves-requires
 improves-requires c κs =
     let d = c .before .before .before in
-    let s = d .before .before .before .before in
+    let s = d .before .before .before .before .before in
     (λ i. within-le (omega arith) (coordinates (s .args .r) (s .pre .0 .target) i), rw (rest d) (rest-bounded 3 (s .args .t1) _ (vectors s)))
 
 returns : tie.Need-returns
 returns c =
     let d = c .before .before .before .before in
-    let s = d .before .before .before .before in
+    let s = d .before .before .before .before .before in
     let vs = take 3 (s .args .t1) in
     let u = s .args .r ⊖ s .args .j ⊙ getD (s .args .t1) 3 [] in
     let x = nearest vs u in
     let y = d .before .search .result in
-    let p : SFits w64 (nth y 0) = record { sfits = c .before .before .before .t16 .given } in
-    let q : SFits w64 (nth y 1) = record { sfits = c .before .before .t19 .given } in
-    let t : SFits w64 (nth y 2) = record { sfits = c .before .t22 .given } in
+    let p : SFits w64 (nth y 0) = record { sfits = c .before .before .before .t17 .given } in
+    let q : SFits w64 (nth y 1) = record { sfits = c .before .before .t20 .given } in
+    let t : SFits w64 (nth y 2) = record { sfits = c .before .t23 .given } in
     record {
       list = simp (toZ-ofZ, p, q, t, s .fits .j) (listed x y (s .args .j) (nearest-count vs u ∙ vectors s .count) (found (d .before)));
       rest = rest d;
@@ -88,8 +88,8 @@ layer-spec =
     minus-multiple-requires
     search-requires
     left-requires
-    array-copy-out-t16
-    array-copy-out-t19
-    array-copy-out-t22
+    array-copy-out-t17
+    array-copy-out-t20
+    array-copy-out-t23
     improves-requires
     returns)

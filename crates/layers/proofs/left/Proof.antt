@@ -3,7 +3,7 @@ use mathlib.Core.Path.{_≡_, ap, _∙_}
 use mathlib.Core.List.{[]}
 use native.Mathlib.Nat.{le-refl}
 use borrow.Author.Needs.{needs}
-use lib.ListN.{getD, set, take}
+use lib.ListN.{length, getD, set, take, length-set}
 use lib.Seq.{getD-set-same, take-set-le, set-set}
 use Rattle.layers.proofs.left.Statement.{statement}
 use Rattle.layers.proofs.left.Tie as tie
@@ -14,6 +14,9 @@ mul-t c = search needs
 array-set-from-t : tie.Need-array-set-from-t
 array-set-from-t c = search needs
 
+count : (c : tie.Start) → length (c .args .b) ≡ 4
+count c = search needs
+
 -- row k is s, the rows before it are the vectors
 own : (c : tie.Start) → getD (set (c .args .b) (c .args .k) (c .args .s)) (c .args .k) [] ≡ c .args .s
 own c = getD-set-same (c .args .b) (c .args .k) (c .args .s) [] (search needs)
@@ -22,7 +25,9 @@ others : (c : tie.Start) → take (c .args .k) (set (c .args .b) (c .args .k) (c
 others c = take-set-le (c .args .k) (c .args .b) (c .args .k) (c .args .s) (le-refl (c .args .k))
 
 minus-rows-requires : tie.Need-minus-rows-requires
-minus-rows-requires c κs = (c .pre .0, λ i. rw (own c, others c) (c .pre .1 i))
+minus-rows-requires c κs =
+    let s = c .before in
+    (s .pre .0, (length-set (s .args .b) (s .args .k) (s .args .s) ∙ count s, λ i. rw (own s, others s) (s .pre .1 i)))
 
 mul-result : tie.Need-mul-result
 mul-result c = search needs
@@ -32,7 +37,7 @@ array-copy-out-result c = search needs
 
 returns : tie.Need-returns
 returns c =
-    let s = c .before .before in
+    let s = c .before .before .before in
     ap (λ t. getD t (s .args .k) []) (c .before .minus-rows .ensures)
     ∙ rw (own s, others s, set-set (s .args .b) (s .args .k) (s .args .s)) (getD-set-same (s .args .b) (s .args .k) _ [] (search needs))
 

@@ -1,5 +1,5 @@
 -- `minus_multiple` takes q times b away: after i turns the first i places are done.
-use mathlib.Core.Path.{_≡_, refl, ap, _∙_}
+use mathlib.Core.Path.{_≡_, refl, sym, ap, _∙_}
 use Prim.Native.Nat.{_≤_, _-_}
 use native.Mathlib.Numerals.{add-one}
 use native.Mathlib.Omega.{arith}
@@ -11,6 +11,7 @@ use mir.Val.{SFits, ofZ, toZ}
 use mir.Facts.{toZ-ofZ}
 use Rattle.lattices.specs.Vector.{_⊖_, _⊙_}
 use Rattle.rows.specs.Front.{front, front-all}
+use Rattle.rows.specs.Loss.{⊖-nothing}
 use Rattle.rows.specs.Minus.{Turn, minus-turn, minus-entry, minus-next, length-minus}
 use Rattle.rows.proofs.minus_multiple.Statement.{statement}
 use Rattle.rows.proofs.minus_multiple.Tie as tie
@@ -21,20 +22,28 @@ Inv-loop q b r₀ i₀ r i = (i ≤ 4) × (r ≡ front i (r₀ ⊖ toZ w64 q ⊙
 abbrev μ-loop : tie.MeasureT-loop
 μ-loop q b r₀ i₀ r i = 4 - i
 
+returns : tie.Need-returns Inv-loop μ-loop
+returns c =
+    let s = c .before in
+    let e : toZ w64 (ofZ w64 (s .args .q)) ≡ pos 0 = ap (toZ w64) (c .if1 .taken) in
+    let q : s .args .q ≡ pos 0 = sym (toZ-ofZ (s .fits .q)) ∙ e in
+    let l : length (s .args .t3) ≤ length (s .args .a) = search needs in
+    sym (ap (λ x. s .args .a ⊖ x ⊙ s .args .t3) q ∙ ⊖-nothing (s .args .a) (s .args .t3) l)
+
 loop-holds : tie.Need-loop-holds Inv-loop μ-loop
 loop-holds c = (search needs, refl)
 
 -- what fits in a turn, and the entry that it reads
-turn : (c : tie.After-r Inv-loop μ-loop) → Turn (c .before .before .before .args .a) (c .before .before .before .args .q) (c .before .before .before .args .t3) (c .before .before .loop .i)
-turn c = minus-turn _ _ _ _ (c .before .before .before .pre (c .before .before .loop .i))
+turn : (c : tie.After-r Inv-loop μ-loop) → Turn (c .before .before .before .before .args .a) (c .before .before .before .before .args .q) (c .before .before .before .before .args .t3) (c .before .before .loop .i)
+turn c = minus-turn _ _ _ _ (c .before .before .before .before .pre (c .before .before .loop .i))
 
-as-it-was : (c : tie.After-r Inv-loop μ-loop) → getD (c .before .before .loop .r) (c .before .before .loop .i) (pos 0) ≡ getD (c .before .before .before .args .a) (c .before .before .loop .i) (pos 0)
+as-it-was : (c : tie.After-r Inv-loop μ-loop) → getD (c .before .before .loop .r) (c .before .before .loop .i) (pos 0) ≡ getD (c .before .before .before .before .args .a) (c .before .before .loop .i) (pos 0)
 as-it-was c =
-    let s = c .before .before .before in
+    let s = c .before .before .before .before in
     let i = c .before .before .loop .i in
     ap (λ l. getD l i (pos 0)) (c .before .before .loop .inv .1) ∙ minus-entry (s .args .a) (toZ w64 (ofZ w64 (s .args .q))) (s .args .t3) i (search needs) (search needs)
 
-b-fits : (c : tie.After-r Inv-loop μ-loop) → SFits w64 (getD (c .before .before .before .args .t3) (c .before .before .loop .i) (pos 0))
+b-fits : (c : tie.After-r Inv-loop μ-loop) → SFits w64 (getD (c .before .before .before .before .args .t3) (c .before .before .loop .i) (pos 0))
 b-fits c = record { sfits = c .r .given }
 
 mul-r : tie.Need-mul-r Inv-loop μ-loop
@@ -44,7 +53,7 @@ array-copy-out-r : tie.Need-array-copy-out-r Inv-loop μ-loop
 array-copy-out-r c = search needs
 
 mul-r-2 : tie.Need-mul-r-2 Inv-loop μ-loop
-mul-r-2 c = simp (toZ-ofZ, c .before .before .before .fits .q, b-fits c) (turn c .multiple)
+mul-r-2 c = simp (toZ-ofZ, c .before .before .before .before .fits .q, b-fits c) (turn c .multiple)
 
 mul-r-3 : tie.Need-mul-r-3 Inv-loop μ-loop
 mul-r-3 c = search needs
@@ -55,7 +64,7 @@ array-copy-out-r-2 c = search needs
 sub-r : tie.Need-sub-r Inv-loop μ-loop
 sub-r c =
     let b = c .before in
-    simp (toZ-ofZ, b .before .before .before .fits .q, b-fits b, as-it-was b, turn b .entry, turn b .multiple) (turn b .difference)
+    simp (toZ-ofZ, b .before .before .before .before .fits .q, b-fits b, as-it-was b, turn b .entry, turn b .multiple) (turn b .difference)
 
 array-set-from-r : tie.Need-array-set-from-r Inv-loop μ-loop
 array-set-from-r c = search needs
@@ -69,16 +78,16 @@ loop-less c = search needs
 loop-again : tie.Need-loop-again Inv-loop μ-loop
 loop-again c =
     let b = c .before in
-    let s = b .before .before .before in (
+    let s = b .before .before .before .before in (
       search needs,
-      simp (toZ-ofZ, b .before .before .before .fits .q, b-fits b, as-it-was b, turn b .entry, turn b .multiple, turn b .difference)
+      simp (toZ-ofZ, b .before .before .before .before .fits .q, b-fits b, as-it-was b, turn b .entry, turn b .multiple, turn b .difference)
           (simp (b .before .before .loop .inv .1, add-one, toZ-ofZ, s .fits .q)
           (minus-next (s .args .a) (s .args .q) (s .args .t3) (b .before .before .loop .i) (search needs) (search needs))),
     )
 
-returns : tie.Need-returns Inv-loop μ-loop
-returns c =
-    let s = c .before .before in
+returns-2 : tie.Need-returns-2 Inv-loop μ-loop
+returns-2 c =
+    let s = c .before .before .before in
     let a = s .args .a in
     let m = a ⊖ s .args .q ⊙ s .args .t3 in
     let e : length a ≡ length (s .args .t3) = search needs in
@@ -91,6 +100,7 @@ minus-multiple-spec =
     (tie.spec
     Inv-loop
     μ-loop
+    returns
     loop-holds
     mul-r
     array-copy-out-r
@@ -102,4 +112,4 @@ minus-multiple-spec =
     add-i
     loop-less
     loop-again
-    returns)
+    returns-2)

@@ -1,69 +1,56 @@
--- `order` packs the rows at the ordered places.
-use mathlib.Core.Path.{_≡_, ap, _∙_}
-use mathlib.Core.List.{map}
-use lib.ListN.{length}
-use Rattle.lattices.specs.Vector.{nth}
-use Rattle.rows.specs.Rows.{vectorRow, tableRow, firstFour}
-use Rattle.rows.specs.Places.{orderedFrom}
-use Rattle.rows.specs.Order.{picked-ordered}
+-- `order` inserts from the last row to the first: those from i on are in order.
+use mathlib.Core.Path.{_≡_, sym, ap, _∙_}
+use Prim.Native.Nat.{_≤_, _-_, suc}
+use native.Mathlib.Omega.{arith}
+use denote.Ref.{now}
+use Rattle.rows.specs.Rows.{Four, rowsOf, four-rows}
+use Rattle.rows.specs.Order.{Small, insertAt, orderedFrom, orderedFrom-last, orderedFrom-next}
 use borrow.Author.Needs.{needs}
 use Rattle.rows.proofs.order.Statement.{statement}
 use Rattle.rows.proofs.order.Tie as tie
-use Rattle.rows.proofs.places.Reads as places-reads
-use Rattle.rows.proofs.rows_at.Reads as rows-at-reads
-use Rattle.rows.proofs.squared_lengths.Reads as squared-lengths-reads
-use Rattle.rows.proofs.table_rows.Reads as table-rows-reads
-use Rattle.rows.proofs.vector_rows.Reads as vector-rows-reads
+use Rattle.rows.proofs.insert.Reads as insert-reads
 
-squared-lengths-requires : tie.Need-squared-lengths-requires
-squared-lengths-requires c κs = search needs
+abbrev Inv-loop : tie.InvT-loop
+Inv-loop b₀ u₀ v₀ n i₀ b u v i =
+    (i ≤ n) × (Four b u v × (Small b × (rowsOf b u v ≡ orderedFrom n i (rowsOf b₀ u₀ v₀))))
 
-places-requires : tie.Need-places-requires
-places-requires c κs = search needs
+abbrev μ-loop : tie.MeasureT-loop
+μ-loop b₀ u₀ v₀ n i₀ b u v i = i
 
-rows-at-requires : tie.Need-rows-at-requires
-rows-at-requires c κs = search needs
+loop-holds : tie.Need-loop-holds Inv-loop μ-loop
+loop-holds c =
+    let f = c .pre .1 .0 in
+    (search needs, (f, (c .pre .1 .1, sym (orderedFrom-last (c .args .n) (rowsOf (now (c .args .b)) (now (c .args .u)) (now (c .args .v))) (omega (arith, four-rows f, c .pre .0))))))
 
-vector-rows-requires : tie.Need-vector-rows-requires
-vector-rows-requires c κs = search needs
+sub-i : tie.Need-sub-i Inv-loop μ-loop
+sub-i c = search needs
 
-rows-at-requires-2 : tie.Need-rows-at-requires-2
-rows-at-requires-2 c κs = search needs
+insert-requires : tie.Need-insert-requires Inv-loop μ-loop
+insert-requires c κs = let l = c .before .before .before .before .loop .inv in ((search needs, search needs), (l .1 .0, l .1 .1 .0))
 
-table-rows-requires : tie.Need-table-rows-requires
-table-rows-requires c κs = search needs
+loop-less : tie.Need-loop-less Inv-loop μ-loop
+loop-less c = search needs
 
-rows-at-requires-3 : tie.Need-rows-at-requires-3
-rows-at-requires-3 c κs = search needs
+loop-again : tie.Need-loop-again Inv-loop μ-loop
+loop-again c =
+    let a = c .before .before .before .before .before in
+    let s = a .before in
+    let n = s .args .n in
+    let k = a .loop .i - 1 in
+    let rows = rowsOf (now (s .args .b)) (now (s .args .u)) (now (s .args .v)) in
+    let e : a .loop .i ≡ suc k = search needs in
+    let r : rowsOf (a .loop .b) (a .loop .u) (a .loop .v) ≡ orderedFrom n (suc k) rows = a .loop .inv .1 .1 .1 ∙ ap (λ i. orderedFrom n i rows) e in
+    let p = c .insert .ensures in
+    (search needs, (p .0, (p .1 .0, p .1 .1 ∙ ap (insertAt k (n - suc k)) r ∙ orderedFrom-next k (n - suc k) n rows (omega arith) (omega (arith, four-rows (s .pre .1 .0), s .pre .0)))))
 
-table-rows-requires-2 : tie.Need-table-rows-requires-2
-table-rows-requires-2 c κs = search needs
-
-lengths : (s : tie.Start) → (length (s .args .b) ≡ 4) × (length (s .args .u) ≡ 4) × (length (s .args .v) ≡ 4)
-lengths s = (search needs, search needs, search needs)
-
-returns : tie.Need-returns
+returns : tie.Need-returns Inv-loop μ-loop
 returns c =
-    let vectors = c .before .before .before .before in
-    let us = c .before .before in
-    let at = vectors .before .before in
-    let s = at .before .before in
-    let e = vectors .vector-rows .ensures ∙ ap (map vectorRow) (vectors .before .rows-at .ensures) in
-    let f = us .table-rows .ensures ∙ ap (map tableRow) (us .before .rows-at2 .ensures) in
-    let g = c .table-rows2 .ensures ∙ ap (map tableRow) (c .before .rows-at3 .ensures) in
-    let h = at .places .ensures .1 ∙ ap (λ k. orderedFrom (nth k) (s .args .n) 0 firstFour) (at .before .squared-lengths .ensures) in
-    rw (e, f, g) (picked-ordered (s .args .b) (s .args .u) (s .args .v) (lengths s .0) (lengths s .1) (lengths s .2) (s .args .n) (s .args .passes) h)
+    let a = c .before in
+    let s = a .before in
+    let e : a .loop .i ≡ 0 = search needs in
+    (a .loop .inv .1 .0, a .loop .inv .1 .1 .1 ∙ ap (λ i. orderedFrom (s .args .n) i (rowsOf (now (s .args .b)) (now (s .args .u)) (now (s .args .v)))) e)
 
 pub order-spec : {M : Type 1} → statement M
 order-spec =
     tie.close
-    (tie.spec
-    squared-lengths-requires
-    places-requires
-    rows-at-requires
-    vector-rows-requires
-    rows-at-requires-2
-    table-rows-requires
-    rows-at-requires-3
-    table-rows-requires-2
-    returns)
+    (tie.spec Inv-loop μ-loop loop-holds sub-i insert-requires loop-less loop-again returns)

@@ -3,6 +3,7 @@ use mathlib.Core.Path.{_≡_}
 use mathlib.Core.List.{[]}
 use Prim.Native.Nat.{_≤_, _-_}
 use borrow.Author.Needs.{needs}
+use denote.Ref.{now}
 use native.Mathlib.Omega.{arith}
 use lib.IntN.{pos}
 use lib.ListN.{getD, take, replicate}
@@ -12,10 +13,10 @@ use Rattle.search.proofs.gram.Statement.{statement}
 use Rattle.search.proofs.gram.Tie as tie
 
 abbrev Inv-loop : tie.InvT-loop
-Inv-loop k b g₀ i₀ g i = (i ≤ k) × Filled [] (replicate 3 (pos 0)) (λ j r. Products (take k b) (getD b j []) r) 3 i g
+Inv-loop b k g₀ i₀ g i = (i ≤ k) × Filled [] (replicate 3 (pos 0)) (λ j r. Products (take k b) (getD b j []) r) 3 i g
 
 abbrev μ-loop : tie.MeasureT-loop
-μ-loop k b g₀ i₀ g i = k - i
+μ-loop b k g₀ i₀ g i = k - i
 
 loop-holds : tie.Need-loop-holds Inv-loop μ-loop
 loop-holds c = (search needs, filled-none [] (replicate 3 (pos 0)) _ 3)
@@ -23,8 +24,8 @@ loop-holds c = (search needs, filled-none [] (replicate 3 (pos 0)) _ 3)
 mul-products : tie.Need-mul-products Inv-loop μ-loop
 mul-products c = search needs
 
-array-copy-out-products : tie.Need-array-copy-out-products Inv-loop μ-loop
-array-copy-out-products c = search needs
+element-copy-out-products : tie.Need-element-copy-out-products Inv-loop μ-loop
+element-copy-out-products c = search needs
 
 products-requires : tie.Need-products-requires Inv-loop μ-loop
 products-requires c κs =
@@ -50,7 +51,7 @@ returns : tie.Need-returns Inv-loop μ-loop
 returns c =
     let s = c .before .before in
     let e : c .before .loop .i ≡ s .args .k = omega arith in
-    gram-filled (s .args .k) (s .pre .0) (s .args .t1) (c .before .loop .g) (rw e at (c .before .loop .inv .1))
+    gram-filled (s .args .k) (s .pre .0) (now (s .args .b)) (c .before .loop .g) (rw e at (c .before .loop .inv .1))
 
 pub gram-spec : {M : Type 1} → statement M
 gram-spec =
@@ -60,7 +61,7 @@ gram-spec =
     μ-loop
     loop-holds
     mul-products
-    array-copy-out-products
+    element-copy-out-products
     products-requires
     mul-g
     array-set-from-g

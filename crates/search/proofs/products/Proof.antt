@@ -3,6 +3,7 @@ use mathlib.Core.Path.{_≡_}
 use mathlib.Core.List.{[]}
 use Prim.Native.Nat.{_≤_, _-_}
 use borrow.Author.Needs.{needs}
+use denote.Ref.{now}
 use native.Mathlib.Omega.{arith}
 use lib.IntN.{pos}
 use lib.ListN.{getD}
@@ -16,10 +17,10 @@ use Rattle.search.proofs.products.Statement.{statement}
 use Rattle.search.proofs.products.Tie as tie
 
 abbrev Inv-loop : tie.InvT-loop
-Inv-loop k v b r₀ i₀ r i = (i ≤ k) × Filled (pos 0) (pos 0) (λ j x. x ≡ dot (getD b j []) v) 3 i r
+Inv-loop b k v r₀ i₀ r i = (i ≤ k) × Filled (pos 0) (pos 0) (λ j x. x ≡ dot (getD b j []) v) 3 i r
 
 abbrev μ-loop : tie.MeasureT-loop
-μ-loop k v b r₀ i₀ r i = k - i
+μ-loop b k v r₀ i₀ r i = k - i
 
 loop-holds : tie.Need-loop-holds Inv-loop μ-loop
 loop-holds c = (search needs, filled-none (pos 0) (pos 0) _ 3)
@@ -27,8 +28,8 @@ loop-holds c = (search needs, filled-none (pos 0) (pos 0) _ 3)
 mul-dot : tie.Need-mul-dot Inv-loop μ-loop
 mul-dot c = search needs
 
-array-copy-out-dot : tie.Need-array-copy-out-dot Inv-loop μ-loop
-array-copy-out-dot c = search needs
+element-copy-out-dot : tie.Need-element-copy-out-dot Inv-loop μ-loop
+element-copy-out-dot c = search needs
 
 dot-requires : tie.Need-dot-requires Inv-loop μ-loop
 dot-requires c κs =
@@ -56,7 +57,7 @@ returns : tie.Need-returns Inv-loop μ-loop
 returns c =
     let s = c .before .before in
     let e : c .before .loop .i ≡ s .args .k = omega arith in
-    products-filled (s .args .k) (s .pre .0) (s .args .t1) (s .args .v) (c .before .loop .r) (rw e at (c .before .loop .inv .1))
+    products-filled (s .args .k) (s .pre .0) (now (s .args .b)) (s .args .v) (c .before .loop .r) (rw e at (c .before .loop .inv .1))
 
 pub products-spec : {M : Type 1} → statement M
 products-spec =
@@ -66,7 +67,7 @@ products-spec =
     μ-loop
     loop-holds
     mul-dot
-    array-copy-out-dot
+    element-copy-out-dot
     dot-requires
     mul-r
     array-set-from-r

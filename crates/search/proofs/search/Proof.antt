@@ -1,7 +1,9 @@
 -- `search` keeps the state of the search from the start to the list that no step improves.
 use borrow.Author.Needs.{needs}
+use denote.Ref.{now}
 use borrow.Author.Tests.{not-true, not-false}
-use lib.ListN.{take}
+use mathlib.Core.Path.{_≡_}
+use lib.ListN.{length, take}
 use Rattle.search.specs.Numbers.{moved}
 use Rattle.lattices.specs.Vector.{_⊕_}
 use Rattle.search.specs.Fits.{sized-wide}
@@ -12,10 +14,10 @@ use Rattle.search.proofs.search.Statement.{statement}
 use Rattle.search.proofs.search.Tie as tie
 
 abbrev Inv-loop : tie.InvT-loop
-Inv-loop k g c₀ x₀ c x = Kept k g c₀ c x
+Inv-loop b k g c₀ x₀ c x = Kept k g c₀ c x
 
 abbrev μ-loop : tie.MeasureT-loop
-μ-loop k g c₀ x₀ c x = measure g c₀ x
+μ-loop b k g c₀ x₀ c x = measure g c₀ x
 
 gram-requires : tie.Need-gram-requires Inv-loop μ-loop
 gram-requires c κs = (c .pre .0, rows-bounded (c .pre .1))
@@ -26,17 +28,21 @@ products-requires c κs = (c .before .pre .0, (rows-bounded (c .before .pre .1),
 loop-holds : tie.Need-loop-holds Inv-loop μ-loop
 loop-holds c = kept-start _ _ _
 
-vectors : (c : tie.At-loop Inv-loop μ-loop) → let s = c .before .before .before in Given (s .args .k) (take (s .args .k) (s .args .b)) (s .args .t)
-vectors c = let s = c .before .before .before in given (s .args .k) (s .args .b) (s .args .t) (s .pre .0) (search needs) (s .pre .1)
+vectors : (c : tie.At-loop Inv-loop μ-loop) → let s = c .before .before .before in Given (s .args .k) (take (s .args .k) (now (s .args .b))) (s .args .t)
+vectors c = let s = c .before .before .before in given (s .args .k) (now (s .args .b)) (s .args .t) (s .pre .0) (s .pre .1)
 
 state : (c : tie.At-loop Inv-loop μ-loop)
-    → let s = c .before .before .before in State (s .args .k) (take (s .args .k) (s .args .b)) (s .args .t) (c .before .before .gram .result) (c .loop .c) (c .loop .x)
+    → let s = c .before .before .before in State (s .args .k) (take (s .args .k) (now (s .args .b))) (s .args .t) (c .before .before .gram .result) (c .loop .c) (c .loop .x)
 state c = c .loop .inv .state _ _ (vectors c) (c .before .before .gram .ensures) (c .before .products .ensures)
 
 next-step-requires : tie.Need-next-step-requires Inv-loop μ-loop
 next-step-requires c κs =
     let s = c .before .before .before in
     (s .pre .0, (sized _ _ _ (vectors c) _ _ _ (state c), diagonal _ _ _ (vectors c) _ (c .before .before .gram .ensures)))
+
+-- a step has three coefficients
+long : (c : tie.After-next-step Inv-loop μ-loop) → length (c .next-step .result .list) ≡ 3
+long c = search needs
 
 -- the step that was found
 found : (c : tie.Else1 Inv-loop μ-loop)
@@ -54,12 +60,12 @@ moved-requires c κs =
 loop-less : tie.Need-loop-less Inv-loop μ-loop
 loop-less c =
     let s = c .before .before .before .before .before .before in
-    rw (c .before .added .ensures) (descends _ _ _ (vectors s) _ _ _ _ (state s) (search needs) (found (c .before .before .before)) _ (s .before .products .ensures))
+    rw (c .before .added .ensures) (descends _ _ _ (vectors s) _ _ _ _ (state s) (long (c .before .before .before .before .before)) (found (c .before .before .before)) _ (s .before .products .ensures))
 
 loop-again : tie.Need-loop-again Inv-loop μ-loop
 loop-again c =
     let s = c .before .before .before .before .before .before in
-    rw (c .before .added .ensures, c .moved .ensures) (kept-next _ _ _ _ _ _ (s .loop .inv) (search needs) (found (c .before .before .before)))
+    rw (c .before .added .ensures, c .moved .ensures) (kept-next _ _ _ _ _ _ (s .loop .inv) (long (c .before .before .before .before .before)) (found (c .before .before .before)))
 
 returns : tie.Need-returns Inv-loop μ-loop
 returns c =
