@@ -1,4 +1,5 @@
--- The code of the catalogue against its definitions.
+-- The code of the catalogue against its definitions: what is stored (Words to Catalogues), a step of reading (Readings to Store), the
+-- loop over the words (Progress), the rows after reading and the whole file (Entries to Whole), and writing (Over to Again).
 pub mod Words
 pub mod Parts
 pub mod Filled

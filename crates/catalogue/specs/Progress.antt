@@ -30,6 +30,7 @@ pub record Onward (words : List ℕ) (i : ℕ) (s : State) : Type 0 where
   pub due : Due s
   pub rest : wordsRead s i (drop i words) ≡ wordsRead (outside []) 0 words
 
+-- what the code holds after i words shows such a state
 pub record Reached (words : List ℕ) (i : ℕ) (entries : List Entry) (numbers : List ℕ) (s : Reading) : Type 0 where
   pub state : State
   pub onward : Onward words i state
@@ -66,12 +67,14 @@ few (inside es h vs v) k = k .0 .entered .few
 few (after es h vs) k = k .0 .entered .few
 few (closed es) k = k .few
 
+-- a head has room for its number
 head-few : {s t : State} {i : ℕ} {w : Word} → Moves s i w t → Known t → Space (length (wholeIn t)) w
 head-few (by-head h b p) k = k .0 .few
 head-few (by-coordinate es h vs v l p) k = tt
 head-few (by-see es h vs s) k = tt
 head-few (by-end b) k = tt
 
+-- the outcome after a step
 abbrev after-step : ℕ → List ℕ → Step → Outcome
 after-step i words r = elim r [ next t ↦ wordsRead t (suc i) words | stop n ↦ refused n i ]
 

@@ -53,12 +53,12 @@ fn note(numbers: &mut [u32; 256], count: usize, w: Word)
 }
 
 // The entries of the words, or the refusal of the first word that cannot stand. Entries and numbers of heads are stored in place.
-pub fn read_words(bytes: &[u8]) -> Catalogue
+pub(crate) fn read_words(bytes: &[u8]) -> Catalogue
     ensures { λ r. ⌜ r ≡ catalogueOf (wordsRead (outside []) 0 (wordsOf (now (bytes .entry)))) ⌝ }
 {
     let none = Entry::empty();
-    let mut entries = [none; 256];
-    let mut numbers = [0u32; 256];
+    let mut entries = [none; Catalogue::MOST_ENTRIES];
+    let mut numbers = [0u32; Catalogue::MOST_ENTRIES];
     let mut s = Reading::start();
     let n = bytes.len() / 4;
     for i in 0..n {
@@ -100,7 +100,7 @@ fn dependent(e: Entry) -> bool
 }
 
 // Row "after reading", 5: at the head of the first dependent entry.
-pub fn independent(c: Catalogue) -> Catalogue
+pub(crate) fn independent(c: Catalogue) -> Catalogue
     requires { ⌜ c .count ≤ 256 ⌝ }
     requires { ⌜ All EntryFits (entriesIn c) ⌝ }
     ensures { λ r. ⌜ r ≡ unless 5 (firstPlace dependentAt (entriesIn c)) c ⌝ }
@@ -135,7 +135,7 @@ fn lost(e: Entry, numbers: &[u32], count: usize) -> bool
 }
 
 // Row "after reading", 12: at the first see word that names no entry.
-pub fn found(c: Catalogue) -> Catalogue
+pub(crate) fn found(c: Catalogue) -> Catalogue
     requires { ⌜ c .count ≤ 256 ⌝ }
     ensures { λ r. ⌜ r ≡ unless 12 (firstPlace (lostAt (entriesIn c)) (entriesIn c)) c ⌝ }
 {

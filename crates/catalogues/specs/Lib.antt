@@ -11,6 +11,7 @@ pub mod Examples
 pub mod WordLaws
 pub mod Moves
 pub mod RoundTrip
+pub mod OutputLaws
 pub mod WellFormed
 pub mod EntriesAccepted
 pub mod ReadVectors

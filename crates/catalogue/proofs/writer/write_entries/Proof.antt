@@ -5,11 +5,12 @@ use Prim.Native.Nat.{_+_, _*_, _≤_}
 use native.Mathlib.Omega.{arith}
 use lib.ListN.{length}
 use Rattle.catalogues.specs.Write.{write}
+use Rattle.catalogues.specs.OutputLaws.{too-short, long-enough}
 use Rattle.catalogues.specs.ReadBack.{sees-fit}
 use Rattle.catalogue.specs.Entries.{entriesIn, all-stored, length-entries}
 use Rattle.catalogue.specs.Over.{overWords}
 use Rattle.catalogue.specs.Upto.{few-words}
-use Rattle.catalogue.specs.Writing.{writtenOf, length-write, too-short, long-enough, end-written}
+use Rattle.catalogue.specs.Writing.{writtenOf, length-write, end-written}
 use borrow.Author.Needs.{needs}
 use Rattle.catalogue.proofs.writer.write_entries.Statement.{statement}
 use Rattle.catalogue.proofs.writer.write_entries.Tie as tie
