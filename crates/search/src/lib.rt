@@ -5,7 +5,7 @@ ghost use mathlib.Core.List.{[], _∷_};
 ghost use mathlib.Core.Bool.{false};
 ghost use Prim.Native.Nat.{ℕ, _≤_, _<_};
 ghost use lib.IntN.{pos, _*ℤ_};
-ghost use lib.ListN.{getD, take};
+ghost use lib.ListN.{getD, take, replicate};
 ghost use lib.Signed.{_<ℤ_};
 ghost use Rattle.integers.specs.Size.{Within};
 ghost use Rattle.lattices.specs.Vector.{nth, dot, _⊕_};
@@ -264,18 +264,17 @@ fn next_step(g: [[i64; 3]; 3], c: [i64; 3], k: usize) -> Step
     walk(g, added(c, c), k)
 }
 
-// The inner products of the first k vectors with v, zeros behind.
-fn products(b: &[[i64; 4]; 4], k: usize, v: [i64; 4]) -> [i64; 3]
+// The inner products of the first k vectors with v, zeros behind, to where they are kept.
+fn products(b: &[[i64; 4]; 4], k: usize, v: [i64; 4], r: &mut [i64; 3])
     requires { ⌜ k ≤ 3 ⌝ }
     requires { ⌜ ((i : ℕ) → i < k → Bounded 100000 (getD (now b) i [])) ⌝ }
     requires { ⌜ Bounded 100000 v ⌝ }
-    ensures { λ r. ⌜ Products (take k (now (b .entry))) v r ⌝ }
+    requires { ⌜ now r ≡ replicate 3 (pos 0) ⌝ }
+    ensures { λ _. ⌜ Products (take k (now (b .entry))) v (now (r .exit)) ⌝ }
 {
-    let mut r = [0; 3];
     for i in 0..k {
         r[i] = rows::dot(b[i], v);
     }
-    r
 }
 
 // The Gram matrix of the first k vectors, zeros behind.
@@ -286,7 +285,7 @@ fn gram(b: &[[i64; 4]; 4], k: usize) -> [[i64; 3]; 3]
 {
     let mut g = [[0; 3]; 3];
     for i in 0..k {
-        g[i] = products(b, k, b[i]);
+        products(b, k, b[i], &mut g[i]);
     }
     g
 }
@@ -298,7 +297,8 @@ pub fn search(b: &[[i64; 4]; 4], k: usize, t: [i64; 4]) -> [i64; 3]
     ensures { λ r. ⌜ r ≡ padded 3 (nearest (take k (now (b .entry))) t) ⌝ }
 {
     let g = gram(b, k);
-    let mut c = products(b, k, t);
+    let mut c = [0; 3];
+    products(b, k, t, &mut c);
     let mut x = [0; 3];
     loop {
         let s = next_step(g, c, k);

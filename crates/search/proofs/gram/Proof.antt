@@ -27,16 +27,16 @@ mul-products c = search needs
 element-copy-out-products : tie.Need-element-copy-out-products Inv-loop μ-loop
 element-copy-out-products c = search needs
 
+mul-products-2 : tie.Need-mul-products-2 Inv-loop μ-loop
+mul-products-2 c = search needs
+
+index-1-products : tie.Need-index-1-products Inv-loop μ-loop
+index-1-products c = search needs
+
 products-requires : tie.Need-products-requires Inv-loop μ-loop
 products-requires c κs =
-    let b = c .before .before in
-    (b .before .pre .0, (b .before .pre .1, b .before .pre .1 (b .loop .i) (search needs)))
-
-mul-g : tie.Need-mul-g Inv-loop μ-loop
-mul-g c = search needs
-
-array-set-from-g : tie.Need-array-set-from-g Inv-loop μ-loop
-array-set-from-g c = search needs
+    let b = c .before .before .before in
+    (b .before .pre .0, (b .before .pre .1, (b .before .pre .1 (b .loop .i) (search needs), b .loop .inv .1 .rest (b .loop .i) (omega arith) (search needs))))
 
 add-i : tie.Need-add-i Inv-loop μ-loop
 add-i c = search needs
@@ -45,7 +45,7 @@ loop-less : tie.Need-loop-less Inv-loop μ-loop
 loop-less c = search needs
 
 loop-again : tie.Need-loop-again Inv-loop μ-loop
-loop-again c = (search needs, filled-put _ (c .before .before .before .loop .inv .1) (search needs) (c .products .ensures))
+loop-again c = (search needs, filled-put _ (c .before .before .before .before .loop .inv .1) (search needs) (c .products .ensures))
 
 returns : tie.Need-returns Inv-loop μ-loop
 returns c =
@@ -62,9 +62,9 @@ gram-spec =
     loop-holds
     mul-products
     element-copy-out-products
+    mul-products-2
+    index-1-products
     products-requires
-    mul-g
-    array-set-from-g
     add-i
     loop-less
     loop-again

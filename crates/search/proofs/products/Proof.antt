@@ -1,11 +1,11 @@
 -- `products` fills in an inner product a turn.
-use mathlib.Core.Path.{_≡_}
+use mathlib.Core.Path.{_≡_, sym, subst}
 use mathlib.Core.List.{[]}
-use Prim.Native.Nat.{_≤_, _-_}
+use Prim.Native.Nat.{ℕ, _≤_, _-_}
 use borrow.Author.Needs.{needs}
 use denote.Ref.{now}
 use native.Mathlib.Omega.{arith}
-use lib.IntN.{pos}
+use lib.IntN.{ℤ, pos}
 use lib.ListN.{getD}
 use mir.Syntax.{w64}
 use mir.Val.{SFits}
@@ -23,7 +23,9 @@ abbrev μ-loop : tie.MeasureT-loop
 μ-loop b k v r₀ i₀ r i = k - i
 
 loop-holds : tie.Need-loop-holds Inv-loop μ-loop
-loop-holds c = (search needs, filled-none (pos 0) (pos 0) _ 3)
+loop-holds c =
+    let P : ℕ → ℤ → Type 0 = λ j x. x ≡ dot (getD (now (c .args .b)) j []) (c .args .v) in
+    (search needs, subst (Filled (pos 0) (pos 0) P 3 0) (sym (c .pre .1 .1 .1)) (filled-none (pos 0) (pos 0) P 3))
 
 mul-dot : tie.Need-mul-dot Inv-loop μ-loop
 mul-dot c = search needs
@@ -34,13 +36,13 @@ element-copy-out-dot c = search needs
 dot-requires : tie.Need-dot-requires Inv-loop μ-loop
 dot-requires c κs =
     let b = c .before .before in
-    (b .before .pre .1 .0 (b .loop .i) (search needs), b .before .pre .1 .1)
+    (b .before .pre .1 .0 (b .loop .i) (search needs), b .before .pre .1 .1 .0)
 
-mul-r : tie.Need-mul-r Inv-loop μ-loop
-mul-r c = search needs
+mul-t12 : tie.Need-mul-t12 Inv-loop μ-loop
+mul-t12 c = search needs
 
-array-set-from-r : tie.Need-array-set-from-r Inv-loop μ-loop
-array-set-from-r c = search needs
+element-set-from-r : tie.Need-element-set-from-r Inv-loop μ-loop
+element-set-from-r c = search needs
 
 add-i : tie.Need-add-i Inv-loop μ-loop
 add-i c = search needs
@@ -69,8 +71,8 @@ products-spec =
     mul-dot
     element-copy-out-dot
     dot-requires
-    mul-r
-    array-set-from-r
+    mul-t12
+    element-set-from-r
     add-i
     loop-less
     loop-again

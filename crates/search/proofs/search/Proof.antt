@@ -2,7 +2,7 @@
 use borrow.Author.Needs.{needs}
 use denote.Ref.{now}
 use borrow.Author.Tests.{not-true, not-false}
-use mathlib.Core.Path.{_≡_}
+use mathlib.Core.Path.{_≡_, refl}
 use lib.ListN.{length, take}
 use Rattle.search.specs.Numbers.{moved}
 use Rattle.lattices.specs.Vector.{_⊕_}
@@ -23,22 +23,24 @@ gram-requires : tie.Need-gram-requires Inv-loop μ-loop
 gram-requires c κs = (c .pre .0, rows-bounded (c .pre .1))
 
 products-requires : tie.Need-products-requires Inv-loop μ-loop
-products-requires c κs = (c .before .pre .0, (rows-bounded (c .before .pre .1), coordinates (c .before .args .t) (c .before .pre .1 .target)))
+products-requires c κs =
+    let s = c .before .before in
+    (s .pre .0, (rows-bounded (s .pre .1), (coordinates (s .args .t) (s .pre .1 .target), refl)))
 
 loop-holds : tie.Need-loop-holds Inv-loop μ-loop
 loop-holds c = kept-start _ _ _
 
-vectors : (c : tie.At-loop Inv-loop μ-loop) → let s = c .before .before .before in Given (s .args .k) (take (s .args .k) (now (s .args .b))) (s .args .t)
-vectors c = let s = c .before .before .before in given (s .args .k) (now (s .args .b)) (s .args .t) (s .pre .0) (s .pre .1)
+vectors : (c : tie.At-loop Inv-loop μ-loop) → let s = c .before .before .before .before in Given (s .args .k) (take (s .args .k) (now (s .args .b))) (s .args .t)
+vectors c = let s = c .before .before .before .before in given (s .args .k) (now (s .args .b)) (s .args .t) (s .pre .0) (s .pre .1)
 
 state : (c : tie.At-loop Inv-loop μ-loop)
-    → let s = c .before .before .before in State (s .args .k) (take (s .args .k) (now (s .args .b))) (s .args .t) (c .before .before .gram .result) (c .loop .c) (c .loop .x)
-state c = c .loop .inv .state _ _ (vectors c) (c .before .before .gram .ensures) (c .before .products .ensures)
+    → let s = c .before .before .before .before in State (s .args .k) (take (s .args .k) (now (s .args .b))) (s .args .t) (c .before .before .before .gram .result) (c .loop .c) (c .loop .x)
+state c = c .loop .inv .state _ _ (vectors c) (c .before .before .before .gram .ensures) (c .before .products .ensures)
 
 next-step-requires : tie.Need-next-step-requires Inv-loop μ-loop
 next-step-requires c κs =
-    let s = c .before .before .before in
-    (s .pre .0, (sized _ _ _ (vectors c) _ _ _ (state c), diagonal _ _ _ (vectors c) _ (c .before .before .gram .ensures)))
+    let s = c .before .before .before .before in
+    (s .pre .0, (sized _ _ _ (vectors c) _ _ _ (state c), diagonal _ _ _ (vectors c) _ (c .before .before .before .gram .ensures)))
 
 -- a step has three coefficients
 long : (c : tie.After-next-step Inv-loop μ-loop) → length (c .next-step .result .list) ≡ 3
@@ -46,7 +48,7 @@ long c = search needs
 
 -- the step that was found
 found : (c : tie.Else1 Inv-loop μ-loop)
-    → let s = c .before .before .before in Better (s .before .before .before .args .k) (s .before .before .gram .result) (s .loop .c ⊕ s .loop .c) (c .before .before .next-step .result .list)
+    → let s = c .before .before .before in Better (s .before .before .before .before .args .k) (s .before .before .before .gram .result) (s .loop .c ⊕ s .loop .c) (c .before .before .next-step .result .list)
 found c = c .before .before .next-step .ensures .found (not-false _ (c .if1 .left))
 
 added-requires : tie.Need-added-requires Inv-loop μ-loop
