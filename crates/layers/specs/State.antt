@@ -14,7 +14,7 @@ use Rattle.integers.specs.Identity.{by-ring, reads}
 use Rattle.integers.specs.Order.{≤ℤ-trans, ≤ℤ-of-≡, ≤ℤ-or-<ℤ}
 use Rattle.integers.specs.Certificate.{NN, _⊞_, _⊠_, le, lt, nn-pos, nn-ring, by-nn, by-lt}
 use Rattle.integers.specs.Size.{Within, within-lower, size-mul}
-use Rattle.integers.specs.Lists.{same, entries, length-⊙, length-⊕-same}
+use Rattle.integers.specs.Lists.{same, entries, length-⊙, length-⊕-same, nth-replicate}
 use Rattle.integers.specs.Lex.{Nonneg, below->}
 use Rattle.lattices.specs.Vector.{Vec, N, nth, comb, _⊕_, _⊙_, _⊖_}
 use Rattle.lattices.specs.VectorLaws.{_≈_, ≈-refl, ≈-sym, ≈-trans, ≈-N, ≈-⊕, comb-zero, ⊖-zero, N-nonneg}
@@ -26,7 +26,6 @@ use Rattle.minima.specs.ReducedLaws.{reduced-last}
 use Rattle.minima.specs.Digits.{Bounded, zeros, power, number, falls, power-nonneg}
 use Rattle.minima.specs.Layers.{Layer, layers}
 use Rattle.minima.specs.NearestLaws.{ended, nearest-only}
-use Rattle.search.specs.Filled.{zero-row}
 use Rattle.search.specs.State.{smaller, gain-residual}
 use Rattle.search.specs.Searchable.{width, volume-positive}
 use Rattle.rows.specs.Minus.{room}
@@ -40,7 +39,7 @@ pub record State (vs : List Vec) (b t : Vec) (x r : List ℤ) : Type 0 where
   pub closer : N r ≤ℤ N t
 
 pub start : (vs : List Vec) (b t : Vec) → State vs b t (replicate 4 (pos 0)) t
-start vs b t = record { rest = ≈-sym (⊖-zero t (comb-zero (replicate 4 (pos 0)) (zero-row 4) (vs ++ (b ∷ [])))); count = refl; closer = ≤ℤ-refl (N t) }
+start vs b t = record { rest = ≈-sym (⊖-zero t (comb-zero (replicate 4 (pos 0)) (nth-replicate 4) (vs ++ (b ∷ [])))); count = refl; closer = ≤ℤ-refl (N t) }
 
 -- ---- the measure: the value as a number in a base above the entries of every step, lifted above 0
 

@@ -10,6 +10,7 @@ use lib.Dec.{T}
 use lib.IntN.{ℤ, pos, negsuc, negℤ, _+ℤ_, _-ℤ_, _*ℤ_, *ℤ-zero}
 use lib.Signed.{_≤ℤ_, _<ℤ_, ≤ℤ-refl}
 use lib.ListN.{length}
+use Rattle.integers.specs.Ring.{negsuc-zero-*ℤ}
 use Rattle.integers.specs.Identity.{by-ring, by-eq, reads}
 use Rattle.integers.specs.Certificate.{NN, _⊞_, _⊠_, le, lt, nn-pos, by-nn, by-lt}
 use Rattle.integers.specs.Size.{Within, within-lower, within-neg}
@@ -57,9 +58,6 @@ below-opposite l e = nonneg-ext (zeros l ⊖ l) (negsuc 0 ⊙ l) opposite (below
   where
     opposite : (i : ℕ) → nth (zeros l ⊖ l) i ≡ nth (negsuc 0 ⊙ l) i
     opposite i = simp (entries, zeros-nth l) (by-ring (nth l i ∷ []) (search reads) (search reads) tt)
-
-minus : (x : ℤ) → negsuc 0 *ℤ x ≡ negℤ x
-minus x = by-ring (x ∷ []) (search reads) (search reads) tt
 
 opposite-zero : (x : ℤ) → negsuc 0 *ℤ x ≡ pos 0 → x ≡ pos 0
 opposite-zero x e = by-eq (x ∷ []) (negsuc 0) e (search reads) (search reads) tt
@@ -151,7 +149,7 @@ module _ (B : ℕ) where
   negative x l e h = ⊎-elim turned flat (positive-or-zeros (negsuc 0 *ℤ x) (negsuc 0 ⊙ l) (below-opposite (x ∷ l) e) opposite)
     where
       opposite : Bounded B (negsuc 0 ⊙ l)
-      opposite i = subst (Within B) (sym (nth-⊙ (negsuc 0) l i ∙ minus (nth l i))) (within-neg (h i))
+      opposite i = subst (Within B) (sym (nth-⊙ (negsuc 0) l i ∙ negsuc-zero-*ℤ (nth l i))) (within-neg (h i))
 
       law : (s : ℤ) → pos 0 <ℤ (negsuc 0 *ℤ s) → s <ℤ pos 0
       law s p = by-lt (s ∷ []) (lt p) (search reads) (search reads) tt

@@ -80,7 +80,7 @@ dot-fit zero z (y ∷ v) e = absurd (omega arith)
 dot-fit (suc m) [] (y ∷ v) e = ap₂ _+ℤ_ (zero-*ℤ y) (dot-fit m [] v (omega arith))
 dot-fit (suc m) (x ∷ z) (y ∷ v) e = ap (λ n. x *ℤ y +ℤ n) (dot-fit m z v (omega arith))
 
-length-against : (bs : List Vec) (w : Vec) → length (against bs w) ≡ length bs
+pub length-against : (bs : List Vec) (w : Vec) → length (against bs w) ≡ length bs
 length-against [] w = refl
 length-against (b ∷ bs) w = ap suc (length-against bs w)
 

@@ -4,10 +4,8 @@ use mathlib.Core.List.{List}
 use Prim.Native.Nat.{ℕ, zero, suc, _+_, _≤_, _<_}
 use native.Mathlib.Omega.{arith}
 use native.Mathlib.Decide.{ℕ-discrete}
-use lib.IntN.{pos}
 use lib.ListN.{length, getD, set, replicate, length-set, length-replicate, getD-replicate}
 use lib.Seq.{getD-set-same, getD-set-other}
-use Rattle.lattices.specs.Vector.{nth}
 
 module _ {A : Type 0} where
   pub record Filled (d z : A) (P : ℕ → A → Type 0) (n i : ℕ) (r : List A) : Type 0 where
@@ -28,8 +26,3 @@ module _ {A : Type 0} where
       at : (j : ℕ) → j < i + 1 → Dec (j ≡ i) → P j (getD (set r i v) j d)
       at j l (yes q) = subst (λ k. P k (getD (set r i v) k d)) (sym q) (subst (P i) (sym (getD-set-same r i v d (omega (arith, p .size)))) e)
       at j l (no q) = subst (P j) (sym (getD-set-other r i j v d q)) (p .done j (omega (arith, q)))
-
-pub zero-row : (n i : ℕ) → nth (replicate n (pos 0)) i ≡ pos 0
-zero-row zero i = refl
-zero-row (suc n) zero = refl
-zero-row (suc n) (suc i) = zero-row n i

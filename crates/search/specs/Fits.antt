@@ -16,6 +16,7 @@ use Rattle.lattices.specs.Vector.{Vec, nth, dot, _⊕_, _⊙_}
 use Rattle.lattices.specs.VectorLaws.{against, bilinear, dot-comm, comb-dot}
 use Rattle.rows.specs.Dot.{dot-suc}
 use Rattle.minima.specs.Digits.{Bounded}
+use Rattle.minima.specs.Snoc.{length-against}
 use Rattle.search.specs.Numbers.{moved, gainOf, Sized}
 use Rattle.search.specs.Filled.{Filled}
 
@@ -60,10 +61,6 @@ unfolding dot
 nth-against [] w i = refl
 nth-against (b ∷ bs) w zero = refl
 nth-against (b ∷ bs) w (suc i) = nth-against bs w i
-
-length-against : (bs : List Vec) (w : Vec) → length (against bs w) ≡ length bs
-length-against [] w = refl
-length-against (b ∷ bs) w = ap suc (length-against bs w)
 
 -- one of them
 abbrev pub movedAt : List (List ℤ) → List ℤ → List ℤ → ℕ → ℤ

@@ -8,13 +8,14 @@ use native.Mathlib.Decide.{decLt}
 use lib.IntN.{ℤ, pos, negℤ, _+ℤ_, _-ℤ_}
 use lib.ListN.{getD, take, replicate, length-take, List·getD-eq-default}
 use lib.Seq.{getD-take}
+use Rattle.integers.specs.Lists.{nth-replicate}
 use Rattle.integers.specs.Identity.{by-ring, reads}
 use Rattle.lattices.specs.Vector.{Vec, N, nth, dot, comb, _⊕_, _⊖_}
 use Rattle.lattices.specs.VectorLaws.{≈-refl, ≈-dot, nth-≈, bilinear, dot-comm, dot-nil, nil-dot, comb-dot, against}
 use Rattle.minima.specs.Values.{gain}
 use Rattle.minima.specs.Table.{improves}
 use Rattle.search.specs.Numbers.{moved, gainOf, negative, improvesOf}
-use Rattle.search.specs.Filled.{Filled, zero-row}
+use Rattle.search.specs.Filled.{Filled}
 use Rattle.search.specs.Fits.{nth-against, nth-moved}
 
 -- c holds the inner products of the vectors with v
@@ -73,5 +74,5 @@ module _ (k : ℕ) (short : k ≤ 3) (b : List Vec) where
 
       pick : (i : ℕ) → Dec (i < k) → Dec (i < 3) → Products (take k b) (getD (take k b) i []) (getD g i [])
       pick i (yes h) m = subst (λ v. Products (take k b) v (getD g i [])) (sym (getD-take k b i [] h)) (p .done i h)
-      pick i (no h) (yes m) = none i (getD g i []) (λ j. ap (λ r. nth r j) (p .rest i (omega (arith, h)) m) ∙ zero-row 3 j) (omega (arith, h))
+      pick i (no h) (yes m) = none i (getD g i []) (λ j. ap (λ r. nth r j) (p .rest i (omega (arith, h)) m) ∙ nth-replicate 3 j) (omega (arith, h))
       pick i (no h) (no m) = none i (getD g i []) (λ j. ap (λ r. nth r j) (List·getD-eq-default g [] (omega (arith, m, p .size)))) (omega (arith, h))

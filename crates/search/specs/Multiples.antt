@@ -16,13 +16,12 @@ use Rattle.integers.specs.Identity.{by-ring, reads}
 use Rattle.integers.specs.Certificate.{_⊞_, _⊠_, le, lt, by-lt, by-nn, nn-pos}
 use Rattle.integers.specs.Order.{≤ℤ-or-<ℤ, ≤ℤ-antisymm}
 use Rattle.integers.specs.Size.{Within, within-mul, within-sub, fits-within, size-neg}
-use Rattle.integers.specs.Lists.{nth-⊕}
+use Rattle.integers.specs.Lists.{nth-⊕, nth-replicate}
 use Rattle.integers.specs.Lex.{below-<, below->, below-≡}
 use Rattle.lattices.specs.Vector.{nth, dot, _⊕_, _⊙_}
 use Rattle.lattices.specs.VectorLaws.{dot-comm, zero-dot}
 use Rattle.minima.specs.Digits.{zeros}
 use Rattle.search.specs.Numbers.{moved, gainOf, negative, improvesOf}
-use Rattle.search.specs.Filled.{zero-row}
 use Rattle.search.specs.Fits.{nth-moved}
 use Rattle.search.specs.Found.{Better, None}
 use Rattle.search.specs.Steps.{steps}
@@ -87,14 +86,14 @@ dot-single : (n i : ℕ) (q : ℤ) (v : List ℤ) → i < n → dot (set (replic
 unfolding dot
 dot-single zero i q v h = absurd (omega arith)
 dot-single (suc n) zero q [] h = sym (*ℤ-zero q)
-dot-single (suc n) zero q (y ∷ v) h = ap (λ s. q *ℤ y +ℤ s) (zero-dot (replicate n (pos 0)) (zero-row n) v) ∙ by-ring (q ∷ y ∷ []) (search reads) (search reads) tt
+dot-single (suc n) zero q (y ∷ v) h = ap (λ s. q *ℤ y +ℤ s) (zero-dot (replicate n (pos 0)) (nth-replicate n) v) ∙ by-ring (q ∷ y ∷ []) (search reads) (search reads) tt
 dot-single (suc n) (suc i) q [] h = sym (*ℤ-zero q)
 dot-single (suc n) (suc i) q (y ∷ v) h = ap (λ s. pos 0 *ℤ y +ℤ s) (dot-single n i q v (omega arith)) ∙ by-ring (y ∷ q ∷ nth v i ∷ []) (search reads) (search reads) tt
 
 nth-single : (P : ℤ → Type 0) (n i j : ℕ) (q : ℤ) → P (pos 0) → (j ≡ i → P q) → P (nth (set (replicate n (pos 0)) i q) j)
 nth-single P zero i j q z f = z
 nth-single P (suc n) zero zero q z f = f refl
-nth-single P (suc n) zero (suc j) q z f = subst P (sym (zero-row n j)) z
+nth-single P (suc n) zero (suc j) q z f = subst P (sym (nth-replicate n j)) z
 nth-single P (suc n) (suc i) zero q z f = z
 nth-single P (suc n) (suc i) (suc j) q z f = nth-single P n i j q z (λ e. f (ap suc e))
 

@@ -17,7 +17,7 @@ use Rattle.integers.specs.Identity.{by-ring, reads}
 use Rattle.integers.specs.Order.{≤ℤ-trans, ≤ℤ-of-≡, ≤ℤ-or-<ℤ}
 use Rattle.integers.specs.Certificate.{NN, _⊞_, _⊠_, le, lt, eq, nn-pos, nn-ring, by-nn, by-lt}
 use Rattle.integers.specs.Size.{Within, within-add, within-mul, within-lower}
-use Rattle.integers.specs.Lists.{same, nth-⊕, length-⊕-same}
+use Rattle.integers.specs.Lists.{same, nth-replicate, nth-⊕, length-⊕-same}
 use Rattle.integers.specs.Lex.{below->, nonneg-ext}
 use Rattle.lattices.specs.Vector.{Vec, N, nth, comb, _⊕_, _⊖_}
 use Rattle.lattices.specs.VectorLaws.{_≈_, ≈-refl, ≈-sym, ≈-dot, ≈-N, ≈-⊕, ≈-⊙, nth-≈, comb-≈, comb-zero, ⊖-zero, N-nonneg}
@@ -33,7 +33,6 @@ use Rattle.minima.specs.Pairs.{pairs-reduced}
 use Rattle.minima.specs.Table.{improves, table-least}
 use Rattle.minima.specs.NearestLaws.{nearest-only}
 use Rattle.search.specs.Numbers.{moved, gainOf, improvesOf, Sized}
-use Rattle.search.specs.Filled.{zero-row}
 use Rattle.search.specs.Steps.{count, steps-cover}
 use Rattle.search.specs.Found.{Better, None}
 use Rattle.search.specs.Gram.{Products, Gram, products-moved, gain-of, improves-is}
@@ -50,10 +49,10 @@ products-≈ : {bs : List Vec} {r s : Vec} {c : List ℤ} → r ≈ s → Produc
 products-≈ {bs} e p = record { at = λ i. p .at i ∙ ≈-dot (≈-refl {u = getD bs i []}) e }
 
 pub start : (k : ℕ) (bs : List Vec) (t : Vec) (g : List (List ℤ)) (c : List ℤ) → Gram bs g → Products bs t c → State k bs t g c (replicate 3 (pos 0))
-start k bs t g c q p = record { gram = q; products = products-≈ {r = t} (≈-sym still) p; count = refl; behind = λ j h. zero-row 3 j; closer = ≤ℤ-of-≡ (≈-N still) }
+start k bs t g c q p = record { gram = q; products = products-≈ {r = t} (≈-sym still) p; count = refl; behind = λ j h. nth-replicate 3 j; closer = ≤ℤ-of-≡ (≈-N still) }
   where
     still : t ⊖ comb (replicate 3 (pos 0)) bs ≈ t
-    still = ⊖-zero t (comb-zero (replicate 3 (pos 0)) (zero-row 3) bs)
+    still = ⊖-zero t (comb-zero (replicate 3 (pos 0)) (nth-replicate 3) bs)
 
 -- ---- the measure: the value as a number in a base above the entries of every step, but for the constant N t, and lifted above 0
 
