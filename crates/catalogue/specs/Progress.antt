@@ -12,13 +12,13 @@ use borrow.Author.Tests.{lt-ltb, le-ltb}
 use Rattle.catalogues.specs.Word.{Word, decode}
 use Rattle.catalogues.specs.WordLaws.{InRange, decode-range}
 use Rattle.catalogues.specs.Catalogue.{Outcome, refused}
-use Rattle.catalogues.specs.Read.{State, outside, inside, after, closed, Step, next, stop, step}
+use Rattle.catalogues.specs.Read.{State, outside, inside, after, closed, Step, next, stop, step, atLast, readWords}
 use Rattle.catalogues.specs.Moves.{Moves, by-head, by-coordinate, by-see, by-end, Going, moved}
-use Rattle.catalogues.specs.WellFormed.{Known, known-moves}
+use Rattle.catalogues.specs.WellFormed.{Known, known-moves, nothing-read}
 use Rattle.catalogue.specs.declared.Entry.{Entry}
 use Rattle.catalogue.specs.declared.reading.Reading.{Reading}
 use Rattle.catalogue.specs.Filled.{filled}
-use Rattle.catalogue.specs.Catalogues.{noCatalogue, stored, holding, catalogueOf, isClosed, wordsLast, wordsRead}
+use Rattle.catalogue.specs.Catalogues.{noCatalogue, stored, holding, catalogueOf, isClosed}
 use Rattle.catalogue.specs.Readings.{stopped, stepRead, Ready}
 use Rattle.catalogue.specs.States.{readingOf, stepOf, numbersOf, step-shown}
 use Rattle.catalogue.specs.Room.{Due, due-moves, fine, ready}
@@ -28,7 +28,7 @@ use Rattle.catalogue.specs.Store.{wholeIn, put, store-moves, Space, note
 pub record Onward (words : List ℕ) (i : ℕ) (s : State) : Type 0 where
   pub known : Known s
   pub due : Due s
-  pub rest : wordsRead s i (drop i words) ≡ wordsRead (outside []) 0 words
+  pub rest : readWords s i (drop i words) ≡ readWords (outside []) 0 words
 
 -- what the code holds after i words shows such a state
 pub record Reached (words : List ℕ) (i : ℕ) (entries : List Entry) (numbers : List ℕ) (s : Reading) : Type 0 where
@@ -41,7 +41,7 @@ pub record Reached (words : List ℕ) (i : ℕ) (entries : List Entry) (numbers 
 pub at-start : (words : List ℕ) → Reached words 0 (stored []) (filled 0 256 []) (stopped 0)
 at-start words = record {
   state = outside [];
-  onward = record { known = record { few = omega arith; fits = tt; distinct = tt }; due = tt; rest = refl };
+  onward = record { known = nothing-read; due = tt; rest = refl };
   shown = refl;
   stores = refl;
   notes = refl;
@@ -76,7 +76,7 @@ head-few (by-end b) k = tt
 
 -- the outcome after a step
 abbrev after-step : ℕ → List ℕ → Step → Outcome
-after-step i words r = elim r [ next t ↦ wordsRead t (suc i) words | stop n ↦ refused n i ]
+after-step i words r = elim r [ next t ↦ readWords t (suc i) words | stop n ↦ refused n i ]
 
 -- a step that goes on
 pub record Moved (words : List ℕ) (i : ℕ) (s : State) (w : Word) (t : Reading) : Type 0 where
@@ -93,21 +93,21 @@ module _ (words : List ℕ) (i : ℕ) {entries : List Entry} {numbers : List ℕ
     turned : t ≡ stepOf (step (r .state) i w)
     turned = read ∙ ap₂ (λ l x. stepRead l x i w) (r .notes) (r .shown) ∙ step-shown (r .state) i w (fine (r .state) (r .onward .known) (r .onward .due))
 
-    outcome : after-step i (drop (suc i) words) (step (r .state) i w) ≡ wordsRead (outside []) 0 words
-    unfolding wordsRead
-    outcome = ap (λ x. after-step i (drop (suc i) words) (step (r .state) i x)) word ∙ sym (ap (wordsRead (r .state) i) (drop-cons words i 0 here)) ∙ r .onward .rest
+    outcome : after-step i (drop (suc i) words) (step (r .state) i w) ≡ readWords (outside []) 0 words
+    unfolding readWords
+    outcome = ap (λ x. after-step i (drop (suc i) words) (step (r .state) i x)) word ∙ sym (ap (readWords (r .state) i) (drop-cons words i 0 here)) ∙ r .onward .rest
 
-    pub refuses : t .refusal ≢ 0 → refused (t .refusal) i ≡ wordsRead (outside []) 0 words
+    pub refuses : t .refusal ≢ 0 → refused (t .refusal) i ≡ readWords (outside []) 0 words
     refuses stops = go (step (r .state) i w) turned outcome
       where
-        go : (x : Step) → t ≡ stepOf x → after-step i (drop (suc i) words) x ≡ wordsRead (outside []) 0 words → refused (t .refusal) i ≡ wordsRead (outside []) 0 words
+        go : (x : Step) → t ≡ stepOf x → after-step i (drop (suc i) words) x ≡ readWords (outside []) 0 words → refused (t .refusal) i ≡ readWords (outside []) 0 words
         go (next u) e o = absurd (stops (ap (λ t. t .refusal) e ∙ goes-on u))
         go (stop n) e o = ap (λ t. refused (t .refusal) i) e ∙ o
 
     pub moves-on : t .refusal ≡ 0 → Moved words i (r .state) w t
     moves-on goes = go (step (r .state) i w) turned outcome (moved (r .state) i w)
       where
-        go : (x : Step) → t ≡ stepOf x → after-step i (drop (suc i) words) x ≡ wordsRead (outside []) 0 words → Going (Moves (r .state) i w) x → Moved words i (r .state) w t
+        go : (x : Step) → t ≡ stepOf x → after-step i (drop (suc i) words) x ≡ readWords (outside []) 0 words → Going (Moves (r .state) i w) x → Moved words i (r .state) w t
         go (next u) e o m = record {
           state = u;
           moves = m;
@@ -156,26 +156,26 @@ stores-none l s t h = sym (ap (λ b. cond b (set l (s .count) (t .last)) l) (le-
 -- ---- the end
 
 module _ (words : List ℕ) (i : ℕ) {entries : List Entry} {numbers : List ℕ} {s : Reading} (r : Reached words i entries numbers s) (over : length words ≤ i) where
-  last : wordsLast (r .state) i ≡ wordsRead (outside []) 0 words
-  unfolding wordsRead
-  last = sym (ap (wordsRead (r .state) i) (drop-of-length-le words over)) ∙ r .onward .rest
+  last : atLast (r .state) i ≡ readWords (outside []) 0 words
+  unfolding readWords
+  last = sym (ap (readWords (r .state) i) (drop-of-length-le words over)) ∙ r .onward .rest
 
-  pub missing : isClosed (s .phase) ≡ false → noCatalogue 10 i ≡ catalogueOf (wordsRead (outside []) 0 words)
+  pub missing : isClosed (s .phase) ≡ false → noCatalogue 10 i ≡ catalogueOf (readWords (outside []) 0 words)
   missing e = go (r .state) (sym (ap (λ x. isClosed (x .phase)) (r .shown)) ∙ e) ∙ ap catalogueOf last
     where
-      go : (x : State) → isClosed (readingOf x .phase) ≡ false → noCatalogue 10 i ≡ catalogueOf (wordsLast x i)
+      go : (x : State) → isClosed (readingOf x .phase) ≡ false → noCatalogue 10 i ≡ catalogueOf (atLast x i)
       go (outside es) h = refl
       go (inside es h vs v) e = refl
       go (after es h vs) e = refl
       go (closed es) h = absurd (true≢false h)
 
-  pub complete : isClosed (s .phase) ≡ true → holding (s .count) entries ≡ catalogueOf (wordsRead (outside []) 0 words)
+  pub complete : isClosed (s .phase) ≡ true → holding (s .count) entries ≡ catalogueOf (readWords (outside []) 0 words)
   complete e =
       ap₂ holding (ap (λ x. x .count) (r .shown)) (r .stores)
       ∙ go (r .state) (sym (ap (λ x. isClosed (x .phase)) (r .shown)) ∙ e)
       ∙ ap catalogueOf last
     where
-      go : (x : State) → isClosed (readingOf x .phase) ≡ true → holding (readingOf x .count) (stored (wholeIn x)) ≡ catalogueOf (wordsLast x i)
+      go : (x : State) → isClosed (readingOf x .phase) ≡ true → holding (readingOf x .count) (stored (wholeIn x)) ≡ catalogueOf (atLast x i)
       go (outside es) h = absurd (true≢false (sym h))
       go (inside es h vs v) e = absurd (true≢false (sym e))
       go (after es h vs) e = absurd (true≢false (sym e))

@@ -4,50 +4,25 @@ use mathlib.Core.Logic.{_≢_}
 use mathlib.Core.Bool.{Bool, not}
 use mathlib.Core.List.{List, [], _∷_}
 use mathlib.Core.Option.{Option, none, some}
-use Prim.Native.Nat.{ℕ, suc, _%_, _≤_, _<_}
+use Prim.Native.Nat.{ℕ, _%_, _≤_, _<_}
 use native.Mathlib.Omega.{arith}
 use lib.Dec.{ltb}
 use lib.ListN.{length}
 use borrow.Author.Tests.{eq-eqb, ne-eqb, lt-ltb, le-ltb}
 use Rattle.integers.specs.All.{All}
-use Rattle.catalogues.specs.Word.{decode, wordsOf}
-use Rattle.catalogues.specs.WordLaws.{decode-range}
+use Rattle.catalogues.specs.Word.{wordsOf}
 use Rattle.catalogues.specs.Catalogue as definition
 use Rattle.catalogues.specs.Catalogue.{Outcome, refused, accepted}
-use Rattle.catalogues.specs.Read.{State, outside, inside, after, closed, Step, next, stop, step, checked, firstPlace, dependentAt, lostAt, readWords, read}
+use Rattle.catalogues.specs.Read.{outside, checked, firstPlace, dependentAt, lostAt, readWords, afterWords, read}
 use Rattle.catalogues.specs.Form.{EntryFits, Entered}
-use Rattle.catalogues.specs.Moves.{Moves, Going, moved}
-use Rattle.catalogues.specs.WellFormed.{Known, known-moves}
+use Rattle.catalogues.specs.Moves.{WhenAccepted}
 use Rattle.catalogue.specs.declared.Catalogue.{Catalogue}
-use Rattle.catalogue.specs.Catalogues.{noCatalogue, catalogueOf, unless, wordsLast, wordsRead, ending, words-end}
+use Rattle.catalogue.specs.Catalogues.{noCatalogue, catalogueOf, unless}
 use Rattle.catalogue.specs.Entries.{entriesIn, entries-back}
 
--- ---- the words: a refusal has a number, and entries are within the limits
-
-abbrev pub Enters : Outcome → Type 0
-Enters (refused n p) = n ≢ 0
-Enters (accepted es) = Entered es
-
-last-enters : (s : State) (i : ℕ) → Known s → Enters (wordsLast s i)
-last-enters (outside es) i k = omega arith
-last-enters (inside es h vs v) i k = omega arith
-last-enters (after es h vs) i k = omega arith
-last-enters (closed es) i k = k
-
-words-enter : (s : State) (i : ℕ) (words : List ℕ) → Known s → Enters (wordsRead s i words)
-unfolding wordsRead
-words-enter s i [] k = last-enters s i k
-words-enter s i (w ∷ words) k = go (step s i (decode w)) (moved s i (decode w)) (λ t q. words-enter t (suc i) words q)
-  where
-    go : (r : Step) → Going (Moves s i (decode w)) r → ((t : State) → Known t → Enters (wordsRead t (suc i) words)) → Enters (elim r [ next t ↦ wordsRead t (suc i) words | stop n ↦ refused n i ])
-    go (next t) m more = more t (known-moves m (decode-range w) k)
-    go (stop n) m more = m
-
+-- the words' outcome
 abbrev pub words : List ℕ → Outcome
-words bytes = wordsRead (outside []) 0 (wordsOf bytes)
-
-pub enters : (bytes : List ℕ) → Enters (words bytes)
-enters bytes = words-enter (outside []) 0 (wordsOf bytes) (record { few = omega arith; fits = tt; distinct = tt })
+words bytes = readWords (outside []) 0 (wordsOf bytes)
 
 -- ---- the rows after reading, on what was read
 
@@ -55,19 +30,19 @@ enters bytes = words-enter (outside []) 0 (wordsOf bytes) (record { few = omega 
 abbrev pub ended : Catalogue → Catalogue
 ended c = unless 5 (firstPlace dependentAt (entriesIn c)) (unless 12 (firstPlace (lostAt (entriesIn c)) (entriesIn c)) c)
 
-few : (o : Outcome) → Enters o → catalogueOf o .count ≤ 256
+few : (o : Outcome) → WhenAccepted Entered o → catalogueOf o .count ≤ 256
 few (refused n p) k = omega arith
 few (accepted es) k = k .few
 
-fit : (o : Outcome) → Enters o → All EntryFits (entriesIn (catalogueOf o))
+fit : (o : Outcome) → WhenAccepted Entered o → All EntryFits (entriesIn (catalogueOf o))
 fit (refused n p) k = tt
 fit (accepted es) k = subst (All EntryFits) (sym (entries-back es (k .few) (k .fits))) (k .fits)
 
-stays : (o : Outcome) → catalogueOf o .refusal ≢ 0 → catalogueOf o ≡ catalogueOf (ending o)
+stays : (o : Outcome) → catalogueOf o .refusal ≢ 0 → catalogueOf o ≡ catalogueOf (afterWords o)
 stays (refused n p) h = refl
 stays (accepted es) h = absurd (h refl)
 
-ends : (o : Outcome) → Enters o → catalogueOf o .refusal ≡ 0 → catalogueOf (ending o) ≡ ended (catalogueOf o)
+ends : (o : Outcome) → WhenAccepted Entered o → catalogueOf o .refusal ≡ 0 → catalogueOf (afterWords o) ≡ ended (catalogueOf o)
 ends (refused n p) k e = absurd (k e)
 ends (accepted es) k e =
     rows (firstPlace dependentAt es) (firstPlace (lostAt es) es)
@@ -78,17 +53,17 @@ ends (accepted es) k e =
     rows none (some p) = refl
     rows none none = refl
 
-module _ (o : Outcome) (k : Enters o) {c : Catalogue} (is : c ≡ catalogueOf o) where
+module _ (o : Outcome) (k : WhenAccepted Entered o) {c : Catalogue} (is : c ≡ catalogueOf o) where
   pub few-entries : c .count ≤ 256
   few-entries = subst (λ c. c .count ≤ 256) (sym is) (few o k)
 
   pub entries-fit : All EntryFits (entriesIn c)
   entries-fit = subst (λ c. All EntryFits (entriesIn c)) (sym is) (fit o k)
 
-  pub stays-refused : c .refusal ≢ 0 → c ≡ catalogueOf (ending o)
+  pub stays-refused : c .refusal ≢ 0 → c ≡ catalogueOf (afterWords o)
   stays-refused h = is ∙ stays o (λ e. h (ap (λ c. c .refusal) is ∙ e))
 
-  pub after-words : c .refusal ≡ 0 → ended c ≡ catalogueOf (ending o)
+  pub after-words : c .refusal ≡ 0 → ended c ≡ catalogueOf (afterWords o)
   after-words e = ap ended is ∙ sym (ends o k (sym (ap (λ c. c .refusal) is) ∙ e))
 
 -- 5, and 12 when there is no 5
@@ -111,7 +86,7 @@ module _ (c : Catalogue) (e : c .refusal ≡ 0) {d : Catalogue} (is : d ≡ unle
 
 module _ (bytes : List ℕ) where
   by-rows : Bool → Bool → Catalogue
-  by-rows a b = catalogueOf (checked (λ n. refused n 0) ((not a, 8) ∷ (b, 9) ∷ []) (readWords (outside []) 0 (wordsOf bytes)))
+  by-rows a b = catalogueOf (checked (λ n. refused n 0) ((not a, 8) ∷ (b, 9) ∷ []) (afterWords (words bytes)))
 
   pub refused-8 : length bytes % 4 ≢ 0 → noCatalogue 8 0 ≡ catalogueOf (read bytes)
   unfolding by-rows read
@@ -121,6 +96,6 @@ module _ (bytes : List ℕ) where
   unfolding by-rows read
   refused-9 e h = sym (ap₂ by-rows (eq-eqb _ 0 e) (lt-ltb _ _ h))
 
-  pub by-words : length bytes % 4 ≡ 0 → length bytes ≤ 18436 → catalogueOf (ending (words bytes)) ≡ catalogueOf (read bytes)
+  pub by-words : length bytes % 4 ≡ 0 → length bytes ≤ 18436 → catalogueOf (afterWords (words bytes)) ≡ catalogueOf (read bytes)
   unfolding by-rows read
-  by-words e h = ap catalogueOf (sym (words-end (outside []) 0 (wordsOf bytes))) ∙ sym (ap₂ by-rows (eq-eqb _ 0 e) (le-ltb _ _ h))
+  by-words e h = sym (ap₂ by-rows (eq-eqb _ 0 e) (le-ltb _ _ h))

@@ -8,8 +8,8 @@ ghost use Rattle.integers.specs.All.{All};
 ghost use Rattle.lattices.specs.Volume.{isDependent};
 ghost use Rattle.lattices.specs.Refusal.{any};
 ghost use Rattle.catalogues.specs.Word.{wordsOf};
-ghost use Rattle.catalogues.specs.Read.{outside, firstPlace, dependentAt, lostAt};
-ghost use Rattle.catalogue.specs.Catalogues.{catalogueOf, unless, isClosed, wordsRead};
+ghost use Rattle.catalogues.specs.Read.{outside, readWords, firstPlace, dependentAt, lostAt};
+ghost use Rattle.catalogue.specs.Catalogues.{catalogueOf, unless, isClosed};
 ghost use Rattle.catalogue.specs.Words.{wordIn};
 ghost use Rattle.catalogue.specs.Store.{noted, Space};
 ghost use Rattle.catalogues.specs.Form.{EntryFits};
@@ -54,7 +54,7 @@ fn note(numbers: &mut [u32; 256], count: usize, w: Word)
 
 // The entries of the words, or the refusal of the first word that cannot stand. Entries and numbers of heads are stored in place.
 pub(crate) fn read_words(bytes: &[u8]) -> Catalogue
-    ensures { λ r. ⌜ r ≡ catalogueOf (wordsRead (outside []) 0 (wordsOf (now (bytes .entry)))) ⌝ }
+    ensures { λ r. ⌜ r ≡ catalogueOf (readWords (outside []) 0 (wordsOf (now (bytes .entry)))) ⌝ }
 {
     let none = Entry::empty();
     let mut entries = [none; Catalogue::MOST_ENTRIES];

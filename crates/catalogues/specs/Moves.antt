@@ -13,7 +13,7 @@ use Rattle.lattices.specs.Vector.{Vec}
 use Rattle.integers.specs.All.{All}
 use Rattle.catalogues.specs.Word.{Word, head, coordinate, see, end, other, decode, wordsOf}
 use Rattle.catalogues.specs.Catalogue.{Head, See, Entry, Outcome, refused, accepted, refusal, entries, mostBytes}
-use Rattle.catalogues.specs.Read.{State, outside, inside, after, closed, Step, next, stop, checked, headRows, coordinateRows, endRows, fileRows, withEntry, coordinateOf, withCoordinate, atHead, atCoordinate, atEnd, step, firstPlace, dependentAt, lostAt, afterReading, atLast, readWords, read}
+use Rattle.catalogues.specs.Read.{State, outside, inside, after, closed, Step, next, stop, checked, headRows, coordinateRows, endRows, fileRows, withEntry, coordinateOf, withCoordinate, atHead, atCoordinate, atEnd, step, firstPlace, dependentAt, lostAt, afterReading, afterWords, atLast, readWords, read}
 
 -- ---- rows of the table
 
@@ -84,13 +84,10 @@ moved (closed es) i w = omega arith
 
 -- ---- to the end
 
-abbrev WhenAccepted : (List Entry → Type 0) → Outcome → Type 0
+-- what holds of accepted entries; a refusal has a number
+abbrev pub WhenAccepted : (List Entry → Type 0) → Outcome → Type 0
 WhenAccepted Q (refused n p) = n ≢ 0
 WhenAccepted Q (accepted es) = Q es
-
-weaker : {Q R : List Entry → Type 0} (o : Outcome) → ((es : List Entry) → Q es → R es) → WhenAccepted Q o → WhenAccepted R o
-weaker (refused n p) f q = q
-weaker (accepted es) f q = f es q
 
 -- no row of "after reading" applies
 pub record Ended (es : List Entry) : Type 0 where
@@ -108,6 +105,10 @@ ended Q es q = go (firstPlace dependentAt es) refl
     go (some p) e = omega arith
     go none e = lost (firstPlace (lostAt es) es) e refl
 
+then-ended : {Q R : List Entry → Type 0} (o : Outcome) → ((es : List Entry) → Q es → Ended es → R es) → WhenAccepted Q o → WhenAccepted R (afterWords o)
+then-ended (refused n p) f q = q
+then-ended {R = R} (accepted es) f q = ended R es (λ e. f es q e)
+
 -- what is known of accepted bytes, when P is kept
 pub record Kept (P : List ℕ → State → Type 0) (bytes : List ℕ) (es : List Entry) : Type 0 where
   pub whole : length bytes % 4 ≡ 0
@@ -117,29 +118,29 @@ pub record Kept (P : List ℕ → State → Type 0) (bytes : List ℕ) (es : Lis
 
 -- what each step keeps, of the words so far and the state, holds at the end
 module _ (P : List ℕ → State → Type 0) (keeps : (past : List ℕ) (s t : State) (i w : ℕ) → P past s → Moves s i (decode w) t → P (past ++ (w ∷ [])) t) where
-  last-kept : (past : List ℕ) (s : State) (i : ℕ) → P past s → WhenAccepted (λ es. P past (closed es) × Ended es) (atLast s i)
+  last-kept : (past : List ℕ) (s : State) (i : ℕ) → P past s → WhenAccepted (λ es. P past (closed es)) (atLast s i)
   last-kept past (outside es) i p = omega arith
   last-kept past (inside es h vs v) i p = omega arith
   last-kept past (after es h vs) i p = omega arith
-  last-kept past (closed es) i p = ended (λ fs. P past (closed fs) × Ended fs) es (λ e. (p, e))
+  last-kept past (closed es) i p = p
 
-  words-kept : (words past : List ℕ) (s : State) (i : ℕ) → P past s → WhenAccepted (λ es. P (past ++ words) (closed es) × Ended es) (readWords s i words)
+  pub words-kept : (words past : List ℕ) (s : State) (i : ℕ) → P past s → WhenAccepted (λ es. P (past ++ words) (closed es)) (readWords s i words)
   unfolding readWords
   words-kept [] past s i p = rw append-nil (last-kept past s i p)
   words-kept (w ∷ words) past s i p = go (step s i (decode w)) (moved s i (decode w)) (λ t q. words-kept words (past ++ (w ∷ [])) t (suc i) q)
     where
       go : (r : Step) → Going (Moves s i (decode w)) r
-          → ((t : State) → P (past ++ (w ∷ [])) t → WhenAccepted (λ es. P (past ++ (w ∷ []) ++ words) (closed es) × Ended es) (readWords t (suc i) words))
-          → WhenAccepted (λ es. P (past ++ (w ∷ words)) (closed es) × Ended es) (elim r [ next t ↦ readWords t (suc i) words | stop n ↦ refused n i ])
+          → ((t : State) → P (past ++ (w ∷ [])) t → WhenAccepted (λ es. P (past ++ (w ∷ []) ++ words) (closed es)) (readWords t (suc i) words))
+          → WhenAccepted (λ es. P (past ++ (w ∷ words)) (closed es)) (elim r [ next t ↦ readWords t (suc i) words | stop n ↦ refused n i ])
       go (next t) m more = rw (← append-snoc past w words) (more t (keeps past s t i w p m))
       go (stop n) m more = m
 
   bytes-kept : (bytes : List ℕ) → P [] (outside []) → WhenAccepted (Kept P bytes) (read bytes)
   unfolding read
   bytes-kept bytes p =
-      checked-case (WhenAccepted (Kept P bytes)) (λ n. refused n 0) (fileRows bytes) (readWords (outside []) 0 (wordsOf bytes)) (λ n h. h) (omega arith)
-      (λ r. weaker (readWords (outside []) 0 (wordsOf bytes))
-      (λ es q. record { whole = eqb-true _ 0 (not-false _ (r .0)); few = ltb-false _ _ (r .1 .0); kept = q .0; ended = q .1 })
+      checked-case (WhenAccepted (Kept P bytes)) (λ n. refused n 0) (fileRows bytes) (afterWords (readWords (outside []) 0 (wordsOf bytes))) (λ n h. h) (omega arith)
+      (λ r. then-ended (readWords (outside []) 0 (wordsOf bytes))
+      (λ es q e. record { whole = eqb-true _ 0 (not-false _ (r .0)); few = ltb-false _ _ (r .1 .0); kept = q; ended = e })
       (words-kept (wordsOf bytes) [] (outside []) 0 p))
 
   pub kept-to-end : (bytes : List ℕ) (es : List Entry) → P [] (outside []) → read bytes ≡ accepted es → Kept P bytes es

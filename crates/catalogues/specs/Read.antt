@@ -100,6 +100,18 @@ step (after es h vs) i (end count) = atEnd (withEntry es h vs none) count
 step (after es h vs) i (other k l) = stop 10
 step (closed es) i w = stop 14
 
+-- no word is left: 10 for "no word where one is due", at the number of words
+abbrev pub atLast : State → ℕ → Outcome
+atLast (outside es) i = refused 10 i
+atLast (inside es h vs v) i = refused 10 i
+atLast (after es h vs) i = refused 10 i
+atLast (closed es) i = accepted es
+
+-- the words from index i on
+unfoldable pub readWords : State → ℕ → List ℕ → Outcome
+readWords s i [] = atLast s i
+readWords s i (w ∷ words) = elim (step s i (decode w)) [ next t ↦ readWords t (suc i) words | stop n ↦ refused n i ]
+
 -- row "after reading": the first place of which a test speaks, entry by entry
 abbrev pub firstPlace : (Entry → Option ℕ) → List Entry → Option ℕ
 firstPlace f [] = none
@@ -122,21 +134,14 @@ afterReading es = elim (firstPlace dependentAt es) [
   | none ↦ elim (firstPlace (lostAt es) es) [ some p ↦ refused 12 p | none ↦ accepted es ]
 ]
 
--- no word is left: 10 for "no word where one is due", at the number of words
-abbrev pub atLast : State → ℕ → Outcome
-atLast (outside es) i = refused 10 i
-atLast (inside es h vs v) i = refused 10 i
-atLast (after es h vs) i = refused 10 i
-atLast (closed es) i = afterReading es
-
--- the words from index i on
-unfoldable pub readWords : State → ℕ → List ℕ → Outcome
-readWords s i [] = atLast s i
-readWords s i (w ∷ words) = elim (step s i (decode w)) [ next t ↦ readWords t (suc i) words | stop n ↦ refused n i ]
+-- of words that were read to the end
+abbrev pub afterWords : Outcome → Outcome
+afterWords (refused n p) = refused n p
+afterWords (accepted es) = afterReading es
 
 -- row "whole file"
 abbrev pub fileRows : List ℕ → List (Bool × ℕ)
 fileRows bytes = (not (eqb (length bytes % 4) 0), 8) ∷ (ltb mostBytes (length bytes), 9) ∷ []
 
 unfoldable pub read : List ℕ → Outcome
-read bytes = checked (λ n. refused n 0) (fileRows bytes) (readWords (outside []) 0 (wordsOf bytes))
+read bytes = checked (λ n. refused n 0) (fileRows bytes) (afterWords (readWords (outside []) 0 (wordsOf bytes)))

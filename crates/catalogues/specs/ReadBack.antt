@@ -12,7 +12,7 @@ use Rattle.integers.specs.All.{All}
 use Rattle.catalogues.specs.Word.{end, encode, bytesOf}
 use Rattle.catalogues.specs.WordLaws.{words-bytes, length-bytes}
 use Rattle.catalogues.specs.Catalogue.{See, Entry, refused, accepted, entries, mostBytes, mostEntries}
-use Rattle.catalogues.specs.Read.{State, step, outside, closed, fileRows, isNumbered, firstPlace, dependentAt, lostAt, afterReading, readWords, read}
+use Rattle.catalogues.specs.Read.{State, step, outside, closed, fileRows, isNumbered, firstPlace, dependentAt, lostAt, afterReading, afterWords, readWords, read}
 use Rattle.catalogues.specs.Write.{entriesWords, catalogueWords, write}
 use Rattle.catalogues.specs.Form.{mostNumber, EntryFits, Independent, Names, WellFormed, seeAt, pastSee, pastVectors, entryAt, placed}
 use Rattle.catalogues.specs.Placed.{length-placed}
@@ -73,7 +73,7 @@ after-passes es p q =
     ap (λ o. elim o [ some p ↦ refused 5 p | none ↦ elim (firstPlace (lostAt es) es) [ some p ↦ refused 12 p | none ↦ accepted es ] ]) p
     ∙ ap (λ o. elim o [ some p ↦ refused 12 p | none ↦ accepted es ]) q
 
-to-end : (s : State) (es : List Entry) (i n : ℕ) → Between s es → n ≡ length es → n ≤ mostEntries → readWords s i (encode (end n) ∷ []) ≡ afterReading es
+to-end : (s : State) (es : List Entry) (i n : ℕ) → Between s es → n ≡ length es → n ≤ mostEntries → readWords s i (encode (end n) ∷ []) ≡ accepted es
 unfolding readWords
 to-end s es i n b e few = one-word s (closed es) i (end n) [] (omega arith) (ap (λ c. step s i (end c)) e ∙ at-end i b)
 
@@ -90,7 +90,11 @@ words-read es w =
     ap (readWords (outside []) 0) (map-append encode (entriesWords es) (end (length es) ∷ []))
     ∙ r .same
     ∙ to-end (r .state) fs (pastEntries 0 es) (length es) (r .here) (sym (length-placed 0 es)) few
-    ∙ after-passes fs (nowhere dependentAt 0 es (all-independent es (w .independent))) (nowhere (lostAt fs) 0 es (all-found es fs (λ n. numbered-placed n 0 es) es (w .named)))
+
+all-pass : (es : List Entry) → WellFormed es → afterReading (placed 0 es) ≡ accepted (placed 0 es)
+all-pass es w =
+    let fs = placed 0 es in
+    after-passes fs (nowhere dependentAt 0 es (all-independent es (w .independent))) (nowhere (lostAt fs) 0 es (all-found es fs (λ n. numbered-placed n 0 es) es (w .named)))
 
 -- ---- the file
 
@@ -102,8 +106,8 @@ read-written es w =
     let fits = w .entered .fits in
     let whole : length (bytesOf words) % 4 ≡ 0 = omega (arith, length-bytes words) in
     passes (λ n. refused n 0) (fileRows (bytesOf words)) _ (ap not (eq-eqb _ 0 whole), (le-ltb mostBytes _ (length-written es few fits), tt))
-    ∙ ap (readWords (outside []) 0) (words-bytes words (words-small es few fits (sees-fit es es fits (w .named))))
-    ∙ words-read es w
+    ∙ ap afterWords (ap (readWords (outside []) 0) (words-bytes words (words-small es few fits (sees-fit es es fits (w .named)))) ∙ words-read es w)
+    ∙ all-pass es w
 
 -- the heads and see words of accepted entries stand where reading found them
 pub places : (bytes : List ℕ) (es : List Entry) → ((i : ℕ) → getD bytes i 0 < 256) → read bytes ≡ accepted es → placed 0 es ≡ es

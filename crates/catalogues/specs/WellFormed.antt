@@ -20,10 +20,10 @@ use Rattle.integers.specs.All.{All}
 use Rattle.catalogues.specs.All.{all-snoc}
 use Rattle.catalogues.specs.Word.{Word, head}
 use Rattle.catalogues.specs.Catalogue.{Head, See, Entry, accepted, mostLoad, mostEntries}
-use Rattle.catalogues.specs.Read.{State, outside, inside, after, closed, isNumbered, withEntry, coordinateOf, withVector, withCoordinate, firstPlace, dependentAt, lostAt, read}
+use Rattle.catalogues.specs.Read.{State, outside, inside, after, closed, isNumbered, withEntry, coordinateOf, withVector, withCoordinate, firstPlace, dependentAt, lostAt, readWords, read}
 use Rattle.catalogues.specs.Form.{mostNumber, HeadFits, VectorFits, EntryFits, Distinct, Entered, Independent, Names, WellFormed}
 use Rattle.catalogues.specs.WordLaws.{InRange, decode-range}
-use Rattle.catalogues.specs.Moves.{Between, between, unreferred, Moves, by-head, by-coordinate, by-see, by-end, kept-to-end}
+use Rattle.catalogues.specs.Moves.{Between, between, unreferred, Moves, by-head, by-coordinate, by-see, by-end, WhenAccepted, words-kept, kept-to-end}
 
 -- ---- tests
 
@@ -150,9 +150,16 @@ not-lost es e h = go (e .see) h
     go none h = tt
     go (some s) h = found s (any (isNumbered (s .number)) es) h
 
+-- what the words keep
+pub nothing-read : Known (outside [])
+nothing-read = record { few = omega arith; fits = tt; distinct = tt }
+
+pub words-entered : (words : List ℕ) → WhenAccepted Entered (readWords (outside []) 0 words)
+words-entered words = words-kept (λ past s. Known s) (λ past s t i w p m. known-moves m (decode-range w) p) words [] (outside []) 0 nothing-read
+
 pub well-formed : (bytes : List ℕ) (es : List Entry) → read bytes ≡ accepted es → WellFormed es
 well-formed bytes es e =
-    let k = kept-to-end (λ past s. Known s) (λ past s t i w p m. known-moves m (decode-range w) p) bytes es (record { few = omega arith; fits = tt; distinct = tt }) e in
+    let k = kept-to-end (λ past s. Known s) (λ past s t i w p m. known-moves m (decode-range w) p) bytes es nothing-read e in
     record {
       entered = k .kept;
       independent = first-none dependentAt Independent not-dependent es (k .ended .independent);

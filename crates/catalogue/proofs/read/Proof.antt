@@ -2,9 +2,11 @@
 use mathlib.Core.Path.{_≡_, _∙_}
 use Prim.Native.Nat.{ℕ, _≤_}
 use mathlib.Core.List.{List}
-use Rattle.catalogues.specs.Read.{read}
-use Rattle.catalogue.specs.Catalogues.{catalogueOf, ending}
-use Rattle.catalogue.specs.Whole.{words, enters, ended, few-entries, entries-fit, stays-refused, after-words, ended-5, ended-12, refused-8, refused-9, by-words}
+use Rattle.catalogues.specs.Word.{wordsOf}
+use Rattle.catalogues.specs.WellFormed.{words-entered}
+use Rattle.catalogues.specs.Read.{afterWords, read}
+use Rattle.catalogue.specs.Catalogues.{catalogueOf}
+use Rattle.catalogue.specs.Whole.{words, ended, few-entries, entries-fit, stays-refused, after-words, ended-5, ended-12, refused-8, refused-9, by-words}
 use borrow.Author.Needs.{needs}
 use Rattle.catalogue.proofs.read.Statement.{statement}
 use Rattle.catalogue.proofs.read.Tie as tie
@@ -28,27 +30,27 @@ read-words-requires c κs = search needs
 abbrev bytes : (c : tie.After-read-words) → List ℕ
 bytes c = c .before .before .before .before .args .bytes .now
 
-to-file : (c : tie.After-read-words) → catalogueOf (ending (words (bytes c))) ≡ catalogueOf (read (bytes c))
+to-file : (c : tie.After-read-words) → catalogueOf (afterWords (words (bytes c))) ≡ catalogueOf (read (bytes c))
 to-file c = by-words (bytes c) (c .before .before .if1 .left) (c .before .if2 .left)
 
 few : (c : tie.After-read-words) → c .read-words .result .count ≤ 256
-few c = few-entries (words (bytes c)) (enters (bytes c)) (c .read-words .ensures)
+few c = few-entries (words (bytes c)) (words-entered (wordsOf (bytes c))) (c .read-words .ensures)
 
 -- what the rows after reading make of it is the outcome of the file
 closes : (c : tie.Else3) → ended (c .before .before .read-words .result) ≡ catalogueOf (read (bytes (c .before .before)))
 closes c =
     let w = c .before .before in
-    after-words (words (bytes w)) (enters (bytes w)) (w .read-words .ensures) (c .if3 .left) ∙ to-file w
+    after-words (words (bytes w)) (words-entered (wordsOf (bytes w))) (w .read-words .ensures) (c .if3 .left) ∙ to-file w
 
 returns-3 : tie.Need-returns-3
 returns-3 c =
     let w = c .before .before in
-    stays-refused (words (bytes w)) (enters (bytes w)) (w .read-words .ensures) (c .if3 .taken) ∙ to-file w
+    stays-refused (words (bytes w)) (words-entered (wordsOf (bytes w))) (w .read-words .ensures) (c .if3 .taken) ∙ to-file w
 
 independent-requires : tie.Need-independent-requires
 independent-requires c κs =
     let w = c .before .before in
-    (few w, entries-fit (words (bytes w)) (enters (bytes w)) (w .read-words .ensures))
+    (few w, entries-fit (words (bytes w)) (words-entered (wordsOf (bytes w))) (w .read-words .ensures))
 
 found-requires : tie.Need-found-requires
 found-requires c κs = few (c .before .before .before)
