@@ -1,0 +1,44 @@
+// The fold of a catalogue, and lookup.
+ghost use mathlib.Core.Path.{_≡_};
+ghost use Rattle.folds.specs.Services.{lookupOf};
+ghost use Rattle.fold.specs.Finding.{foundOf};
+
+mod closing;
+mod kept;
+
+// What lookup says: a refusal and its place, or the standing number.
+pub struct Found {
+    pub refusal: u64,
+    pub place: usize,
+    pub standing: u32,
+}
+
+// The standing number of the entry with this number; the catalogue's own refusals first, then 17 where no entry has it.
+pub fn lookup(bytes: &[u8], number: u32) -> Found
+    ensures { λ r. ⌜ r ≡ foundOf (lookupOf (now (bytes .entry)) number) ⌝ }
+{
+    let c = catalogue::read(bytes);
+    if c.refusal != 0 {
+        return Found {
+            refusal: c.refusal,
+            place: c.place,
+            standing: 0,
+        };
+    }
+    let list = kept::keep_all(c);
+    let standing = closing::closed(list, c.count);
+    let numbers = catalogue::reader::numbers(c);
+    let k = closing::place_of(&numbers, c.count, number);
+    if k == c.count {
+        return Found {
+            refusal: 17,
+            place: 0,
+            standing: 0,
+        };
+    }
+    Found {
+        refusal: 0,
+        place: 0,
+        standing: numbers[standing[k]],
+    }
+}
