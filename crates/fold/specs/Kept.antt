@@ -5,11 +5,10 @@ use mathlib.Core.Bool.{Bool, true, false, _&&_, true≢false}
 use mathlib.Core.List.{List, [], _∷_, map}
 use Prim.Native.Nat.{ℕ, _≤_, _<_}
 use native.Mathlib.Nat.{le-refl}
-use native.Mathlib.Omega.{arith}
 use lib.Dec.{eqb}
 use lib.IntN.{pos}
 use lib.Signed.{_≤ℤ_}
-use lib.ListN.{length, getD, take}
+use lib.ListN.{getD, take}
 use borrow.Author.Tests.{eqb-true, eq-eqb, ne-eqb}
 use Rattle.lattices.specs.Vector.{Vec, N}
 use Rattle.lattices.specs.Greedy.{vectors}
@@ -82,18 +81,20 @@ module _ (e : Entry) (s : Sound e) where
   rows-are : rowsIn (keptOf e) ≡ reductionOf (inputOf e) .basis
   rows-are = vectors-back (reductionOf (inputOf e) .basis)
 
-  basis-are : basisIn (keptOf e) ≡ map (padded 4) (reducedOf e)
+  pub basis-are : basisIn (keptOf e) ≡ map (padded 4) (reducedOf e)
   basis-are = ap (take (e .head .d)) rows-are ∙ entry-rows e s
+
+  pub rows-table : rowsIn (keptOf e) ≡ table 4 4 (vectors (R (inputOf e) (is-basis e (s .fits) (s .independent))))
+  rows-table = rows-are ∙ ap (λ r. r .basis) (accepted-reduction (inputOf e) (is-basis e (s .fits) (s .independent)))
 
   pub kept-fair : Fair (keptOf e)
   kept-fair =
       let i = inputOf e in
       let a = is-basis e (s .fits) (s .independent) in
-      let same : rowsIn (keptOf e) ≡ table 4 4 (vectors (R i a)) = rows-are ∙ ap (λ r. r .basis) (accepted-reduction i a) in
       record {
         few = one-to 4 (e .head .d) (s .fits .head .d) .1;
-        reduced = subst (λ l. Reduced (take (e .head .d) l)) (sym same) (subst Reduced (sym (outs-rows i a)) (last-reduced i a));
-        short = λ k h. subst (λ l. N (getD l k []) ≤ℤ pos 400000000) (sym same)
+        reduced = subst (λ l. Reduced (take (e .head .d) l)) (sym rows-table) (subst Reduced (sym (outs-rows i a)) (last-reduced i a));
+        short = λ k h. subst (λ l. N (getD l k []) ≤ℤ pos 400000000) (sym rows-table)
             (subst (λ l. N (getD l k []) ≤ℤ pos 400000000) (last-vectors i a) (short-rows (fine-greedy (first-fine i a) (i .d) (le-refl (i .d))) k));
       }
 

@@ -5,3 +5,8 @@ pub mod Keeping
 pub mod Places
 pub mod Standing
 pub mod Finding
+pub mod Spread
+pub mod Printing
+pub mod Folding
+pub mod Steps
+pub mod Outcome

@@ -1,6 +1,6 @@
 -- The places that the code finds are those of the standing entries of the definition.
 use mathlib.Core.Path.{_≡_, refl, sym, ap, ap₂, _∙_, subst}
-use mathlib.Core.Bool.{Bool, true, false, _&&_, true≢false}
+use mathlib.Core.Bool.{Bool, true, false, _&&_}
 use mathlib.Core.List.{List, [], _∷_, _++_}
 use Prim.Native.Nat.{ℕ, zero, suc, _≤_, _<_}
 use native.Mathlib.Nat.{le-of-lt}
@@ -70,6 +70,12 @@ module _ (es : List Entry) (o : Entry) (w : WellFormed es) {list : List Kept} {p
   same-at : (j k : ℕ) → j < length es → k < length es → sameKept (getD list j noKept) (getD list k noKept) ≡ sameLattice (at j) (at k)
   same-at j k h l = ap₂ sameKept (held .kept j h) (held .kept k l) ∙ same-is (at j) (at k) (sound-at j h) (sound-at k l)
 
+  -- numbers tell places apart
+  own-place : (k : ℕ) → place k < length es → k < length es → eqb (at k .head .number) (at (place k) .head .number) ≡ eqb (place k) k
+  own-place k h l =
+      eqb-same (at k .head .number) (at (place k) .head .number) (place k) k
+      (λ e. apart es (w .entered .distinct) o (place k) k h l (sym e)) (λ e. ap (λ i. at i .head .number) (sym e))
+
   -- the entries before place k, that entry, and those after it
   module _ (k : ℕ) (h : k < length es) where
     abbrev past : List Entry
@@ -103,10 +109,7 @@ module _ (es : List Entry) (o : Entry) (w : WellFormed es) {list : List Kept} {p
           let kept : standing past f ≡ at (place j) =
           sym (standing-kept past (at k ∷ rest) sound-split f (subst (λ g. Among g past) taken (among-at past o j (omega (arith, past-long)))))
           ∙ ap (λ l. standing l f) split ∙ sym (before j l) in
-          ap (λ g. stands (stoodOf past g)) taken
-          ∙ ap (λ g. eqb (f .head .number) (g .head .number)) kept
-          ∙ eqb-same (f .head .number) (at (place j) .head .number) (place j) j
-          (λ e. apart es (w .entered .distinct) o (place j) j (omega arith) (omega arith) (sym e)) (λ e. ap (λ i. at i .head .number) (sym e))
+          ap (λ g. stands (stoodOf past g)) taken ∙ ap (λ g. eqb (f .head .number) (g .head .number)) kept ∙ own-place j (omega arith) (omega arith)
 
       has-at : (j : ℕ) → j < k → has (getD past j o) ≡ stander list places k j
       has-at j l =
@@ -134,3 +137,8 @@ module _ (es : List Entry) (o : Entry) (w : WellFormed es) {list : List Kept} {p
   -- at the place found stands the standing entry
   pub place-standing : (k : ℕ) → k < length es → at (place k) ≡ standing es (at k)
   place-standing k h = places-to (suc k) k (omega arith) h
+
+  -- so an entry stands when its place is its own
+  pub stands-place : (k : ℕ) → k < length es → stands (stoodOf es (at k)) ≡ eqb (place k) k
+  stands-place k h =
+      ap (λ g. eqb (at k .head .number) (g .head .number)) (sym (place-standing k h)) ∙ own-place k (omega (arith, place-below k h)) h

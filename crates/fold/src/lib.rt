@@ -1,10 +1,13 @@
 // The fold of a catalogue, and lookup.
 ghost use mathlib.Core.Path.{_≡_};
-ghost use Rattle.folds.specs.Services.{lookupOf};
+ghost use Rattle.catalogue.specs.Writing.{writtenOf};
+ghost use Rattle.folds.specs.Services.{foldOf, lookupOf};
 ghost use Rattle.fold.specs.Finding.{foundOf};
 
 mod closing;
+mod folding;
 mod kept;
+mod printing;
 
 // What lookup says: a refusal and its place, or the standing number.
 pub struct Found {
@@ -41,4 +44,23 @@ pub fn lookup(bytes: &[u8], number: u32) -> Found
         place: 0,
         standing: numbers[standing[k]],
     }
+}
+
+// The folded catalogue, written to the lent output.
+pub fn fold(bytes: &[u8], out: &mut [u8]) -> catalogue::Written
+    ensures { λ r. ⌜ r ≡ writtenOf (foldOf (now (bytes .entry)) (now (out .entry))) ⌝ }
+    ensures { λ _. ⌜ now (out .exit) ≡ foldOf (now (bytes .entry)) (now (out .entry)) .lent ⌝ }
+{
+    let c = catalogue::read(bytes);
+    if c.refusal != 0 {
+        return catalogue::Written {
+            refusal: c.refusal,
+            place: c.place,
+            length: 0,
+        };
+    }
+    let list = kept::keep_all(c);
+    let standing = closing::closed(list, c.count);
+    let f = folding::folded(c, list, &standing);
+    catalogue::writer::write_entries(f, out)
 }

@@ -1,8 +1,7 @@
 -- The first k places are found.
 use mathlib.Core.Path.{_≡_, refl, sym, subst}
-use Prim.Native.Nat.{ℕ, _-_, _≤_, _<_}
+use Prim.Native.Nat.{_-_, _≤_}
 use native.Mathlib.Omega.{arith}
-use lib.ListN.{length, getD}
 use borrow.Author.Needs.{needs}
 use Rattle.fold.specs.Places.{Closed, closed-none, closed-more}
 use Rattle.fold.proofs.closing.closed.Statement.{statement}

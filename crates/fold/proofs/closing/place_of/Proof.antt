@@ -7,7 +7,7 @@ use lib.Dec.{eqb}
 use lib.ListN.{getD}
 use borrow.Author.Needs.{needs}
 use borrow.Author.Tests.{eq-eqb, ne-eqb}
-use Rattle.fold.specs.Places.{First, before-more}
+use Rattle.fold.specs.Places.{before-more}
 use Rattle.fold.proofs.closing.place_of.Statement.{statement}
 use Rattle.fold.proofs.closing.place_of.Tie as tie
 

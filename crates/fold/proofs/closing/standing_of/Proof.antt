@@ -1,14 +1,11 @@
 -- None of the first j entries stands and is of the lattice, so the search goes on.
-use mathlib.Core.Path.{_≡_, refl, sym, ap, ap₂, _∙_, subst}
+use mathlib.Core.Path.{_≡_, sym, _∙_}
 use mathlib.Core.Logic.{⊎-elim}
 use mathlib.Core.Bool.{false}
 use Prim.Native.Nat.{ℕ, _-_, _≤_, _<_}
 use native.Mathlib.Omega.{arith}
-use lib.ListN.{length, getD}
 use borrow.Author.Needs.{needs}
-use borrow.Author.Tests.{eq-eqb, ne-eqb}
-use Rattle.fold.specs.Kept.{noKept, Fair, sameKept}
-use Rattle.fold.specs.Places.{First, stander, standing-here, not-standing, before-more}
+use Rattle.fold.specs.Places.{stander, standing-here, not-standing, before-more}
 use Rattle.fold.proofs.closing.standing_of.Statement.{statement}
 use Rattle.fold.proofs.closing.standing_of.Tie as tie
 

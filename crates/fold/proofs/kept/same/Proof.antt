@@ -1,5 +1,5 @@
 -- Each test decides what is left.
-use mathlib.Core.Path.{_≡_, sym, ap, ap₂, _∙_}
+use mathlib.Core.Path.{sym, ap, ap₂, _∙_}
 use mathlib.Core.Bool.{_&&_}
 use borrow.Author.Needs.{needs}
 use Rattle.fold.specs.Kept.{heldIn, other-m, other-d, by-held}
