@@ -39,10 +39,11 @@ pub fn lookup(bytes: &[u8], number: u32) -> Found
             standing: 0,
         };
     }
+    let s = standing[k];
     Found {
         refusal: 0,
         place: 0,
-        standing: numbers[standing[k]],
+        standing: numbers[s],
     }
 }
 

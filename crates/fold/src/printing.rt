@@ -78,7 +78,8 @@ pub(crate) fn way_of(
     if k == count {
         return nowhere();
     }
-    let there = numbers[standing[k]];
+    let s = standing[k];
+    let there = numbers[s];
     if there == own {
         return nowhere();
     }

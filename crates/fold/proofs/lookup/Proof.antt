@@ -77,17 +77,17 @@ small c = let p = c .before .before in omega (arith, below c, ready-length _ (pr
 small-place : (c : tie.Else2) → let p = c .before .before in getD (p .before .before .before .closed .result) (p .place-of .result) 0 < 256
 small-place c = let p = c .before .before in omega (arith, place-below _ _ (prepared (else1 p) .formed) (held p) (p .place-of .result) (below c), small c)
 
-mul-t13 : tie.Need-mul-t13
-mul-t13 c = omega (arith, small c)
+mul-s : tie.Need-mul-s
+mul-s c = omega (arith, small c)
 
-array-read-t16 : tie.Need-array-read-t16
-array-read-t16 c = small c
+array-read-s : tie.Need-array-read-s
+array-read-s c = small c
 
-mul-t17 : tie.Need-mul-t17
-mul-t17 c = omega (arith, small-place c)
+mul-t14 : tie.Need-mul-t14
+mul-t14 c = omega (arith, small c, small-place c)
 
 array-read-t20 : tie.Need-array-read-t20
-array-read-t20 c = small-place c
+array-read-t20 c = omega (arith, small c, small-place c)
 
 returns-3 : tie.Need-returns-3
 returns-3 c =
@@ -107,8 +107,8 @@ lookup-spec =
     slice-aggregate-place-of
     place-of-requires
     returns-2
-    mul-t13
-    array-read-t16
-    mul-t17
+    mul-s
+    array-read-s
+    mul-t14
     array-read-t20
     returns-3)

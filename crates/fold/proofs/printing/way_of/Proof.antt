@@ -32,20 +32,20 @@ returns-2 c =
     let a = p .before .before .before .before .before .args in
     subst (Led (a .e) (a .own) (a .numbers .now) (a .standing .now) (a .count)) (sym (c .nowhere2 .ensures)) (word-lost (a .e) (a .own) (a .numbers .now) (a .standing .now) (a .count) (not-false _ (p .before .if1 .left)) (p .place-of .ensures) (c .before .if2 .taken))
 
+mul-s : tie.Need-mul-s
+mul-s c = search needs
+
+shared-slice-read-s : tie.Need-shared-slice-read-s
+shared-slice-read-s c = search needs
+
 mul-there : tie.Need-mul-there
-mul-there c = search needs
-
-shared-slice-read-there : tie.Need-shared-slice-read-there
-shared-slice-read-there c = search needs
-
-mul-there-2 : tie.Need-mul-there-2
-mul-there-2 c =
+mul-there c =
     let p = c .before .before in
     let s = p .before .before .before .before .before in
     omega (arith, s .pre .1 .1 (p .place-of .result) (below (c .before)), below (c .before), s .pre .1 .0)
 
-shared-slice-read-there-2 : tie.Need-shared-slice-read-there-2
-shared-slice-read-there-2 c =
+shared-slice-read-there : tie.Need-shared-slice-read-there
+shared-slice-read-there c =
     let p = c .before .before .before in
     let s = p .before .before .before .before .before in
     omega (arith, s .pre .1 .1 (p .place-of .result) (below (c .before .before)), below (c .before .before), s .pre .0 .0)
@@ -74,10 +74,10 @@ way-of-spec =
     place-of-requires
     nowhere-requires-2
     returns-2
+    mul-s
+    shared-slice-read-s
     mul-there
     shared-slice-read-there
-    mul-there-2
-    shared-slice-read-there-2
     nowhere-requires-3
     returns-3
     returns-4)
