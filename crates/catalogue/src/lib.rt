@@ -7,10 +7,10 @@ ghost use Rattle.catalogue.specs.Catalogues.{noCatalogue, catalogueOf};
 ghost use Rattle.catalogue.specs.Writing.{writtenOf};
 
 mod parts;
-mod reader;
+pub mod reader;
 mod reading;
 mod words;
-mod writer;
+pub mod writer;
 
 // An entry: its head and the place of the head; whether it has a see word, its number and where it stands; d times m coordinates, then zeros.
 pub struct Entry {

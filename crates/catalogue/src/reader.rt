@@ -115,7 +115,7 @@ pub(crate) fn independent(c: Catalogue) -> Catalogue
 }
 
 // The numbers of the stored entries.
-fn numbers(c: Catalogue) -> [u32; 256]
+pub fn numbers(c: Catalogue) -> [u32; 256]
     ensures { λ r. ⌜ r ≡ map (λ e. e .number) (c .entries) ⌝ }
 {
     let mut numbers = [0u32; 256];

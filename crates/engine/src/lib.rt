@@ -13,7 +13,7 @@ ghost use Rattle.engine.specs.Room.{Ready};
 ghost use Rattle.engine.specs.Answer.{packed, finished};
 ghost use Rattle.minima.specs.Digits.{Bounded};
 ghost use Rattle.layers.specs.Near.{Near};
-ghost use Rattle.layers.specs.Members.{isMember};
+ghost use Rattle.minima.specs.Members.{isMember};
 ghost use Rattle.lattices.specs.Answer.{noReduction, reductionOf, noNearest, nearestOf};
 ghost use Rattle.engine.specs.Named.{packedNearest, named};
 

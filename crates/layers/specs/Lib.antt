@@ -2,4 +2,3 @@
 pub mod Near
 pub mod Steps
 pub mod State
-pub mod Members

@@ -15,7 +15,7 @@ ghost use Rattle.search.specs.Numbers.{negative};
 ghost use Rattle.rows.specs.Minus.{room};
 ghost use Rattle.layers.specs.Near.{Near, Reachable};
 ghost use Rattle.layers.specs.Steps.{Solved, Decided};
-ghost use Rattle.layers.specs.Members.{isMember};
+ghost use Rattle.minima.specs.Members.{isMember};
 
 // A step: the coefficients to add, what they leave of the residual, and whether that has a smaller value.
 struct Step {
