@@ -166,7 +166,7 @@ fn put_entries(c: Catalogue, out: &mut [u8]) -> usize
 }
 
 // Writes the entries to the lent output, which stays as it is when it is too short for them.
-pub(crate) fn write_entries(c: Catalogue, out: &mut [u8]) -> Written
+pub fn write_entries(c: Catalogue, out: &mut [u8]) -> Written
     requires { ⌜ c .count ≤ 256 ⌝ }
     requires { ⌜ WellFormed (entriesIn c) ⌝ }
     ensures { λ r. ⌜ r ≡ writtenOf (output (accepted (entriesIn c)) (now (out .entry))) ⌝ }
