@@ -46,9 +46,6 @@ entryOf e = whole (partOf (e .head) (e .vectors) []) (sees (e .see)) (seeNumber 
 
 -- ---- the operations
 
-pub part-started : (h : Head) → started (h .number) (h .d) (h .m) (h .place) ≡ partOf h [] []
-part-started h = refl
-
 length-snoc : {A : Type 0} (l : List A) (x : A) → length l + 1 ≡ length (l ++ (x ∷ []))
 length-snoc l x = sym (length-append l (x ∷ []))
 

@@ -1,18 +1,16 @@
 -- A work whose three arrays have four places: its rows and its tables are the same thing.
 use mathlib.Core.Path.{_≡_, refl, sym, ap, _∙_}
 use mathlib.Core.List.{List, [], _∷_, map}
-use Prim.Native.Nat.{ℕ, _<_}
-use native.Mathlib.Omega.{arith}
+use Prim.Native.Nat.{ℕ}
 use lib.IntN.{ℤ}
 use lib.ListN.{length, getD, length-map}
 use Rattle.integers.specs.Size.{Within}
 use Rattle.lattices.specs.Vector.{nth}
-use Rattle.integers.specs.All.{getD-map}
 use Rattle.rows.specs.declared.VectorRow.{VectorRow}
 use Rattle.rows.specs.declared.TableRow.{TableRow}
 use Rattle.rows.specs.declared.Work.{Work}
 use Rattle.rows.specs.Rows.{Tables, workOf, vectorRow, tableRow, rowsOf-tables, workOf-rowsOf}
-use Rattle.engine.specs.State.{rowsIn, blank}
+use Rattle.engine.specs.State.{rowsIn}
 use Rattle.engine.specs.Fine.{Fine}
 use Rattle.engine.specs.Room.{small-rows}
 
@@ -45,12 +43,6 @@ module _ {w : Work} (h : Whole w) where
 
   tables : Tables b (map (λ r. r .at) (w .u)) (map (λ r. r .at) (w .v)) (rowsIn w)
   tables = rowsOf-tables b (map (λ r. r .at) (w .u)) (map (λ r. r .at) (w .v)) u-length v-length
-
-  four : length (rowsIn w) ≡ 4
-  four = sym (length-map (rowsIn w) (λ r. r .vector)) ∙ ap length (tables .vectors) ∙ length-map (w .vectors) (λ r. r .at) ∙ h .vectors
-
-  pub vector-at : (i : ℕ) → i < 4 → getD b i [] ≡ getD (rowsIn w) i blank .vector
-  vector-at i l = ap (λ t. getD t i []) (sym (tables .vectors)) ∙ getD-map (λ r. r .vector) (rowsIn w) blank [] i (omega (arith, four))
 
   pub small : {n : ℕ} → Fine n (rowsIn w) → (i j : ℕ) → Within 100000 (nth (getD b i []) j)
   small f i j = rw (tables .vectors) at (small-rows f i j)

@@ -131,7 +131,8 @@ struct Step {
     better: bool,
 }
 
-// The first list of the table that improves, where those of one vector, the first two pairs, do not. A list and its opposite differ in their change by four inner products, not twelve.
+// The first list of the table that improves, where those of the first two pairs, of one vector each, do not. What the opposite of a list
+// changes is had from the list by one inner product more.
 fn walk(g: [[i64; 3]; 3], h: [i64; 3], k: usize) -> Step
     requires { ⌜ k ≤ 3 ⌝ }
     requires { ⌜ Sized 4000000000 g h ⌝ }
