@@ -80,7 +80,7 @@ fn outside(v: [i64; 4], rests: [[i64; 16]; 4], whole: [i64; 16], d: usize) -> bo
     false
 }
 
-// Whether a reduced vector of f is refused.
+// Whether a reduced vector of f is refused, from the longest on: different lattices often have short vectors in common.
 fn refused(f: Kept, rests: [[i64; 16]; 4], whole: [i64; 16], d: usize) -> bool
     requires { ⌜ d ≤ 4 ⌝ }
     requires { ⌜ Fair f ⌝ }
@@ -89,7 +89,9 @@ fn refused(f: Kept, rests: [[i64; 16]; 4], whole: [i64; 16], d: usize) -> bool
 {
     let vectors = f.vectors;
     let rows = rows::vectors_of(vectors);
-    for i in 0..f.d {
+    let mut i = f.d;
+    while 0 < i {
+        i -= 1;
         let v = rows[i];
         if outside(v, rests, whole, d) {
             return true;

@@ -1,7 +1,7 @@
 -- A vector that is refused is none of the lattice.
 use mathlib.Core.List.{[]}
-use mathlib.Core.Path.{refl, sym, ap, _∙_, subst}
-use Prim.Native.Nat.{_-_, _≤_}
+use mathlib.Core.Path.{refl, sym, _∙_, subst}
+use Prim.Native.Nat.{_-_, _≤_, _<_}
 use native.Mathlib.Omega.{arith}
 use lib.IntN.{pos}
 use lib.ListN.{getD}
@@ -13,10 +13,10 @@ use Rattle.keeping.proofs.refusing.refused.Statement.{statement}
 use Rattle.keeping.proofs.refusing.refused.Tie as tie
 
 abbrev Inv-loop : tie.InvT-loop
-Inv-loop rests whole d rows i₀ i-end i = i ≤ i-end
+Inv-loop rests whole d rows i₀ i = i ≤ i₀
 
 abbrev μ-loop : tie.MeasureT-loop
-μ-loop rests whole d rows i₀ i-end i = i-end - i
+μ-loop rests whole d rows i₀ i = i
 
 vectors-of-requires : tie.Need-vectors-of-requires Inv-loop μ-loop
 vectors-of-requires c κs = search needs
@@ -24,11 +24,18 @@ vectors-of-requires c κs = search needs
 loop-holds : tie.Need-loop-holds Inv-loop μ-loop
 loop-holds c = search needs
 
+sub-i : tie.Need-sub-i Inv-loop μ-loop
+sub-i c = search needs
+
+-- the vector at i is one of those that count
+below : (c : tie.In-loop Inv-loop μ-loop) → c .before .loop .i - 1 < c .before .before .before .before .args .f .d
+below c = omega (arith, c .before .loop .inv, c .loop-test .taken)
+
 mul-v : tie.Need-mul-v Inv-loop μ-loop
-mul-v c = omega (arith, c .before .before .before .before .pre .1 .0 .few, c .loop-test .taken)
+mul-v c = omega (arith, below c, c .before .before .before .before .pre .1 .0 .few)
 
 array-copy-out-v : tie.Need-array-copy-out-v Inv-loop μ-loop
-array-copy-out-v c = omega (arith, c .before .before .before .before .pre .1 .0 .few, c .loop-test .taken)
+array-copy-out-v c = omega (arith, below c, c .before .before .before .before .pre .1 .0 .few)
 
 outside-requires : tie.Need-outside-requires Inv-loop μ-loop
 outside-requires c κs =
@@ -36,7 +43,7 @@ outside-requires c κs =
     let s = l .before .before .before in (
       s .pre .0,
       (
-        subst (λ t. N (getD t (l .loop .i) []) ≤ℤ pos 400000000) (sym (l .before .vectors-of .ensures)) (s .pre .1 .0 .short (l .loop .i) (c .before .loop-test .taken)),
+        subst (λ t. N (getD t (l .loop .i - 1) []) ≤ℤ pos 400000000) (sym (l .before .vectors-of .ensures)) (s .pre .1 .0 .short (l .loop .i - 1) (below (c .before))),
         s .pre .1 .1,
       ),
     )
@@ -46,10 +53,7 @@ returns c t =
     let l = c .before .before .before .before in
     let s = l .before .before .before in
     sym (c .if1 .taken) ∙ c .before .outside .ensures
-    (subst (λ rows. Multiples (s .args .d) (s .args .rests) (s .args .whole) (getD rows (l .loop .i) [])) (sym (l .before .vectors-of .ensures)) (t (l .loop .i) (c .before .before .before .loop-test .taken)))
-
-add-i : tie.Need-add-i Inv-loop μ-loop
-add-i c = let l = c .before .before .before in omega (arith, l .before .before .before .before .pre .1 .0 .few, l .loop-test .taken)
+    (subst (λ rows. Multiples (s .args .d) (s .args .rests) (s .args .whole) (getD rows (l .loop .i - 1) [])) (sym (l .before .vectors-of .ensures)) (t (l .loop .i - 1) (below (c .before .before .before))))
 
 loop-less : tie.Need-loop-less Inv-loop μ-loop
 loop-less c = search needs
@@ -68,11 +72,11 @@ refused-spec =
     μ-loop
     vectors-of-requires
     loop-holds
+    sub-i
     mul-v
     array-copy-out-v
     outside-requires
     returns
-    add-i
     loop-less
     loop-again
     returns-2)
