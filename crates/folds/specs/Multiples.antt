@@ -1,5 +1,5 @@
 -- How a vector may be refused without a search for its coefficients. By Cramer's rule, the exterior product of a vector of a lattice with the volume
--- of all basis vectors but one is a whole multiple of that one's: by the coefficient. A vector for which it is no multiple is not in the lattice.
+-- of all basis vectors but one is a whole multiple of the volume of all: by the coefficient. What is no multiple is not in the lattice.
 use mathlib.Core.Path.{_≡_, refl, sym, ap, ap₂, _∙_, subst}
 use mathlib.Core.Bool.{true, false}
 use mathlib.Core.List.{List, [], _∷_, _++_}
@@ -8,7 +8,7 @@ use native.Mathlib.Nat.{le-of-suc-le-suc}
 use native.Mathlib.Omega.{arith}
 use lib.IntN.{ℤ, _-ℤ_, _*ℤ_}
 use lib.ListN.{length, getD, set, take}
-use Rattle.lattices.specs.Vector.{Vec, nth, comb, _⊙_, _⊕_}
+use Rattle.lattices.specs.Vector.{Vec, nth, comb, _⊙_}
 use Rattle.lattices.specs.VectorLaws.{_≈_, ≈-refl, ≈-trans, ≈-⊕, ≈-nth, ⊕-left-comm}
 use Rattle.lattices.specs.Permutation.{Perm, same, skip, swap, then}
 use Rattle.lattices.specs.Volume.{Index, Form, head, rest, wedge, volume}
@@ -73,7 +73,6 @@ member-multiple {a} {v} {cs} {bs} p m =
           (q .by-sign);
     }
 
--- the first n + 1 vectors of an array: vector j first, and the last in its place
 take-last : (n : ℕ) (b : List Vec) → n < length b → take (suc n) b ≡ take n b ++ (getD b n [] ∷ [])
 take-last n [] h = absurd (omega arith)
 take-last zero (c ∷ b) h = refl
@@ -83,6 +82,7 @@ perm-end : (x : Vec) (l : List Vec) → Perm (x ∷ l) (l ++ (x ∷ []))
 perm-end x [] = same (x ∷ [])
 perm-end x (y ∷ l) = then (swap x y l) (skip y (perm-end x l))
 
+-- of the first n + 1 vectors vector j comes to the front, and the last takes its place
 pub perm-front : (n j : ℕ) (b : List Vec) → j < suc n → n < length b → Perm (getD b j [] ∷ take n (set b j (getD b n []))) (take (suc n) b)
 perm-front n j [] h k = absurd (omega arith)
 perm-front zero zero (c ∷ b) h k = same (c ∷ [])

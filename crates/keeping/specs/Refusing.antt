@@ -2,14 +2,14 @@
 -- exterior products with the latter, which are multiples of the former where the lattices are one.
 use mathlib.Core.Path.{_≡_, refl, sym, ap, _∙_, subst}
 use mathlib.Core.Bool.{Bool, true, false, _&&_, true≢false}
-use mathlib.Core.List.{List, [], _∷_}
+use mathlib.Core.List.{List, []}
 use Prim.Native.Nat.{ℕ, zero, suc, _+_, _-_, _/_, _%_, _≤_, _<_}
 use native.Mathlib.Nat.{mul-mod-left, div-le-self}
 use native.Mathlib.Omega.{arith}
 use native.Mathlib.Decide.{decLt, ℕ-discrete}
 use native.Mathlib.Numerals.{sub-one}
 use lib.Dec.{eqb}
-use lib.IntN.{ℤ, pos, negsuc, negℤ, _*ℤ_, natAbs}
+use lib.IntN.{ℤ, pos, negsuc, _*ℤ_, natAbs}
 use lib.ListN.{length, getD, set, take, length-set, length-take}
 use lib.Seq.{getD-set-same, getD-set-other, getD-take, length-take-le}
 use lib.Signed.{_≤ℤ_, quotZ, remZ}
@@ -19,9 +19,9 @@ use Rattle.lattices.specs.Vector.{Vec, N, nth, _⊙_}
 use Rattle.minima.specs.Members.{Member, isMember, member-is}
 use Rattle.checks.specs.Minors.{wedged}
 use Rattle.checks.specs.Volumes.{minors, wedged-multiple, minors-within, short-from}
-use Rattle.folds.specs.Fold.{every}
 use Rattle.folds.specs.Multiples.{member-multiple, perm-front}
 use Rattle.keeping.specs.declared.kept.Kept.{Kept}
+use Rattle.keeping.specs.Every.{every-at}
 use Rattle.keeping.specs.Kept.{rowsIn, basisIn, heldIn, sameKept, Fair}
 
 -- the first d vectors without vector j, the last in its place
@@ -63,11 +63,6 @@ member-multiples (suc n) b l r w v m j h =
       is = ap (wedged v) (r .rest j h ∙ ap (λ k. minors (take k (set b j (getD b k [])))) (sub-one (suc n)))
           ∙ wedged-multiple (p .times) v (take n (set b j (getD b n []))) (take (suc n) b) (p .product .multiple) ∙ ap (λ u. p .times ⊙ u) (sym w);
     }
-
-every-at : {A : Type 0} (f : A → Bool) (l : List A) → every f l ≡ true → (i : ℕ) (x : A) → i < length l → f (getD l i x) ≡ true
-every-at f [] e i x h = absurd (omega arith)
-every-at f (y ∷ l) e zero x h = both (f y) (every f l) e .0
-every-at f (y ∷ l) e (suc i) x h = every-at f l (both (f y) (every f l) e .1) i x (omega arith)
 
 -- so where both entries are of one lattice, no vector is refused
 module _ (f e : Kept) (p : Fair f) (q : Fair e) {rests : List (List ℤ)} {whole : List ℤ} (s : Screen e rests whole) where

@@ -1,5 +1,5 @@
 // Other lattices refused without a search. By Cramer's rule the exterior product of a vector of a lattice with the volume of all basis vectors but
-// one is a whole multiple of the volume of all: a vector for which it is no multiple is not in the lattice.
+// one is a whole multiple of the volume of all. So a vector for which it is none is refused; of the others membership decides.
 ghost use mathlib.Core.Path.{_≡_};
 ghost use mathlib.Core.Bool.{false};
 ghost use mathlib.Core.List.{[]};
@@ -28,7 +28,7 @@ fn volume_without(basis: [[i64; 4]; 4], d: usize, j: usize) -> [i64; 16]
 }
 
 // For each of d vectors the volume of the others.
-pub(crate) fn rests(basis: [[i64; 4]; 4], d: usize) -> [[i64; 16]; 4]
+pub(crate) fn volumes_without(basis: [[i64; 4]; 4], d: usize) -> [[i64; 16]; 4]
     requires { ⌜ d ≤ 4 ⌝ }
     requires { ⌜ ((i : ℕ) → i < d → N (getD basis i []) ≤ℤ pos 400000000) ⌝ }
     ensures { λ r. ⌜ Rests d basis d r ⌝ }

@@ -44,18 +44,18 @@ fair c = let s = c .before .before .before .before in s .pre .1 .1 (s .args .k) 
 short : (c : tie.After-vectors-of Inv-loop μ-loop) → (i : ℕ) → i < own c .d → N (getD (c .vectors-of .result) i []) ≤ℤ pos 400000000
 short c i h = subst (λ b. N (getD b i []) ≤ℤ pos 400000000) (sym (c .vectors-of .ensures)) (fair c .short i h)
 
-rests-requires : tie.Need-rests-requires Inv-loop μ-loop
-rests-requires c κs = (fair c .few, short c)
+volumes-without-requires : tie.Need-volumes-without-requires Inv-loop μ-loop
+volumes-without-requires c κs = (fair c .few, short c)
 
 volume-requires : tie.Need-volume-requires Inv-loop μ-loop
 volume-requires c κs = (fair (c .before) .few, short (c .before))
 
-screen : (c : tie.After-volume Inv-loop μ-loop) → Screen (own (c .before .before)) (c .before .rests .result) (c .volume .result)
+screen : (c : tie.After-volume Inv-loop μ-loop) → Screen (own (c .before .before)) (c .before .volumes-without .result) (c .volume .result)
 screen c =
     let v = c .before .before in
     let d = own v .d in
     record {
-      without = subst (λ b. Rests d b d (c .before .rests .result)) (v .vectors-of .ensures) (c .before .rests .ensures);
+      without = subst (λ b. Rests d b d (c .before .volumes-without .result)) (v .vectors-of .ensures) (c .before .volumes-without .ensures);
       all = c .volume .ensures ∙ ap (λ b. minors (take d b)) (v .vectors-of .ensures);
     }
 
@@ -124,7 +124,7 @@ standing-of-spec =
     mul-e
     array-copy-out-e
     vectors-of-requires
-    rests-requires
+    volumes-without-requires
     volume-requires
     loop-holds
     mul-if1

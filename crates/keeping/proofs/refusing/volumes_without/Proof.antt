@@ -4,8 +4,8 @@ use Prim.Native.Nat.{_-_, _≤_}
 use native.Mathlib.Omega.{arith}
 use borrow.Author.Needs.{needs}
 use Rattle.keeping.specs.Refusing.{Rests, rests-none, rests-more}
-use Rattle.keeping.proofs.refusing.rests.Statement.{statement}
-use Rattle.keeping.proofs.refusing.rests.Tie as tie
+use Rattle.keeping.proofs.refusing.volumes_without.Statement.{statement}
+use Rattle.keeping.proofs.refusing.volumes_without.Tie as tie
 
 abbrev Inv-loop : tie.InvT-loop
 Inv-loop basis d r₀ j₀ r j = (j ≤ d) × Rests d basis j r
@@ -42,8 +42,8 @@ returns c =
     let e : l .loop .j ≡ l .before .args .d = omega (arith, l .loop .inv .0, c .loop-test .left) in
     subst (λ n. Rests (l .before .args .d) (l .before .args .basis) n (l .loop .r)) e (l .loop .inv .1)
 
-pub rests-spec : {M : Type 1} → statement M
-rests-spec =
+pub volumes-without-spec : {M : Type 1} → statement M
+volumes-without-spec =
     tie.close
     (tie.spec
     Inv-loop
