@@ -46,7 +46,7 @@ pub fn refuse<T>(number: u64, place: usize) -> Result<T, Refused> {
 }
 
 /// Writes to a lent output: the length written, or 16. What is behind it keeps its bytes.
-fn lend(bytes: &[u8], out: &mut [u8]) -> Result<usize, Refused> {
+pub fn lend(bytes: &[u8], out: &mut [u8]) -> Result<usize, Refused> {
     if out.len() < bytes.len() {
         return refuse(16, 0);
     }
@@ -67,8 +67,13 @@ pub fn fold(bytes: &[u8], out: &mut [u8]) -> Result<usize, Refused> {
 /// The number of the standing entry of the entry with this number.
 pub fn lookup(bytes: &[u8], number: u32) -> Result<u32, Refused> {
     let entries = reader::read(bytes)?;
+    looked_up(&entries, &fold::standing(&entries), number)
+}
+
+/// The same, the standing entries being known.
+pub fn looked_up(entries: &[Entry], standing: &[usize], number: u32) -> Result<u32, Refused> {
     match entries.iter().position(|e| e.number == number) {
-        Some(i) => Ok(entries[fold::standing(&entries)[i]].number),
+        Some(i) => Ok(entries[standing[i]].number),
         None => refuse(17, 0),
     }
 }
