@@ -62,16 +62,19 @@ pub fn compare(bytes: &[u8], rooms: Rooms) -> Result<Compared, String> {
             seen.writings += 1;
             seen.short_outputs += (refused == 16) as u64;
         }
+        wrapped_alike(&writing, bytes, &expected)?;
     }
     let standing = entries.as_ref().map_or(vec![], |e| standing(e));
-    for number in numbers(entries.as_deref().unwrap_or(&[])) {
-        let expected = match &entries {
-            Ok(entries) => looked_up(entries, &standing, number),
-            Err(refused) => Err(*refused),
-        };
+    let expected = |number: u32| match &entries {
+        Ok(entries) => looked_up(entries, &standing, number),
+        Err(refused) => Err(*refused),
+    };
+    let all = numbers(entries.as_deref().unwrap_or(&[]));
+    for &number in &all {
         seen.lookups += 1;
-        seen.absent_numbers += (looked_up_alike(bytes, number, expected)? == 17) as u64;
+        seen.absent_numbers += (looked_up_alike(bytes, number, expected(number))? == 17) as u64;
     }
+    wrapped_lookup_alike(bytes, all[0], expected(all[0]))?;
     Ok(seen)
 }
 
@@ -84,17 +87,19 @@ fn lengths(expected: &Result<Vec<u8>, Refused>, rooms: Rooms) -> Vec<usize> {
     }
 }
 
-/// The number of every entry, of every see word, and some that no entry has, or none in 20 bits.
+/// The number of every entry, which are those of see words too, and some that no entry has. Of a large catalogue, which takes long,
+/// every twentieth.
 fn numbers(entries: &[Entry]) -> Vec<u32> {
-    let mut all: Vec<u32> = entries.iter().map(|e| e.number).collect();
+    let step = if entries.len() < 100 { 1 } else { 20 };
+    let mut all: Vec<u32> = entries.iter().step_by(step).map(|e| e.number).collect();
+    // equal in its lowest 20 bits to one that an entry has
     let far = all.first().map_or(0, |n| n + (1 << 20));
-    let next = all.iter().max().map_or(1, |n| n + 1);
-    all.extend(entries.iter().filter_map(|e| e.see));
+    let next = entries.iter().map(|e| e.number).max().map_or(1, |n| n + 1);
     all.extend([0, next, far, u32::MAX]);
     all
 }
 
-/// One call: the output and the answer as the reference gives them, twice, with Rust's types the second time. Gives the refusal.
+/// One call: the output and the answer as the reference gives them. Gives the refusal.
 fn written_alike(
     writing: &Writing,
     bytes: &[u8],
@@ -125,12 +130,30 @@ fn written_alike(
             "{said}: the engine wrote {out:x?}, the reference {wanted_out:x?}"
         ));
     }
-    let mut again = vec![MARK; room];
-    let given = (writing.wrapped)(bytes, &mut again);
-    if pair(given) != pair_of(wanted) || again != wanted_out {
-        return Err(format!("{said}: the Rust wrapper gives {given:?}"));
-    }
     Ok(answer[0])
+}
+
+/// One call with Rust's types: what is written, or the refusal.
+fn wrapped_alike(
+    writing: &Writing,
+    bytes: &[u8],
+    expected: &Result<Vec<u8>, Refused>,
+) -> Result<(), String> {
+    let mut out = vec![MARK; engine::MOST_BYTES];
+    let given = (writing.wrapped)(bytes, &mut out);
+    let is_alike = match (given, expected) {
+        (Ok(n), Ok(all)) => out[..n] == all[..],
+        (Err(refusal), Err(r)) => refusal.number_and_place() == (r.number as i64, r.place),
+        _ => false,
+    };
+    if is_alike {
+        Ok(())
+    } else {
+        Err(format!(
+            "{}: the Rust wrapper gives {given:?}",
+            writing.name
+        ))
+    }
 }
 
 fn looked_up_alike(bytes: &[u8], number: u32, wanted: Result<u32, Refused>) -> Result<i64, String> {
@@ -143,11 +166,20 @@ fn looked_up_alike(bytes: &[u8], number: u32, wanted: Result<u32, Refused>) -> R
             "lookup {number}: the engine gave {answer:?}, the reference {expected:?}"
         ));
     }
-    let given = engine::lookup(bytes, number);
-    if pair(given) != pair_of(wanted) {
-        return Err(format!("lookup {number}: the Rust wrapper gives {given:?}"));
-    }
     Ok(answer[0])
+}
+
+fn wrapped_lookup_alike(
+    bytes: &[u8],
+    number: u32,
+    wanted: Result<u32, Refused>,
+) -> Result<(), String> {
+    let given = engine::lookup(bytes, number).map_err(CatalogueRefusal::number_and_place);
+    if given == wanted.map_err(|r| (r.number as i64, r.place)) {
+        Ok(())
+    } else {
+        Err(format!("lookup {number}: the Rust wrapper gives {given:?}"))
+    }
 }
 
 /// The answer in the header's order.
@@ -156,12 +188,4 @@ fn laid_out(wanted: Result<i64, Refused>) -> Vec<i64> {
         Ok(n) => vec![0, 0, n],
         Err(r) => vec![r.number as i64, r.place as i64, 0],
     }
-}
-
-fn pair<T>(given: Result<T, CatalogueRefusal>) -> Result<T, (i64, usize)> {
-    given.map_err(CatalogueRefusal::number_and_place)
-}
-
-fn pair_of<T>(wanted: Result<T, Refused>) -> Result<T, (i64, usize)> {
-    wanted.map_err(|r| (r.number as i64, r.place))
 }

@@ -32,7 +32,7 @@ pub enum Kind {
 
 /// How often each kind comes: its turn is where the case's index is a multiple of the number and of none before it.
 const TURNS: [(usize, Kind); 9] = [
-    (5_000, Kind::Largest),
+    (12_000, Kind::Largest),
     (501, Kind::TooMany),
     (251, Kind::TooLarge),
     (53, Kind::Longer),
