@@ -17,8 +17,11 @@ const REDUCTION: usize = 55;
 // How many numbers the answer with a nearest vector takes.
 const NEAREST: usize = 11;
 
-// How many numbers the answer about a catalogue takes.
-const CATALOGUE: usize = 3;
+// How many numbers the answer of a writing takes.
+const WRITING: usize = 3;
+
+// How many numbers the answer of a lookup takes.
+const LOOKUP: usize = 3;
 
 // Writes a row from `at` on. That it has four numbers tells where the next one goes.
 fn put_row(out: &mut [i64], at: usize, row: [i64; 4])
@@ -109,7 +112,7 @@ pub extern "C" fn raghymtos_write_out(bytes: &[u8], out: &mut [u8], answer: &mut
     ensures { λ _. ⌜ now (answer .exit) ≡ written (now (answer .entry)) 3 (layoutOutput (output (read (now (bytes .entry))) (now (out .entry)))) ⌝ }
     ensures { λ _. ⌜ now (out .exit) ≡ beside (now (answer .entry)) 3 (now (out .entry)) (output (read (now (bytes .entry))) (now (out .entry)) .lent) ⌝ }
 {
-    if answer.len() < CATALOGUE {
+    if answer.len() < WRITING {
         return false;
     }
     let w = catalogue::write_out(bytes, out);
@@ -125,11 +128,11 @@ pub extern "C" fn raghymtos_fold(bytes: &[u8], out: &mut [u8], answer: &mut [i64
     ensures { λ _. ⌜ now (answer .exit) ≡ written (now (answer .entry)) 3 (layoutOutput (foldOf (now (bytes .entry)) (now (out .entry)))) ⌝ }
     ensures { λ _. ⌜ now (out .exit) ≡ beside (now (answer .entry)) 3 (now (out .entry)) (foldOf (now (bytes .entry)) (now (out .entry)) .lent) ⌝ }
 {
-    if answer.len() < CATALOGUE {
+    if answer.len() < WRITING {
         return false;
     }
-    let w = catalogue::fold(bytes, out);
-    put_head(answer, w.refusal, w.place as u64, w.length as i64);
+    let f = catalogue::fold(bytes, out);
+    put_head(answer, f.refusal, f.place as u64, f.length as i64);
     true
 }
 
@@ -140,10 +143,10 @@ pub extern "C" fn raghymtos_lookup(bytes: &[u8], number: u32, answer: &mut [i64]
     ensures { λ r. ⌜ r ≡ leb 3 (length (now (answer .entry))) ⌝ }
     ensures { λ _. ⌜ now (answer .exit) ≡ written (now (answer .entry)) 3 (layoutLookup (lookupOf (now (bytes .entry)) number)) ⌝ }
 {
-    if answer.len() < CATALOGUE {
+    if answer.len() < LOOKUP {
         return false;
     }
-    let f = catalogue::lookup(bytes, number);
-    put_head(answer, f.refusal, f.place as u64, f.standing as i64);
+    let s = catalogue::lookup(bytes, number);
+    put_head(answer, s.refusal, s.place as u64, s.standing as i64);
     true
 }

@@ -1,11 +1,12 @@
 -- The answer is stored where there is room for it, and nothing is done where there is not.
-use mathlib.Core.Path.{sym, ap, _∙_, subst}
+use mathlib.Core.Path.{_≡_, sym, ap, _∙_, subst}
 use Prim.Native.Nat.{_≤_, _<_}
 use native.Mathlib.Omega.{arith}
 use lib.IntN.{pos}
 use lib.ListN.{length}
 use lib.Seq.{sets}
 use mir.Syntax.{w64}
+use mir.Val.{toZ}
 use mir.Facts.{toZ-pos}
 use denote.Ref.{now}
 use borrow.Author.Tests.{le-leb, lt-leb}
@@ -38,10 +39,10 @@ few c =
     subst (λ a. (a .refusal ≤ 1000000000000) × (a .place ≤ 1000000000000)) (sym (c .lookup .ensures)) (omega (arith, n .0), omega (arith, n .1))
 
 cast-put-head : tie.Need-cast-put-head
-cast-put-head c = search needs
+cast-put-head c = let n = few (c .before .before) in record { sfits = omega (arith, n .0, n .1) }
 
 put-head-requires : tie.Need-put-head-requires
-put-head-requires c κs = let n = few (c .before .before) in (search needs, (n .0, n .1))
+put-head-requires c κs = let n = few (c .before .before) in (search needs, (omega (arith, n .0, n .1), omega (arith, n .0, n .1)))
 
 same-length : tie.Need-same-length
 same-length c = search needs
@@ -54,7 +55,8 @@ returns-2 c =
     let l = now (s .args .answer) in
     let a = w .lookup .result in
     let h : 3 ≤ length l = search needs in
-    let e = p .put-head .ensures ∙ ap (λ n. sets l 0 (head (a .refusal) (a .place) n)) (toZ-pos w64 (omega arith)) ∙ ap (λ a. sets l 0 (head (a .refusal) (a .place) (pos (a .standing)))) (w .lookup .ensures) in
+    let told : p .put-head .last .0 ≡ sets l 0 (head (a .refusal) (a .place) (toZ w64 (a .standing))) = p .put-head .ensures in
+    let e = told ∙ ap (λ n. sets l 0 (head (a .refusal) (a .place) n)) (toZ-pos w64 (omega arith)) ∙ ap (λ a. sets l 0 (head (a .refusal) (a .place) (pos (a .standing)))) (w .lookup .ensures) in
     (sym (le-leb 3 (length l) h), head-stored l (given s .refusal) (given s .place) (pos (given s .standing)) h e)
 
 pub raghymtos-lookup-spec : {M : Type 1} → statement M
