@@ -52,7 +52,7 @@ pub fn basis(numbers: &[i64], d: usize, m: usize) -> [[i64; 4]; 4]
 }
 
 // Whether a coordinate is beyond the limit of either sign.
-fn beyond(x: i64) -> bool
+pub fn beyond(x: i64) -> bool
     ensures { λ r. ⌜ r ≡ beyond x ⌝ }
 {
     x < -MOST_SIZE || MOST_SIZE < x
