@@ -10,9 +10,9 @@ use mir.Syntax.{w64}
 use mir.Val.{toZ, ofZ}
 use mir.Facts.{toZ-ofZ, fits-natAbs}
 use Rattle.integers.specs.Order.{ltZ-false}
-use Rattle.printing.specs.Turned.{Turned, turn, turned-back}
-use Rattle.printing.proofs.magnitude.Statement.{statement}
-use Rattle.printing.proofs.magnitude.Tie as tie
+use Rattle.texts.specs.Turned.{Turned, turn, turned-back}
+use Rattle.texts.proofs.magnitude.Statement.{statement}
+use Rattle.texts.proofs.magnitude.Tie as tie
 
 here : (c : tie.Then1) → Turned (c .before .args .z)
 here c =
