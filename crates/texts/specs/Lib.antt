@@ -1,5 +1,6 @@
 -- Text as bytes: where it is put, numbers in decimal, the sizes and signs of numbers.
 pub mod Puts
+pub mod Joined
 pub mod Decimals
 pub mod Turned
 pub mod Signs

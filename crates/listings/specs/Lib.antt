@@ -1,0 +1,2 @@
+-- The listing as the code writes it.
+pub mod Lines

@@ -1,0 +1,2 @@
+// The listing of a catalogue, as bytes of text.
+mod lines;
