@@ -31,7 +31,7 @@ fn vectors(coordinates: [i64; 16]) {
 }
 
 // Writes an entry: number, d, m and place, the see word's number and place, the coordinates.
-fn entry(e: catalogue::Entry) {
+fn entry(e: records::Entry) {
     io::write_all(STDOUT_FILENO, b"entry");
     field(e.number as u64);
     field(e.d as u64);
@@ -49,7 +49,7 @@ fn entry(e: catalogue::Entry) {
 }
 
 // Writes the first entries.
-fn entries(c: catalogue::Catalogue) {
+fn entries(c: records::Catalogue) {
     for k in 0..5 {
         if k < c.count {
             let e = c.entries[k];

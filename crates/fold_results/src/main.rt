@@ -25,7 +25,7 @@ fn folded(name: &[u8], bytes: &[u8]) {
     io::write_all(STDOUT_FILENO, name);
     printing::newline();
     let mut room = [170u8; 64];
-    let w = fold::fold(bytes, &mut room);
+    let w = catalogue::fold(bytes, &mut room);
     io::write_all(STDOUT_FILENO, b"fold");
     field(w.refusal);
     field(w.place as u64);
@@ -36,7 +36,7 @@ fn folded(name: &[u8], bytes: &[u8]) {
 
 // Writes a number, and what its lookup gives: refusal, place and standing number.
 fn found(bytes: &[u8], number: u32) {
-    let f = fold::lookup(bytes, number);
+    let f = catalogue::lookup(bytes, number);
     io::write_all(STDOUT_FILENO, b"lookup");
     field(number as u64);
     field(f.refusal);

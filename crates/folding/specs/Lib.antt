@@ -1,0 +1,5 @@
+-- The folded catalogue as code: reduced vectors as coordinates, see words led, and the standing entries one after the other.
+pub mod Spread
+pub mod Printing
+pub mod Folding
+pub mod Steps

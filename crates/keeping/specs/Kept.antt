@@ -1,0 +1,128 @@
+-- What the code keeps of an entry, and that its tests on it decide whether two entries generate one lattice.
+use mathlib.Core.Path.{_≡_, refl, sym, ap, ap₂, _∙_, subst}
+use mathlib.Core.Logic.{_≢_}
+use mathlib.Core.Bool.{Bool, true, false, _&&_, true≢false}
+use mathlib.Core.List.{List, [], _∷_, map}
+use Prim.Native.Nat.{ℕ, _≤_, _<_}
+use native.Mathlib.Nat.{le-refl}
+use lib.Dec.{eqb}
+use lib.IntN.{pos}
+use lib.Signed.{_≤ℤ_}
+use lib.ListN.{getD, take}
+use borrow.Author.Tests.{eqb-true, eq-eqb, ne-eqb}
+use Rattle.lattices.specs.Vector.{Vec, N}
+use Rattle.lattices.specs.Greedy.{vectors}
+use Rattle.lattices.specs.RefusalLaws.{one-to}
+use Rattle.lattices.specs.Answer.{padded, table, reductionOf}
+use Rattle.minima.specs.Reduced.{Reduced}
+use Rattle.minima.specs.Members.{isMember}
+use Rattle.reductions.specs.Start.{Coordinates}
+use Rattle.reductions.specs.Demand.{accepted-reduction}
+use Rattle.rows.specs.Rows.{vectorRow}
+use Rattle.layers.specs.Near.{Near}
+use Rattle.engine.specs.Answer.{vectors-back}
+use Rattle.engine.specs.Fine.{fine-greedy}
+use Rattle.engine.specs.Room.{short-rows}
+use Rattle.engine.specs.Begin.{first-fine}
+use Rattle.engine.specs.Finish.{R, outs-rows, last-vectors, last-reduced}
+use Rattle.catalogues.specs.Catalogue.{Entry, inputOf}
+use Rattle.catalogues.specs.EntriesAccepted.{is-basis}
+use Rattle.folds.specs.Fold.{reducedOf, every, holds, sameLattice}
+use Rattle.folds.specs.SameLattice.{Sound, entry-full}
+use Rattle.folds.specs.Deciding.{entry-rows, entry-member, different-m, different-d, holds-reduced}
+use Rattle.keeping.specs.declared.kept.Kept.{Kept}
+
+-- d, m and the engine's rows of an entry
+abbrev pub keptOf : Entry → Kept
+keptOf e = record { d = e .head .d; m = e .head .m; vectors = map vectorRow (reductionOf (inputOf e) .basis) }
+
+-- what an array of them gives beyond its end
+abbrev pub noKept : Kept
+noKept = record { d = 0; m = 0; vectors = [] }
+
+abbrev pub rowsIn : Kept → List Vec
+rowsIn k = map (λ r. r .at) (k .vectors)
+
+-- the reduced vectors
+abbrev pub basisIn : Kept → List Vec
+basisIn k = take (k .d) (rowsIn k)
+
+-- the lattice of a holds every reduced vector of b
+unfoldable pub heldIn : Kept → Kept → Bool
+heldIn a b = every (isMember (basisIn a)) (basisIn b)
+
+unfoldable pub sameKept : Kept → Kept → Bool
+sameKept a b = eqb (a .m) (b .m) && (eqb (a .d) (b .d) && (heldIn a b && heldIn b a))
+
+-- as the code decides it
+module _ (a b : Kept) where
+  pub other-m : a .m ≢ b .m → false ≡ sameKept a b
+  unfolding sameKept
+  other-m h = sym (ap (λ p. p && (eqb (a .d) (b .d) && (heldIn a b && heldIn b a))) (ne-eqb _ _ h))
+
+  pub other-d : a .m ≡ b .m → a .d ≢ b .d → false ≡ sameKept a b
+  unfolding sameKept
+  other-d e h = sym (ap₂ (λ p q. p && (q && (heldIn a b && heldIn b a))) (eq-eqb _ _ e) (ne-eqb _ _ h))
+
+  pub by-held : a .m ≡ b .m → a .d ≡ b .d → (heldIn a b && heldIn b a) ≡ sameKept a b
+  unfolding sameKept
+  by-held e h = sym (ap₂ (λ p q. p && (q && (heldIn a b && heldIn b a))) (eq-eqb _ _ e) (eq-eqb _ _ h))
+
+-- what membership asks of it
+pub record Fair (k : Kept) : Type 0 where
+  pub few : k .d ≤ 4
+  pub reduced : Reduced (basisIn k)
+  pub short : (i : ℕ) → i < k .d → N (getD (rowsIn k) i []) ≤ℤ pos 400000000
+
+pub fair-near : {a b : Kept} → Fair a → Fair b → (i : ℕ) → i < b .d → Near (a .d) (rowsIn a) (getD (rowsIn b) i [])
+fair-near p q i h = record { reduced = p .reduced; short = p .short; target = q .short i h }
+
+module _ (e : Entry) (s : Sound e) where
+  rows-are : rowsIn (keptOf e) ≡ reductionOf (inputOf e) .basis
+  rows-are = vectors-back (reductionOf (inputOf e) .basis)
+
+  pub basis-are : basisIn (keptOf e) ≡ map (padded 4) (reducedOf e)
+  basis-are = ap (take (e .head .d)) rows-are ∙ entry-rows e s
+
+  pub rows-table : rowsIn (keptOf e) ≡ table 4 4 (vectors (R (inputOf e) (is-basis e (s .fits) (s .independent))))
+  rows-table = rows-are ∙ ap (λ r. r .basis) (accepted-reduction (inputOf e) (is-basis e (s .fits) (s .independent)))
+
+  pub kept-fair : Fair (keptOf e)
+  kept-fair =
+      let i = inputOf e in
+      let a = is-basis e (s .fits) (s .independent) in
+      record {
+        few = one-to 4 (e .head .d) (s .fits .head .d) .1;
+        reduced = subst (λ l. Reduced (take (e .head .d) l)) (sym rows-table) (subst Reduced (sym (outs-rows i a)) (last-reduced i a));
+        short = λ k h. subst (λ l. N (getD l k []) ≤ℤ pos 400000000) (sym rows-table)
+            (subst (λ l. N (getD l k []) ≤ℤ pos 400000000) (last-vectors i a) (short-rows (fine-greedy (first-fine i a) (i .d) (le-refl (i .d))) k));
+      }
+
+  -- the test on the rows is that of the definition
+  held-vectors : (m : ℕ) → m ≡ e .head .m → (vs : List Vec) → Coordinates m vs
+      → every (isMember (basisIn (keptOf e))) (map (padded 4) vs) ≡ every (isMember (reducedOf e)) vs
+  held-vectors m q [] c = refl
+  held-vectors m q (v ∷ vs) c =
+      ap₂ _&&_ (ap (λ l. isMember (take (e .head .d) l) (padded 4 v)) rows-are ∙ entry-member e s v (c .0 ∙ q)) (held-vectors m q vs (c .1))
+
+module _ (e f : Entry) (s : Sound e) (t : Sound f) where
+  held-is : e .head .m ≡ f .head .m → heldIn (keptOf e) (keptOf f) ≡ holds e f
+  unfolding heldIn
+  held-is q =
+      ap (every (isMember (basisIn (keptOf e)))) (basis-are f t)
+      ∙ held-vectors e s (f .head .m) (sym q) (reducedOf f) (entry-full f t)
+      ∙ holds-reduced e f s t q
+
+module _ (e f : Entry) (s : Sound e) (t : Sound f) where
+  same-by : (a : Bool) → eqb (e .head .m) (f .head .m) ≡ a → (b : Bool) → eqb (e .head .d) (f .head .d) ≡ b
+      → (a && (b && (heldIn (keptOf e) (keptOf f) && heldIn (keptOf f) (keptOf e)))) ≡ sameLattice e f
+  unfolding sameLattice
+  same-by false p b q = sym (different-m e f s t (λ h. true≢false (sym (eq-eqb _ _ h) ∙ p)))
+  same-by true p false q = sym (different-d e f s t (λ h. true≢false (sym (eq-eqb _ _ h) ∙ q)))
+  same-by true p true q =
+      let m = eqb-true (e .head .m) (f .head .m) p in
+      ap₂ _&&_ (held-is e f s t m) (held-is f e t s (sym m)) ∙ sym (ap (λ a. a && (holds e f && holds f e)) p)
+
+  pub same-is : sameKept (keptOf e) (keptOf f) ≡ sameLattice e f
+  unfolding sameKept
+  same-is = same-by (eqb (e .head .m) (f .head .m)) refl (eqb (e .head .d) (f .head .d)) refl
