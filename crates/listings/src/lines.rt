@@ -78,7 +78,7 @@ pub(crate) fn put_counts(out: &mut [u8], at: usize, entries: u64, standing: u64)
 }
 
 // An entry: its number, its standing number, where its see word leads and how many passes reduced it.
-pub(crate) fn put_entry(
+pub(crate) fn put_entry_line(
     out: &mut [u8],
     at: usize,
     number: u64,

@@ -7,8 +7,8 @@ use borrow.Author.Needs.{needs}
 use Rattle.integers.specs.Decimal.{decimal}
 use Rattle.folds.specs.Listing.{after}
 use Rattle.texts.specs.Puts.{puts-then}
-use Rattle.listings.proofs.lines.put_entry.Statement.{statement}
-use Rattle.listings.proofs.lines.put_entry.Tie as tie
+use Rattle.listings.proofs.lines.put_entry_line.Statement.{statement}
+use Rattle.listings.proofs.lines.put_entry_line.Tie as tie
 
 room : (c : tie.Start) → let a = c .args in a .at + length (decimal (a .number)) + length (after (decimal (a .standing) ∷ decimal (a .lead) ∷ decimal (a .passes) ∷ [])) ≤ length (a .out .now)
 room c = let a = c .args in omega (arith, c .pre, length-append (decimal (a .number)) (after (decimal (a .standing) ∷ decimal (a .lead) ∷ decimal (a .passes) ∷ [])))
@@ -32,8 +32,8 @@ returns c =
     let p = c .before .before in
     puts-then (p .before .before .before .before .before .put-decimal .ensures) (p .put-numbers .ensures)
 
-pub put-entry-spec : {M : Type 1} → statement M
-put-entry-spec =
+pub put-entry-line-spec : {M : Type 1} → statement M
+put-entry-line-spec =
     tie.close
     (tie.spec
     put-decimal-requires
