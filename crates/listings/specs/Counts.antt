@@ -1,5 +1,5 @@
 -- How many entries stand: those whose place is their own.
-use mathlib.Core.Path.{_≡_, refl, sym, ap, _∙_}
+use mathlib.Core.Path.{_≡_, refl, sym, ap, ap₂, _∙_}
 use mathlib.Core.Bool.{Bool, true, false, cond}
 use mathlib.Core.List.{List, [], _∷_}
 use Prim.Native.Nat.{ℕ, zero, suc, _+_, _≤_, _<_}
@@ -8,11 +8,17 @@ use native.Mathlib.Decide.{ℕ-discrete}
 use lib.Dec.{eqb}
 use lib.ListN.{length, getD, length-append, length-map}
 use borrow.Author.Tests.{eq-eqb, ne-eqb}
+use Rattle.integers.specs.Decimal.{decimal}
 use Rattle.catalogues.specs.Catalogue as definition
 use Rattle.catalogues.specs.Form.{WellFormed}
 use Rattle.folds.specs.Fold.{stoodOf, closedList, standingIn, printed}
+use Rattle.folds.specs.Listing.{line}
+use Rattle.records.specs.declared.Catalogue.{Catalogue}
+use Rattle.records.specs.Entries.{entryIn, entriesIn, beyond}
 use Rattle.keeping.specs.declared.kept.Kept.{Kept}
+use Rattle.keeping.specs.Places.{Closed}
 use Rattle.keeping.specs.Standing.{Held}
+use Rattle.keeping.specs.Keeping.{Ready, Keeps, ready-length, keeps-held}
 use Rattle.folding.specs.Folding.{prints, prints-all, prints-yes, prints-no}
 
 abbrev pub one : ℕ → ℕ → ℕ
@@ -52,3 +58,14 @@ module _ (es : List definition.Entry) (o : definition.Entry) (w : WellFormed es)
   pub standing-count : ownPlaces places (length es) ≡ length (standingIn (closedList es))
   standing-count =
       counted (length es) (omega arith) ∙ ap length (prints-all es (length es) (omega arith)) ∙ length-map (standingIn (closedList es)) (printed (closedList es))
+
+-- the first line, of what the code counts
+abbrev pub countsLine : ℕ → ℕ → List ℕ
+countsLine entries standing = line (decimal entries) (decimal standing ∷ [])
+
+pub counts-text : (c : Catalogue) (r : Ready c) {list : List Kept} {places : List ℕ} → Keeps c (c .count) list → Closed list (c .count) places → {n : ℕ} → n ≡ ownPlaces places (c .count)
+    → countsLine (c .count) n ≡ countsLine (length (closedList (entriesIn c))) (length (standingIn (closedList (entriesIn c))))
+counts-text c r {places = places} kept closed is =
+    let es = entriesIn c in
+    ap₂ countsLine (sym (length-map es (stoodOf es) ∙ ready-length c r))
+    (is ∙ ap (ownPlaces places) (sym (ready-length c r)) ∙ standing-count es (entryIn beyond) (r .formed) (keeps-held c r kept closed))

@@ -11,8 +11,8 @@ ghost use Rattle.folding.specs.Spread.{Full};
 ghost use Rattle.texts.specs.Puts.{Puts};
 ghost use Rattle.listings.specs.Counts.{one, ownPlaces};
 ghost use Rattle.listings.specs.Entries.{vectorsOf, entryText};
-use keeping::kept::Kept;
 use super::lines;
+use keeping::kept::Kept;
 
 // The reduced vectors, a line each.
 fn put_vectors(out: &mut [u8], at: usize, k: Kept) -> usize
