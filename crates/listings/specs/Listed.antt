@@ -7,8 +7,9 @@ use Prim.Native.Nat.{ℕ, _+_, _^_, _≤_, _<_}
 use native.Mathlib.Omega.{arith}
 use lib.Dec.{ltb}
 use lib.ListN.{length, drop, length-append}
-use lib.Seq.{sets-eq}
+use lib.Seq.{sets-eq, length-take-le}
 use borrow.Author.Tests.{lt-ltb, le-ltb}
+use Rattle.io.specs.Counts.{Counts}
 use Rattle.integers.specs.Decimal.{decimal, decimal-length}
 use Rattle.catalogues.specs.Catalogue.{Outcome, refused, accepted}
 use Rattle.catalogues.specs.Read.{checked, read}
@@ -21,7 +22,7 @@ use Rattle.records.specs.declared.Written.{Written}
 use Rattle.records.specs.Catalogues.{catalogueOf, writtenOf}
 use Rattle.records.specs.Entries.{entriesIn}
 use Rattle.records.specs.Again.{read-as}
-use Rattle.texts.specs.Puts.{Puts}
+use Rattle.texts.specs.Puts.{Puts, puts-length}
 
 -- no listing takes more bytes (`listing-size`)
 abbrev pub mostText : ℕ
@@ -48,6 +49,12 @@ module _ (file : List ℕ) {text before after : List ℕ} {end : ℕ} (is : text
 
   pub text-put : record { refusal = 0; place = 0; written = end; lent = after } ≡ listedTo file before
   text-put = filled ∙ ap (λ t. filledWith t before) is ∙ long-enough file before room
+
+  -- as many bytes at the start of the output
+  pub text-counts : Counts end after
+  text-counts =
+      let within : end ≤ length after = omega (arith, puts-length p, p .place, small, room) in
+      (within, sym (length-take-le end after within))
 
 -- ---- the text of what was read
 

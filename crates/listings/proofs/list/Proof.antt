@@ -1,12 +1,12 @@
 -- An output that is long enough has room for every text.
-use mathlib.Core.Path.{_≡_, sym, ap, _∙_}
+use mathlib.Core.Path.{_≡_, refl, ap}
 use mathlib.Core.List.{[], _∷_}
 use Prim.Native.Nat.{_^_, _≤_, _<_}
 use native.Mathlib.Omega.{arith}
 use lib.ListN.{length}
 use Rattle.records.specs.Catalogues.{writtenOf}
 use Rattle.keeping.specs.Keeping.{ready}
-use Rattle.listings.specs.Listed.{mostText, too-short, text-put, refused-small, refused-text, accepted-text, accepted-small}
+use Rattle.listings.specs.Listed.{mostText, too-short, text-put, text-counts, refused-small, refused-text, accepted-text, accepted-small}
 use borrow.Author.Needs.{needs}
 use Rattle.listings.proofs.list.Statement.{statement}
 use Rattle.listings.proofs.list.Tie as tie
@@ -15,7 +15,7 @@ returns : tie.Need-returns
 returns c =
     let a = c .before .before .before .args in
     let o = too-short (a .bytes .now) (a .out .now) (c .if1 .taken) in
-    (ap writtenOf o, ap (λ o. o .lent) o)
+    (ap writtenOf o, (ap (λ o. o .lent) o, (omega arith, refl)))
 
 read-requires : tie.Need-read-requires
 read-requires c κs = search needs
@@ -39,8 +39,10 @@ returns-2 c =
     let r = t .before .before in
     let a = r .before .before .before .before .args in
     let small = refused-small (r .read .result .refusal) (r .read .result .place) (fits r .0) (fits r .1) in
-    let o = text-put (a .bytes .now) (refused-text (a .bytes .now) (r .read .ensures) (t .if2 .taken)) (p .put-refused .ensures) small (omega (arith, r .before .if1 .left)) in
-    (ap writtenOf o, ap (λ o. o .lent) o)
+    let is = refused-text (a .bytes .now) (r .read .ensures) (t .if2 .taken) in
+    let room : mostText ≤ length (a .out .now) = omega (arith, r .before .if1 .left) in
+    let o = text-put (a .bytes .now) is (p .put-refused .ensures) small room in
+    (ap writtenOf o, (ap (λ o. o .lent) o, text-counts (a .bytes .now) is (p .put-refused .ensures) small room))
 
 put-catalogue-requires : tie.Need-put-catalogue-requires
 put-catalogue-requires c κs =
@@ -58,8 +60,11 @@ returns-3 c =
     let e = p .before .before in
     let r = e .before .before in
     let a = r .before .before .before .before .args in
-    let o = text-put (a .bytes .now) (accepted-text (a .bytes .now) (r .read .ensures) (e .if2 .left)) (p .put-catalogue .ensures) (accepted-small (a .bytes .now) (r .read .ensures) (e .if2 .left)) (omega (arith, r .before .if1 .left)) in
-    (ap writtenOf o, ap (λ o. o .lent) o)
+    let small = accepted-small (a .bytes .now) (r .read .ensures) (e .if2 .left) in
+    let is = accepted-text (a .bytes .now) (r .read .ensures) (e .if2 .left) in
+    let room : mostText ≤ length (a .out .now) = omega (arith, r .before .if1 .left) in
+    let o = text-put (a .bytes .now) is (p .put-catalogue .ensures) small room in
+    (ap writtenOf o, (ap (λ o. o .lent) o, text-counts (a .bytes .now) is (p .put-catalogue .ensures) small room))
 
 pub list-spec : {M : Type 1} → statement M
 list-spec =
