@@ -7,7 +7,7 @@ use Prim.Native.Nat.{ℕ, _+_, _^_, _≤_, _<_}
 use native.Mathlib.Omega.{arith}
 use lib.Dec.{ltb}
 use lib.ListN.{length, drop, length-append}
-use lib.Seq.{sets-eq, length-take-le}
+use lib.Seq.{sets-eq}
 use borrow.Author.Tests.{lt-ltb, le-ltb}
 use Rattle.io.specs.Counts.{Counts}
 use Rattle.integers.specs.Decimal.{decimal, decimal-length}
@@ -22,6 +22,7 @@ use Rattle.records.specs.declared.Written.{Written}
 use Rattle.records.specs.Catalogues.{catalogueOf, writtenOf}
 use Rattle.records.specs.Entries.{entriesIn}
 use Rattle.records.specs.Again.{read-as}
+use Rattle.texts.specs.Within.{counts-within}
 use Rattle.texts.specs.Puts.{Puts, puts-length}
 
 -- no listing takes more bytes (`listing-size`)
@@ -52,9 +53,7 @@ module _ (file : List ℕ) {text before after : List ℕ} {end : ℕ} (is : text
 
   -- as many bytes at the start of the output
   pub text-counts : Counts end after
-  text-counts =
-      let within : end ≤ length after = omega (arith, puts-length p, p .place, small, room) in
-      (within, sym (length-take-le end after within))
+  text-counts = counts-within end after (omega (arith, puts-length p, p .place, small, room))
 
 -- ---- the text of what was read
 

@@ -3,8 +3,9 @@ use mathlib.Core.Path.{_≡_}
 use Prim.Native.Nat.{_-_, _≤_}
 use lib.ListN.{length}
 use borrow.Author.Needs.{needs}
-use Rattle.catalogue_results.proofs.forms.store.Statement.{statement}
-use Rattle.catalogue_results.proofs.forms.store.Tie as tie
+use Rattle.texts.specs.Within.{counts-within}
+use Rattle.forms.proofs.store.Statement.{statement}
+use Rattle.forms.proofs.store.Tie as tie
 
 abbrev Inv-loop : tie.InvT-loop
 Inv-loop words bytes₀ n₀ i₀ i-end bytes n i = (n ≤ length bytes₀) × (length bytes ≡ length bytes₀)
@@ -37,7 +38,7 @@ same-length : tie.Need-same-length Inv-loop μ-loop
 same-length c = search needs
 
 returns : tie.Need-returns Inv-loop μ-loop
-returns c = search needs
+returns c = counts-within _ _ (search needs)
 
 pub store-spec : {M : Type 1} → statement M
 store-spec =

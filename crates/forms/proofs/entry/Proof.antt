@@ -3,8 +3,8 @@ use mathlib.Core.Path.{_≡_}
 use Prim.Native.Nat.{_-_, _≤_}
 use lib.ListN.{length}
 use borrow.Author.Needs.{needs}
-use Rattle.catalogue_results.proofs.forms.entry.Statement.{statement}
-use Rattle.catalogue_results.proofs.forms.entry.Tie as tie
+use Rattle.forms.proofs.entry.Statement.{statement}
+use Rattle.forms.proofs.entry.Tie as tie
 
 abbrev Inv-loop : tie.InvT-loop
 Inv-loop words₀ at number shape rest n₀ k₀ k-end words n k = (n ≤ length words₀) × (length words ≡ length words₀)

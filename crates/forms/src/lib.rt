@@ -1,6 +1,7 @@
-// Catalogues made: words as bytes, and many entries alike.
+// Catalogues made: words as bytes, many entries alike, and many that differ.
 ghost use Prim.Native.Nat.{_≤_};
 ghost use lib.ListN.{length};
+ghost use Rattle.io.specs.Counts.{Counts};
 
 // The bytes of a word from n on, lowest byte first, if there is room; the index after them.
 fn put(bytes: &mut [u8], n: usize, w: u32) -> usize
@@ -18,8 +19,8 @@ fn put(bytes: &mut [u8], n: usize, w: u32) -> usize
 }
 
 // The bytes of the words, as far as there is room; how many there are.
-pub(crate) fn store(words: &[u32], bytes: &mut [u8]) -> usize
-    ensures { λ r. ⌜ r ≤ length (now (bytes .entry)) ⌝ }
+pub fn store(words: &[u32], bytes: &mut [u8]) -> usize
+    ensures { λ r. ⌜ Counts r (now (bytes .exit)) ⌝ }
 {
     let mut n = 0;
     for i in 0..words.len() {
@@ -53,12 +54,32 @@ fn entry(words: &mut [u32], at: usize, number: u32, shape: u32, rest: &[u32]) ->
 }
 
 // Entries alike, numbered from 1, and the end word; how many words they take.
-pub(crate) fn alike(words: &mut [u32], count: u32, shape: u32, rest: &[u32]) -> usize
-    ensures { λ r. ⌜ r ≤ length (now (words .entry)) ⌝ }
+pub fn alike(words: &mut [u32], count: u32, shape: u32, rest: &[u32]) -> usize
+    ensures { λ r. ⌜ Counts r (now (words .exit)) ⌝ }
 {
     let mut n = 0;
     for k in 0..count {
         n = entry(words, n, k % 1048575 + 1, shape, rest);
+    }
+    push(words, n, 1073741824 + count % 1048576)
+}
+
+// Entries of one coordinate, 1 to count, numbered by it, each with a see word to the entry of half its number, and the end word; how many words
+// they take. All are of different lattices, and the first sees itself.
+pub fn multiples(words: &mut [u32], count: u32) -> usize
+    ensures { λ r. ⌜ Counts r (now (words .exit)) ⌝ }
+{
+    let mut n = 0;
+    for k in 0..count {
+        let number = k % 20000 + 1;
+        let half = (number + 1) / 2;
+        n = entry(
+            words,
+            n,
+            number,
+            0x11,
+            &[0x20004E20 + number, 0x30000000 + half],
+        );
     }
     push(words, n, 1073741824 + count % 1048576)
 }

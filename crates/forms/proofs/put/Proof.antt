@@ -2,8 +2,8 @@
 use native.Mathlib.Omega.{arith}
 use lib.ListN.{length-set}
 use borrow.Author.Needs.{needs}
-use Rattle.catalogue_results.proofs.forms.put.Statement.{statement}
-use Rattle.catalogue_results.proofs.forms.put.Tie as tie
+use Rattle.forms.proofs.put.Statement.{statement}
+use Rattle.forms.proofs.put.Tie as tie
 
 sub-if1 : tie.Need-sub-if1
 sub-if1 c = search needs
