@@ -1,7 +1,7 @@
 -- An entry of the listing as the code has it, and all of them one after another.
 use mathlib.Core.Path.{_≡_, refl, sym, ap, ap₂, _∙_, subst}
 use mathlib.Core.Logic.{_≢_}
-use mathlib.Core.Bool.{Bool, true, false}
+use mathlib.Core.Bool.{true, false}
 use mathlib.Core.List.{List, [], _∷_, _++_, map, append-nil, append-assoc}
 use mathlib.Core.Option.{Option, none, some}
 use Prim.Native.Nat.{ℕ, _≤_, _<_}
@@ -24,13 +24,13 @@ use Rattle.records.specs.declared.Entry.{Entry}
 use Rattle.records.specs.Stored.{seeNumber}
 use Rattle.records.specs.Entries.{entryIn, entriesIn, beyond, entryAt, at-place, entry-has}
 use Rattle.keeping.specs.declared.kept.Kept.{Kept}
-use Rattle.keeping.specs.Kept.{noKept, keptOf, basisIn}
+use Rattle.keeping.specs.Kept.{noKept, basisIn}
 use Rattle.keeping.specs.Places.{Closed}
 use Rattle.keeping.specs.Standing.{Held, place-standing, place-below}
 use Rattle.keeping.specs.Keeping.{Ready, Keeps, ready-length, ready-numbers, keeps-held}
 use Rattle.folding.specs.declared.printing.Way.{Way}
 use Rattle.folding.specs.Spread.{Full, kept-full, kept-vectors}
-use Rattle.folding.specs.Printing.{Led, wayOf}
+use Rattle.folding.specs.Printing.{Led}
 use Rattle.texts.specs.Joined.{joined}
 
 -- the reduced vectors of what is kept

@@ -18,8 +18,7 @@ use Rattle.folds.specs.Fold.{closedList}
 use Rattle.folds.specs.Listing.{after, line, refusedWord, catalogueLines, listed, listingOf}
 use Rattle.folds.specs.ListingSize.{listing-size}
 use Rattle.records.specs.declared.Catalogue.{Catalogue}
-use Rattle.records.specs.declared.Written.{Written}
-use Rattle.records.specs.Catalogues.{catalogueOf, writtenOf}
+use Rattle.records.specs.Catalogues.{catalogueOf}
 use Rattle.records.specs.Entries.{entriesIn}
 use Rattle.records.specs.Again.{read-as}
 use Rattle.texts.specs.Within.{counts-within}

@@ -5,7 +5,7 @@ use native.Mathlib.Omega.{arith}
 use lib.ListN.{length, getD, set, take}
 use lib.Seq.{sets, length-sets, take-all}
 use borrow.Author.Needs.{needs}
-use Rattle.texts.specs.Puts.{Puts, sets-more}
+use Rattle.texts.specs.Puts.{sets-more}
 use Rattle.texts.proofs.put_bytes.Statement.{statement}
 use Rattle.texts.proofs.put_bytes.Tie as tie
 

@@ -1,10 +1,9 @@
 -- The first k entries are put.
-use mathlib.Core.Path.{_≡_, sym, ap, _∙_, subst}
-use Prim.Native.Nat.{_+_, _-_, _≤_, _<_}
+use mathlib.Core.Path.{_≡_, ap, _∙_, subst}
+use Prim.Native.Nat.{_-_, _≤_, _<_}
 use native.Mathlib.Omega.{arith}
 use lib.ListN.{length, getD, take, length-map}
 use Rattle.folds.specs.Fold.{stoodOf, closedList}
-use Rattle.folds.specs.Listing.{entryLines}
 use Rattle.records.specs.Entries.{entryIn, entriesIn, beyond}
 use Rattle.keeping.specs.Keeping.{ready-length}
 use Rattle.texts.specs.Puts.{Puts, puts-none, puts-length}

@@ -1,10 +1,10 @@
 -- With vectors or without.
-use mathlib.Core.Path.{_≡_, sym, ap, _∙_, subst}
+use mathlib.Core.Path.{ap, subst}
 use native.Mathlib.Omega.{arith}
 use lib.ListN.{length, length-append}
 use Rattle.folds.specs.Listing.{vectorLines}
 use Rattle.texts.specs.Puts.{Puts, puts-then}
-use Rattle.listings.specs.Entries.{vectorsOf, entryText, theLine, standing-text, other-text, line-room}
+use Rattle.listings.specs.Entries.{vectorsOf, theLine, standing-text, other-text, line-room}
 use borrow.Author.Needs.{needs}
 use Rattle.listings.proofs.entries.put_entry.Statement.{statement}
 use Rattle.listings.proofs.entries.put_entry.Tie as tie

@@ -1,11 +1,10 @@
 -- The first i vectors are put.
-use mathlib.Core.Path.{_≡_, sym, ap, ap₂, _∙_, subst}
-use mathlib.Core.List.{List, [], map}
-use Prim.Native.Nat.{ℕ, _+_, _-_, _≤_, _<_}
+use mathlib.Core.Path.{_≡_, sym, ap, _∙_, subst}
+use mathlib.Core.List.{[]}
+use Prim.Native.Nat.{_-_, _≤_, _<_}
 use native.Mathlib.Omega.{arith}
-use lib.ListN.{length, getD, take}
+use lib.ListN.{length, take}
 use lib.Seq.{getD-take, length-take-le}
-use Rattle.lattices.specs.Vector.{Vec}
 use Rattle.folds.specs.Listing.{vectorLines}
 use Rattle.keeping.specs.Kept.{rowsIn, basisIn}
 use Rattle.texts.specs.Puts.{Puts, puts-none, puts-length}

@@ -1,9 +1,7 @@
 -- The blank, then the number.
-use mathlib.Core.Path.{_≡_, sym, ap, _∙_, subst}
+use mathlib.Core.Path.{ap, subst}
 use native.Mathlib.Omega.{arith}
 use lib.ListN.{length}
-use mir.Syntax.{w64}
-use mir.Val.{toZ, ofZ}
 use mir.Facts.{toZ-ofZ}
 use borrow.Author.Needs.{needs}
 use Rattle.integers.specs.Decimal.{signed}

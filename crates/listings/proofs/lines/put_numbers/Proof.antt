@@ -1,12 +1,10 @@
 -- The first i numbers are put.
-use mathlib.Core.Path.{_≡_, ap, _∙_, subst}
-use mathlib.Core.List.{_∷_, []}
-use Prim.Native.Nat.{_+_, _-_, _≤_}
+use mathlib.Core.Path.{_≡_, _∙_, subst}
+use Prim.Native.Nat.{_-_, _≤_}
 use native.Mathlib.Omega.{arith}
-use lib.ListN.{length, take, length-append}
+use lib.ListN.{length, take}
 use borrow.Author.Needs.{needs}
 use Rattle.integers.specs.Decimal.{decimal}
-use Rattle.folds.specs.Listing.{after}
 use Rattle.texts.specs.Puts.{Puts, puts-none, puts-then, puts-length}
 use Rattle.texts.specs.Joined.{joined, joined-room, puts-next, puts-all}
 use Rattle.listings.specs.Lines.{blank, after-joined, fields-length}
