@@ -1,15 +1,16 @@
 -- Forms over four coordinates as lists of sixteen numbers, one for each choice of coordinates, and how code computes an exterior product:
 -- the terms of an entry from the last coordinate on, each less the sum so far. The first coordinate is the highest bit of a place.
-use mathlib.Core.Path.{_≡_, refl, sym, ap, _∙_}
+use mathlib.Core.Path.{_≡_, refl, sym, ap, _∙_, subst}
 use mathlib.Core.Bool.{Bool, true, false, cond}
 use mathlib.Core.List.{List, [], _∷_, _++_}
 use Prim.Native.Nat.{ℕ, zero, suc, _+_, _*_, _-_, _^_, _/_, _%_, _≤_, _<_}
 use native.Mathlib.Nat.{not-suc-le-zero, le-of-suc-le-suc, pow-suc, div-mul-le-self, mul-le-mul-right}
 use native.Mathlib.Numerals.{add-one}
 use native.Mathlib.Omega.{arith}
+use native.Mathlib.Decide.{decLt}
 use lib.Dec.{eqb}
 use lib.IntN.{ℤ, pos, _-ℤ_, _*ℤ_}
-use lib.ListN.{length}
+use lib.ListN.{length, List·getD-eq-default}
 use mir.Syntax.{w64}
 use mir.Val.{SFits}
 use borrow.Author.Tests.{eq-eqb, ne-eqb}
@@ -143,3 +144,11 @@ turn a w f g s k h =
       sum = fits-within q tt;
       next = fits-within (within-sub p q) tt;
     }
+
+-- the sixteen numbers of a product
+pub wedged-within : (a : Vec) (w : List ℤ) → length a ≡ 4 → ((i : ℕ) → Within 20000 (nth a i)) → ((i : ℕ) → Within 8000000000000 (nth w i)) → (s : ℕ) → Within 640000000000000000 (nth (wedged a w) s)
+wedged-within a w l f g s = pick (decLt s 16)
+  where
+    pick : Dec (s < 16) → Within 640000000000000000 (nth (wedged a w) s)
+    pick (yes h) = subst (Within 640000000000000000) (expansion-entry a w s l h) (within-le (omega arith) (expansion-within a w 20000 8000000000000 f g s 4))
+    pick (no h) = subst (Within 640000000000000000) (sym (List·getD-eq-default (wedged a w) (pos 0) (omega (arith, length-wedged a w)))) (record { within = omega arith })

@@ -16,9 +16,9 @@ use borrow.Author.Tests.{lt-leb}
 use Rattle.integers.specs.Order.{≤ℤ-trans, pos-nonneg}
 use Rattle.integers.specs.Certificate.{NN}
 use Rattle.integers.specs.Size.{Within, root-within}
-use Rattle.lattices.specs.Vector.{Vec, N, nth, dot}
+use Rattle.lattices.specs.Vector.{Vec, N, nth, dot, _⊙_}
 use Rattle.lattices.specs.VectorLaws.{square-≤}
-use Rattle.lattices.specs.Volume.{Index, Form, volume, inner, squaredVolume, isDependent}
+use Rattle.lattices.specs.Volume.{Index, Form, wedge, volume, inner, squaredVolume, isDependent}
 use Rattle.lattices.specs.Refusal.{any}
 use Rattle.volumes.specs.Forms.{half}
 use Rattle.volumes.specs.Exterior.{inner-nonneg}
@@ -33,6 +33,24 @@ minors bs = entries 4 (volume bs)
 pub minors-cons : (b : Vec) (bs : List Vec) → minors (b ∷ bs) ≡ wedged b (minors bs)
 unfolding minors wedged
 minors-cons b bs = refl
+
+-- ---- multiples
+
+⊙-append : (k : ℤ) (u v : List ℤ) → k ⊙ (u ++ v) ≡ (k ⊙ u) ++ (k ⊙ v)
+unfolding _⊙_
+⊙-append k [] v = refl
+⊙-append k (x ∷ u) v = ap (λ l. (k *ℤ x) ∷ l) (⊙-append k u v)
+
+entries-multiple : (n : ℕ) (k : ℤ) (ω η : Form) → ((s : Index) → η s ≡ k *ℤ ω s) → entries n η ≡ k ⊙ entries n ω
+unfolding _⊙_
+entries-multiple zero k ω η p = ap (λ x. x ∷ []) (p [])
+entries-multiple (suc n) k ω η p =
+    ap₂ _++_ (entries-multiple n k (half false ω) (half false η) (λ s. p (false ∷ s))) (entries-multiple n k (half true ω) (half true η) (λ s. p (true ∷ s)))
+    ∙ sym (⊙-append k (entries n (half false ω)) (entries n (half true ω)))
+
+pub wedged-multiple : (k : ℤ) (v : Vec) (cs bs : List Vec) → ((s : Index) → wedge v (volume cs) s ≡ k *ℤ volume bs s) → wedged v (minors cs) ≡ k ⊙ minors bs
+unfolding minors wedged
+wedged-multiple k v cs bs p = entries-multiple 4 k (volume bs) (wedge v (volume cs)) p
 
 -- ---- sizes
 

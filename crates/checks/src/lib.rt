@@ -52,7 +52,7 @@ pub fn basis(numbers: &[i64], d: usize, m: usize) -> [[i64; 4]; 4]
 }
 
 // Whether a coordinate is beyond the limit of either sign.
-fn beyond(x: i64) -> bool
+pub fn beyond(x: i64) -> bool
     ensures { λ r. ⌜ r ≡ beyond x ⌝ }
 {
     x < -MOST_SIZE || MOST_SIZE < x
@@ -111,7 +111,7 @@ fn entry(a: [i64; 4], w: &[i64; 16], s: usize) -> i64
 }
 
 // The exterior product of a vector and a form. Written out, each place is a constant where its entry is computed.
-fn wedge(a: [i64; 4], w: &[i64; 16]) -> [i64; 16]
+pub fn wedge(a: [i64; 4], w: &[i64; 16]) -> [i64; 16]
     requires { ⌜ ((i : ℕ) → Within 20000 (nth a i)) ⌝ }
     requires { ⌜ ((i : ℕ) → Within 8000000000000 (nth (now w) i)) ⌝ }
     ensures { λ r. ⌜ r ≡ wedged a (now (w .entry)) ⌝ }
@@ -137,7 +137,7 @@ fn wedge(a: [i64; 4], w: &[i64; 16]) -> [i64; 16]
 }
 
 // The volume of the first d vectors, from the last on: the minors of vectors within the length limit are small.
-fn volume(b: [[i64; 4]; 4], d: usize) -> [i64; 16]
+pub fn volume(b: [[i64; 4]; 4], d: usize) -> [i64; 16]
     requires { ⌜ d ≤ 4 ⌝ }
     requires { ⌜ ((i : ℕ) → i < d → N (getD b i []) ≤ℤ pos 400000000) ⌝ }
     ensures { λ r. ⌜ r ≡ minors (take d b) ⌝ }

@@ -20,7 +20,7 @@ use Rattle.folds.specs.Fold.{reducedOf}
 use Rattle.folds.specs.SameLattice.{Sound, entry-full}
 use Rattle.records.specs.Filled.{filled, filled-next, map-snoc}
 use Rattle.keeping.specs.declared.kept.Kept.{Kept}
-use Rattle.keeping.specs.Kept.{keptOf, rowsIn, basisIn, basis-are, rows-table}
+use Rattle.keeping.specs.Kept.{keptOf, rowsIn, basisIn, basis-are, rows-table, length-table}
 
 -- the numbers of a list, from place n on
 abbrev pub putAll : List ℤ → ℕ → List ℤ → List ℤ
@@ -93,11 +93,6 @@ pub kept-vectors : (e : Entry) → Sound e → map (take (e .head .m)) (basisIn 
 kept-vectors e s = ap (map (take (e .head .m))) (basis-are e s) ∙ back (e .head .m) (one-to 4 (e .head .m) (s .fits .head .m) .1) (reducedOf e) (entry-full e s)
 
 -- and its rows are full
-length-table : (h w : ℕ) (rows : List Vec) → length (table h w rows) ≡ h
-length-table zero w rows = refl
-length-table (suc h) w [] = ap suc (length-table h w [])
-length-table (suc h) w (r ∷ rows) = ap suc (length-table h w rows)
-
 length-row : (h w : ℕ) (rows : List Vec) (i : ℕ) → i < h → length (getD (table h w rows) i []) ≡ w
 length-row zero w rows i l = absurd (omega arith)
 length-row (suc h) w [] zero l = length-padded w []

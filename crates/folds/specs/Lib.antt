@@ -1,5 +1,5 @@
 -- The fold of a catalogue. Definitions: Fold, Services, Listing. What they promise: Meaning, and Demand, where demand 3 is one statement. The
--- rest proves it; Deciding, Adding, Searching and ListingSize are for the code.
+-- rest proves it; Deciding, Multiples, Adding, Searching and ListingSize are for the code.
 pub mod Fold
 pub mod Services
 pub mod Listing
@@ -13,6 +13,7 @@ pub mod PrintingLaws
 pub mod Again
 pub mod Demand
 pub mod Deciding
+pub mod Multiples
 pub mod Adding
 pub mod Searching
 pub mod ListingSize

@@ -3,12 +3,12 @@ use mathlib.Core.Path.{_≡_, refl, sym, ap, ap₂, _∙_, subst}
 use mathlib.Core.Logic.{_≢_}
 use mathlib.Core.Bool.{Bool, true, false, _&&_, true≢false}
 use mathlib.Core.List.{List, [], _∷_, map}
-use Prim.Native.Nat.{ℕ, _≤_, _<_}
+use Prim.Native.Nat.{ℕ, zero, suc, _≤_, _<_}
 use native.Mathlib.Nat.{le-refl}
 use lib.Dec.{eqb}
 use lib.IntN.{pos}
 use lib.Signed.{_≤ℤ_}
-use lib.ListN.{getD, take}
+use lib.ListN.{length, getD, take}
 use borrow.Author.Tests.{eqb-true, eq-eqb, ne-eqb}
 use Rattle.lattices.specs.Vector.{Vec, N}
 use Rattle.lattices.specs.Greedy.{vectors}
@@ -70,9 +70,15 @@ module _ (a b : Kept) where
 
 -- what membership asks of it
 pub record Fair (k : Kept) : Type 0 where
+  pub four : length (rowsIn k) ≡ 4
   pub few : k .d ≤ 4
   pub reduced : Reduced (basisIn k)
   pub short : (i : ℕ) → i < k .d → N (getD (rowsIn k) i []) ≤ℤ pos 400000000
+
+pub length-table : (h w : ℕ) (rows : List Vec) → length (table h w rows) ≡ h
+length-table zero w rows = refl
+length-table (suc h) w [] = ap suc (length-table h w [])
+length-table (suc h) w (r ∷ rows) = ap suc (length-table h w rows)
 
 pub fair-near : {a b : Kept} → Fair a → Fair b → (i : ℕ) → i < b .d → Near (a .d) (rowsIn a) (getD (rowsIn b) i [])
 fair-near p q i h = record { reduced = p .reduced; short = p .short; target = q .short i h }
@@ -92,6 +98,7 @@ module _ (e : Entry) (s : Sound e) where
       let i = inputOf e in
       let a = is-basis e (s .fits) (s .independent) in
       record {
+        four = ap length rows-table ∙ length-table 4 4 (vectors (R i a));
         few = one-to 4 (e .head .d) (s .fits .head .d) .1;
         reduced = subst (λ l. Reduced (take (e .head .d) l)) (sym rows-table) (subst Reduced (sym (outs-rows i a)) (last-reduced i a));
         short = λ k h. subst (λ l. N (getD l k []) ≤ℤ pos 400000000) (sym rows-table)

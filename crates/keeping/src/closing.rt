@@ -5,7 +5,8 @@ ghost use lib.ListN.{length, getD};
 ghost use Rattle.keeping.specs.Kept.{noKept, Fair};
 ghost use Rattle.keeping.specs.Places.{First, stander, Closed};
 use super::kept::Kept;
-use super::kept::same;
+use super::refusing::same_as;
+use super::refusing::volumes_without;
 
 // The place of the first standing entry before k of the same lattice, else k. Only standing entries are compared.
 fn standing_of(list: [Kept; 256], standing: &[usize], k: usize) -> usize
@@ -15,10 +16,14 @@ fn standing_of(list: [Kept; 256], standing: &[usize], k: usize) -> usize
     ensures { λ r. ⌜ First (stander list (now (standing .entry)) k) k r ⌝ }
 {
     let e = list[k];
+    let vectors = e.vectors;
+    let basis = rows::vectors_of(vectors);
+    let rests = volumes_without(basis, e.d);
+    let whole = checks::volume(basis, e.d);
     for j in 0..k {
         if standing[j] == j {
             let f = list[j];
-            if same(f, e) {
+            if same_as(f, e, rests, whole) {
                 return j;
             }
         }

@@ -1,5 +1,5 @@
 // What `raghymtos help` and `raghymtos nearest` write: a program has one compared output, and that of `raghymtos` is for reductions.
 fn main() {
-    service::run(b"help");
-    service::run(b"nearest");
+    commands::run(b"help", b"");
+    commands::run(b"nearest", b"");
 }

@@ -2,5 +2,7 @@
 fn main() {
     let mut word = [0u8; 8];
     let n = os::arg(1, &mut word);
-    service::run(&word[..n]);
+    let mut number = [0u8; 24];
+    let k = os::arg(2, &mut number);
+    commands::run(&word[..n], &number[..k]);
 }

@@ -7,14 +7,14 @@ use super::Counts;
 use super::Kind;
 use super::read_part;
 
-fn is_count(n: i64) -> bool
+pub fn is_count(n: i64) -> bool
     ensures { λ r. ⌜ r ≡ isCount n ⌝ }
 {
     n >= 0
 }
 
 // n as a count, 0 where it is none.
-fn count(n: i64) -> usize
+pub fn count(n: i64) -> usize
     ensures { λ r. ⌜ r ≡ countOf n ⌝ }
 {
     if n < 0 {

@@ -103,43 +103,12 @@ fn serve(command: Command) {
     answer(command, buffer, p);
 }
 
-fn usage() {
-    io::write_all(STDOUT_FILENO, b"usage: raghymtos reduce | nearest | help\n");
-    io::write_all(
-        STDOUT_FILENO,
-        b"reads requests from standard input, one to a line\n",
-    );
-    io::write_all(
-        STDOUT_FILENO,
-        b"reduce   d m ; the numbers of d vectors of m coordinates\n",
-    );
-    io::write_all(
-        STDOUT_FILENO,
-        b"         answers: reduced PASSES SQUARED LENGTHS, and lines v, U and V\n",
-    );
-    io::write_all(
-        STDOUT_FILENO,
-        b"nearest  d m ; the numbers of d vectors of m coordinates ; the m numbers of a target\n",
-    );
-    io::write_all(
-        STDOUT_FILENO,
-        b"         answers: nearest SQUARED DISTANCE, and lines c (coefficients) and v\n",
-    );
-    io::write_all(
-        STDOUT_FILENO,
-        b"both answer: refused NUMBER PLACE, or: error LINE: what is wrong\n",
-    );
+// Answers requests for reductions.
+pub fn reduce() {
+    serve(Command::Reduce);
 }
 
-// Does what the sub-command says.
-pub fn run(word: &[u8]) {
-    if check::same(word, b"reduce") {
-        serve(Command::Reduce);
-        return;
-    }
-    if check::same(word, b"nearest") {
-        serve(Command::Nearest);
-        return;
-    }
-    usage();
+// Answers requests for nearest vectors.
+pub fn nearest() {
+    serve(Command::Nearest);
 }

@@ -86,12 +86,12 @@ step-keeps m j x bs h e =
     cramer-sq m j x bs h ∙ ap (λ c. c *ℤ c *ℤ squaredVolume m bs) e ∙ pos-one-*ℤ (squaredVolume m bs)
 
 -- the volume of a rearrangement: the same up to the sign
-record Signed (f g : Form) : Type 0 where
-  sign : ℤ
-  signed : sign *ℤ sign ≡ pos 1
-  by-sign : Multiple sign f g
+pub record Signed (f g : Form) : Type 0 where
+  pub sign : ℤ
+  pub signed : sign *ℤ sign ≡ pos 1
+  pub by-sign : Multiple sign f g
 
-perm-signed : {ds bs : List Vec} → Perm ds bs → Signed (volume bs) (volume ds)
+pub perm-signed : {ds bs : List Vec} → Perm ds bs → Signed (volume bs) (volume ds)
 perm-signed (same bs) = record { sign = pos 1; signed = refl; by-sign = record { multiple = λ s. sym (pos-one-*ℤ (volume bs s)) } }
 perm-signed (skip b p) =
     let q = perm-signed p in

@@ -23,7 +23,7 @@ use records::Entry;
 use records::Written;
 
 // The word at index k of the bytes, lowest byte first.
-fn put_word(out: &mut [u8], k: usize, w: u32)
+pub fn put_word(out: &mut [u8], k: usize, w: u32)
     requires { ⌜ k * 4 + 4 ≤ length (now out) ⌝ }
     ensures { λ _. ⌜ now (out .exit) ≡ overWords (now (out .entry)) k (w ∷ []) ⌝ }
 {
@@ -35,7 +35,7 @@ fn put_word(out: &mut [u8], k: usize, w: u32)
 }
 
 // Kind 1: number, d and m.
-fn head_word(number: u32, d: usize, m: usize) -> u32
+pub fn head_word(number: u32, d: usize, m: usize) -> u32
     requires { ⌜ number < 2 ^ 20 ⌝ }
     requires { ⌜ d < 16 ⌝ }
     requires { ⌜ m < 16 ⌝ }
@@ -45,7 +45,7 @@ fn head_word(number: u32, d: usize, m: usize) -> u32
 }
 
 // Kind 2: the coordinate plus 20,000.
-fn coordinate_word(x: i64) -> u32
+pub fn coordinate_word(x: i64) -> u32
     requires { ⌜ natAbs x ≤ 20000 ⌝ }
     ensures { λ r. ⌜ r ≡ encode (coordinateWord x) ⌝ }
 {
@@ -53,7 +53,7 @@ fn coordinate_word(x: i64) -> u32
 }
 
 // Kind 3.
-fn see_word(number: u32) -> u32
+pub fn see_word(number: u32) -> u32
     requires { ⌜ number < 2 ^ 28 ⌝ }
     ensures { λ r. ⌜ r ≡ encode (see number) ⌝ }
 {
@@ -61,7 +61,7 @@ fn see_word(number: u32) -> u32
 }
 
 // Kind 4.
-fn end_word(count: usize) -> u32
+pub fn end_word(count: usize) -> u32
     requires { ⌜ count < 2 ^ 28 ⌝ }
     ensures { λ r. ⌜ r ≡ encode (end count) ⌝ }
 {

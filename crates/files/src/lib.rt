@@ -1,0 +1,102 @@
+// Whole catalogues on standard input: folded, looked up, and turned into text and back. What is written, no contract can say: the
+// answers themselves are under contract in the catalogue.
+use libc::STDIN_FILENO;
+use libc::STDOUT_FILENO;
+
+mod decoding;
+mod encoding;
+
+// Writes the refusal of a catalogue.
+fn refused(number: u64, place: usize) {
+    answers::refused(number, place as u64);
+}
+
+// Writes the first n bytes, all of them where n is more.
+fn write_first(bytes: &[u8], n: usize) {
+    if n <= bytes.len() {
+        io::write_all(STDOUT_FILENO, &bytes[..n]);
+    }
+}
+
+// Writes the folded catalogue.
+pub fn fold() {
+    let mut bytes = [0u8; 18440];
+    let n = io::read_full(STDIN_FILENO, &mut bytes);
+    let mut out = [0u8; 18436];
+    let w = catalogue::fold(&bytes[..n], &mut out);
+    if w.refusal != 0 {
+        refused(w.refusal, w.place);
+        return;
+    }
+    write_first(&out, w.length);
+}
+
+// A number as lookup takes it. What is no entry's number becomes 0, which is none either.
+fn asked(n: usize) -> u32 {
+    if 1048575 < n {
+        return 0;
+    }
+    n as u32
+}
+
+// Writes the standing number of the entry with this number.
+fn look_up(number: u32) {
+    let mut bytes = [0u8; 18440];
+    let n = io::read_full(STDIN_FILENO, &mut bytes);
+    let f = catalogue::lookup(&bytes[..n], number);
+    if f.refusal != 0 {
+        refused(f.refusal, f.place);
+        return;
+    }
+    printing::number(f.standing as u64);
+    printing::newline();
+}
+
+// The lookup of the number that a word writes.
+pub fn lookup(word: &[u8]) {
+    let mut numbers = [0i64; 1];
+    let p = requests::read_part(word, &mut numbers);
+    let stop = p.stop;
+    if p.count != 1 || !encoding::is_end(stop) {
+        io::write_all(
+            STDOUT_FILENO,
+            b"error: lookup wants the number of an entry\n",
+        );
+        return;
+    }
+    look_up(asked(encoding::whole(numbers[0])));
+}
+
+// Writes the entries of a catalogue as text, a line each.
+pub fn decode() {
+    let mut bytes = [0u8; 18440];
+    let n = io::read_full(STDIN_FILENO, &mut bytes);
+    let c = catalogue::read(&bytes[..n]);
+    if c.refusal != 0 {
+        refused(c.refusal, c.place);
+        return;
+    }
+    decoding::entries(c);
+}
+
+// Writes the catalogue that a text tells, unless something in it is wrong.
+pub fn encode() {
+    let mut text = io::large_buffer();
+    let n = io::read_full(STDIN_FILENO, &mut text);
+    if n == 65536 {
+        io::write_all(STDOUT_FILENO, b"error: a text of more than 65535 bytes\n");
+        return;
+    }
+    let mut out = [0u8; 18440];
+    let e = encoding::encoded(&text[..n], &mut out);
+    if e.wrong {
+        return;
+    }
+    let k = e.words * 4;
+    let c = catalogue::read(&out[..k]);
+    if c.refusal != 0 {
+        refused(c.refusal, c.place);
+        return;
+    }
+    write_first(&out, k);
+}
