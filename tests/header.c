@@ -1,5 +1,6 @@
-/* The header used from C: a reduction, a nearest vector, a refusal, and lent numbers that are too few. */
+/* The header used from C: a reduction, a nearest vector, a catalogue, a refusal, and lent numbers that are too few. */
 #include <stdio.h>
+#include <string.h>
 
 #include "raghymtos.h"
 
@@ -38,8 +39,35 @@ static void nearest(void) {
     expect(!raghymtos_nearest(numbers, 4, 2, 2, target, 2, out, RAGHYMTOS_NEAREST - 1), "10 lent numbers are too few");
 }
 
+/* entry 7: (1,0),(4,1); entry 9: (2,0),(0,3), see 12; entry 12: (0,1),(1,0), see 9 */
+static const uint32_t words[] = {
+    0x10000722, 0x20004E21, 0x20004E20, 0x20004E24, 0x20004E21, 0x10000922, 0x20004E22, 0x20004E20, 0x20004E20,
+    0x20004E23, 0x3000000C, 0x10000C22, 0x20004E20, 0x20004E21, 0x20004E21, 0x20004E20, 0x30000009, 0x40000003};
+
+static void catalogue(void) {
+    uint8_t bytes[sizeof words], out[RAGHYMTOS_MOST_BYTES];
+    int64_t answer[RAGHYMTOS_CATALOGUE];
+    for (size_t i = 0; i < sizeof bytes; i++)
+        bytes[i] = (uint8_t)(words[i / 4] >> 8 * (i % 4));
+    memset(out, 0x55, sizeof out);
+    expect(raghymtos_write_out(bytes, 72, out, 72, answer, 3), "3 lent numbers are enough");
+    expect(answer[RAGHYMTOS_REFUSAL] == RAGHYMTOS_ACCEPTED && answer[RAGHYMTOS_WRITTEN] == 72, "72 bytes are written");
+    expect(memcmp(out, bytes, 72) == 0 && out[72] == 0x55, "they are those that were read");
+    expect(raghymtos_fold(bytes, 72, out, sizeof out, answer, 3) && answer[RAGHYMTOS_WRITTEN] == 48, "the fold has two entries");
+    expect(out[40] == 7 && out[43] == 0x30, "the see word of entry 9 leads to entry 7");
+    raghymtos_fold(bytes, 72, out, 47, answer, 3);
+    expect(answer[RAGHYMTOS_REFUSAL] == RAGHYMTOS_OUTPUT_SHORT, "47 lent bytes are too few");
+    raghymtos_write_out(bytes, 68, out, sizeof out, answer, 3);
+    expect(answer[RAGHYMTOS_REFUSAL] == RAGHYMTOS_UNEXPECTED && answer[RAGHYMTOS_PLACE] == 17, "the end word is due");
+    expect(raghymtos_lookup(bytes, 72, 12, answer, 3) && answer[RAGHYMTOS_STANDING] == 7, "entry 7 stands for entry 12");
+    raghymtos_lookup(bytes, 72, 8, answer, 3);
+    expect(answer[RAGHYMTOS_REFUSAL] == RAGHYMTOS_NO_ENTRY, "no entry has the number 8");
+    expect(!raghymtos_lookup(bytes, 72, 12, answer, 2), "2 lent numbers are too few");
+}
+
 int main(void) {
     reduction();
     nearest();
+    catalogue();
     return wrong;
 }

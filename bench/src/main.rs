@@ -1,7 +1,8 @@
-//! Reductions and nearest vectors per second: the proved engine against plain Rust, in one process, on fixed inputs. Arguments, all
-//! optional: how many runs, the only set and the only d to be timed.
+//! Reductions and nearest vectors per second, and milliseconds for full catalogues: the proved engine against plain Rust, in one process,
+//! on fixed inputs. Arguments, all optional: how many runs, the only set or catalogue and the only d to be timed.
 
 mod baseline;
+mod catalogues;
 mod sets;
 
 use std::hint::black_box;
@@ -11,6 +12,8 @@ use sets::{Input, Set, SETS};
 
 const INPUTS: usize = 1_000;
 const RUNS: usize = 101;
+/// A catalogue takes longer.
+const MOST_CATALOGUE_RUNS: usize = 21;
 const SEED: u64 = 1;
 
 /// What is timed: a function that writes its answer for an input.
@@ -94,14 +97,27 @@ fn main() {
     let runs = argument(1).map_or(RUNS, |word| word.parse().expect("runs is a number"));
     let only_set = argument(2);
     let only_d = argument(3).map(|word| word.parse::<usize>().expect("d is a number"));
-    println!("set        d  reduce/s    Rust/s  ratio  nearest/s    Rust/s  ratio  nearest:reduce  passes");
-    for set in SETS {
-        for d in 2..=4 {
-            if only_set.as_ref().is_none_or(|name| name == set.name())
-                && only_d.is_none_or(|only| only == d)
-            {
-                measure(set, d, runs);
-            }
+    // `sets` and `catalogues` stand for all of them
+    let is_wanted = |name: &str, kind: &str| {
+        let only = only_set.as_deref();
+        only.is_none_or(|only| only == name || only == kind)
+    };
+    let sets = SETS.into_iter().filter(|s| is_wanted(s.name(), "sets"));
+    let sets: Vec<Set> = sets.collect();
+    let names = catalogues::NAMES.into_iter();
+    let names: Vec<&str> = names.filter(|n| is_wanted(n, "catalogues")).collect();
+    if !sets.is_empty() {
+        println!("set        d  reduce/s    Rust/s  ratio  nearest/s    Rust/s  ratio  nearest:reduce  passes");
+    }
+    for set in sets {
+        for d in (2..=4).filter(|&d| only_d.is_none_or(|only| only == d)) {
+            measure(set, d, runs);
+        }
+    }
+    if !names.is_empty() && only_d.is_none() {
+        catalogues::print_heading();
+        for name in names {
+            catalogues::measure(name, runs.min(MOST_CATALOGUE_RUNS));
         }
     }
 }

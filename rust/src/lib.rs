@@ -1,4 +1,5 @@
-//! Lattices of at most four vectors of at most four coordinates: greedy reduction and the nearest vector, by a proved engine.
+//! Lattices of at most four vectors of at most four coordinates: greedy reduction, the nearest vector, and catalogues of bases
+//! ([`catalogue`]), by a proved engine.
 //!
 //! ```
 //! let r = raghymtos::reduce(&[1, 0, 4, 1], 2, 2).unwrap();
@@ -12,6 +13,8 @@
 //! ```
 
 use std::fmt;
+
+pub mod catalogue;
 
 /// How many numbers the engine writes for a reduction; include/raghymtos.h gives their order.
 pub const REDUCTION_NUMBERS: usize = 55;

@@ -1,5 +1,6 @@
 //! The same steps in plain Rust, written for speed: the measure for the engine.
 
+pub mod catalogue;
 pub mod nearest;
 mod search;
 

@@ -1,4 +1,4 @@
--- The answers of the engine as runs of numbers, in the order that the header gives.
+-- The answers of the services as runs of numbers, in the order that the header gives.
 use mathlib.Core.Bool.{cond}
 use mathlib.Core.List.{List, [], _∷_, _++_}
 use Prim.Native.Nat.{ℕ}
@@ -6,6 +6,8 @@ use lib.IntN.{ℤ, pos}
 use lib.Dec.{leb}
 use lib.ListN.{length, drop}
 use Rattle.lattices.specs.Answer.{Reduction, Nearest}
+use Rattle.catalogues.specs.Output.{Output}
+use Rattle.folds.specs.Services.{Lookup}
 
 -- the rows of a table one after another
 abbrev pub flat : List (List ℤ) → List ℤ
@@ -24,6 +26,18 @@ layout a = head (a .refusal) (a .place) (pos (a .passes)) ++ (a .squares ++ (fla
 unfoldable pub layoutNearest : Nearest → List ℤ
 layoutNearest a = head (a .refusal) (a .place) (a .square) ++ (a .coefficients ++ a .vector)
 
+-- the answer of a writing: head with the length written; the output itself is lent
+abbrev pub layoutOutput : Output → List ℤ
+layoutOutput o = head (o .refusal) (o .place) (pos (o .written))
+
+-- the answer of a lookup: head with the standing number
+abbrev pub layoutLookup : Lookup → List ℤ
+layoutLookup l = head (l .refusal) (l .place) (pos (l .standing))
+
 -- a lent run of numbers after n numbers are written to it: one that is too short stays
 abbrev pub written : List ℤ → ℕ → List ℤ → List ℤ
 written before n numbers = cond (leb n (length before)) (numbers ++ drop n before) before
+
+-- an output lent beside an answer of n numbers: it stays where the answer is too short
+abbrev pub beside : List ℤ → ℕ → (before after : List ℕ) → List ℕ
+beside answer n before after = cond (leb n (length answer)) after before

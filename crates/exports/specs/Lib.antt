@@ -3,3 +3,5 @@ pub mod Layout
 pub mod Runs
 pub mod Shape
 pub mod NearestShape
+pub mod Places
+pub mod CatalogueShape

@@ -1,4 +1,4 @@
-// The engine for callers in other languages. Answers are written to lent numbers; include/raghymtos.h gives their order.
+// The services for callers in other languages. Answers are written to lent numbers; include/raghymtos.h gives their order.
 ghost use mathlib.Core.Path.{_≡_};
 ghost use mathlib.Core.List.{[]};
 ghost use Prim.Native.Nat.{_+_, _≤_};
@@ -6,13 +6,22 @@ ghost use lib.Dec.{leb};
 ghost use lib.ListN.{length};
 ghost use lib.Seq.{sets};
 ghost use Rattle.lattices.specs.Answer.{reductionOf, nearestOf};
-ghost use Rattle.exports.specs.Layout.{flat, head, layout, layoutNearest, written};
+ghost use Rattle.catalogues.specs.Read.{read};
+ghost use Rattle.catalogues.specs.Output.{output};
+ghost use Rattle.folds.specs.Services.{foldOf, lookupOf};
+ghost use Rattle.exports.specs.Layout.{flat, head, layout, layoutNearest, layoutOutput, layoutLookup, written, beside};
 
 // How many numbers a reduction's answer takes.
 const REDUCTION: usize = 55;
 
 // How many numbers the answer with a nearest vector takes.
 const NEAREST: usize = 11;
+
+// How many numbers the answer of a writing takes.
+const WRITING: usize = 3;
+
+// How many numbers the answer of a lookup takes.
+const LOOKUP: usize = 3;
 
 // Writes a row from `at` on. That it has four numbers tells where the next one goes.
 fn put_row(out: &mut [i64], at: usize, row: [i64; 4])
@@ -92,5 +101,52 @@ pub extern "C" fn raghymtos_nearest(
     put_head(out, a.refusal, a.place, a.square);
     put_row(out, 3, coefficients);
     put_row(out, 7, vector);
+    true
+}
+
+// Reads a catalogue and writes its entries, unfolded, to `out`. The answer is written to the first 3 numbers of `answer`; where that is
+// shorter, both stay as they are.
+#[no_mangle]
+pub extern "C" fn raghymtos_write_out(bytes: &[u8], out: &mut [u8], answer: &mut [i64]) -> bool
+    ensures { λ r. ⌜ r ≡ leb 3 (length (now (answer .entry))) ⌝ }
+    ensures { λ _. ⌜ now (answer .exit) ≡ written (now (answer .entry)) 3 (layoutOutput (output (read (now (bytes .entry))) (now (out .entry)))) ⌝ }
+    ensures { λ _. ⌜ now (out .exit) ≡ beside (now (answer .entry)) 3 (now (out .entry)) (output (read (now (bytes .entry))) (now (out .entry)) .lent) ⌝ }
+{
+    if answer.len() < WRITING {
+        return false;
+    }
+    let w = catalogue::write_out(bytes, out);
+    put_head(answer, w.refusal, w.place as u64, w.length as i64);
+    true
+}
+
+// Writes the folded catalogue to `out`. The answer is written to the first 3 numbers of `answer`; where that is shorter, both stay as
+// they are.
+#[no_mangle]
+pub extern "C" fn raghymtos_fold(bytes: &[u8], out: &mut [u8], answer: &mut [i64]) -> bool
+    ensures { λ r. ⌜ r ≡ leb 3 (length (now (answer .entry))) ⌝ }
+    ensures { λ _. ⌜ now (answer .exit) ≡ written (now (answer .entry)) 3 (layoutOutput (foldOf (now (bytes .entry)) (now (out .entry)))) ⌝ }
+    ensures { λ _. ⌜ now (out .exit) ≡ beside (now (answer .entry)) 3 (now (out .entry)) (foldOf (now (bytes .entry)) (now (out .entry)) .lent) ⌝ }
+{
+    if answer.len() < WRITING {
+        return false;
+    }
+    let f = catalogue::fold(bytes, out);
+    put_head(answer, f.refusal, f.place as u64, f.length as i64);
+    true
+}
+
+// The standing number of the entry with this number. The answer is written to the first 3 numbers of `answer`; a shorter one stays as it
+// is.
+#[no_mangle]
+pub extern "C" fn raghymtos_lookup(bytes: &[u8], number: u32, answer: &mut [i64]) -> bool
+    ensures { λ r. ⌜ r ≡ leb 3 (length (now (answer .entry))) ⌝ }
+    ensures { λ _. ⌜ now (answer .exit) ≡ written (now (answer .entry)) 3 (layoutLookup (lookupOf (now (bytes .entry)) number)) ⌝ }
+{
+    if answer.len() < LOOKUP {
+        return false;
+    }
+    let s = catalogue::lookup(bytes, number);
+    put_head(answer, s.refusal, s.place as u64, s.standing as i64);
     true
 }

@@ -4,10 +4,12 @@
 const MARK: i64 = 0x5555_5555_5555_5555;
 
 /// The n numbers that `write` gives. Those behind them must keep their values, and so must a run that is too short.
-pub fn written(n: usize, write: impl Fn(&mut [i64]) -> bool) -> Result<Vec<i64>, String> {
-    let mut short = vec![MARK; n - 1];
-    if write(&mut short) || short.iter().any(|&x| x != MARK) {
-        return Err(format!("{} lent numbers were taken, or written to", n - 1));
+pub fn written(n: usize, mut write: impl FnMut(&mut [i64]) -> bool) -> Result<Vec<i64>, String> {
+    for room in [0, n / 2, n - 1] {
+        let mut short = vec![MARK; room];
+        if write(&mut short) || short.iter().any(|&x| x != MARK) {
+            return Err(format!("{room} lent numbers were taken, or written to"));
+        }
     }
     let mut out = vec![MARK; n + 3];
     if !write(&mut out) {

@@ -1,8 +1,9 @@
-//! Reduction and nearest vector by the rules of document 01: a slow reference for comparison tests. Every number is an exact integer.
-//! Nothing is tuned: the nearest vector is found by going through every coefficient list that can be as near as the best one so far.
+//! Reduction, nearest vector and catalogues by the rules of document 01: a slow reference for comparison tests. Every number is an exact
+//! integer. Nothing is tuned: the nearest vector is found by going through every coefficient list that can be as near as the best one so far.
 
 pub mod bases;
 pub mod cases;
+pub mod catalogue;
 pub mod enumeration;
 pub mod random;
 pub mod search;

@@ -1,0 +1,171 @@
+//! Full catalogues, 256 entries: written out, folded and looked up.
+
+use std::hint::black_box;
+use std::time::Instant;
+
+use raghymtos::catalogue::{self as engine, MOST_BYTES};
+use reference::bases::scrambled;
+use reference::catalogue::fold::standing;
+use reference::catalogue::writer::write;
+use reference::catalogue::Entry;
+use reference::random::Random;
+use reference::vectors::rows;
+
+use crate::baseline::catalogue as plain;
+use crate::median;
+use crate::sets::{inputs, SETS};
+
+const ENTRIES: usize = 256;
+
+pub const NAMES: [&str; 3] = ["typical", "equal", "worst"];
+
+/// The entries of a catalogue, with see words to the entry before.
+fn entries(name: &str) -> Vec<Entry> {
+    let mut random = Random::new(1);
+    let bases = match name {
+        "typical" => typical(&mut random),
+        "equal" => equal(&mut random),
+        _ => worst(&mut random),
+    };
+    let numbered = bases.into_iter().zip(1..);
+    numbered
+        .map(|(vectors, number)| Entry {
+            number,
+            vectors,
+            see: Some(1.max(number - 1)),
+        })
+        .collect()
+}
+
+/// 128 lattices of the three sets, of two to four vectors, each in two bases.
+fn typical(random: &mut Random) -> Vec<Vec<Vec<i64>>> {
+    let mut all = vec![];
+    for set in SETS {
+        for d in 2..=4 {
+            let some = inputs(set, d, 15, 1);
+            all.extend(some.iter().map(|i| rows(&i.numbers, d)));
+        }
+    }
+    all.truncate(ENTRIES / 2);
+    let again: Vec<Vec<Vec<i64>>> = all.iter().map(|b| scrambled(b.clone(), random)).collect();
+    [all, again].concat()
+}
+
+/// One lattice of four vectors in 256 bases.
+fn equal(random: &mut Random) -> Vec<Vec<Vec<i64>>> {
+    let basis: Vec<Vec<i64>> = (0..4).map(|_| random.vector(4, 500)).collect();
+    (0..ENTRIES)
+        .map(|_| scrambled(basis.clone(), random))
+        .collect()
+}
+
+/// 256 lattices with the same inner products: coordinates permuted and with other signs, in half of them after a turn.
+fn worst(random: &mut Random) -> Vec<Vec<Vec<i64>>> {
+    let basis: Vec<Vec<i64>> = (0..4)
+        .map(|_| random.vector(4, 4_000).iter().map(|x| 2 * x).collect())
+        .collect();
+    let turned: Vec<Vec<i64>> = basis.iter().map(|v| turn(v)).collect();
+    let mut all = vec![];
+    for order in orders() {
+        // the opposite of every sign gives the same lattice
+        for signs in 0..8 {
+            for b in [&basis, &turned] {
+                all.push(b.iter().map(|v| moved(v, order, signs)).collect());
+            }
+        }
+    }
+    all.truncate(ENTRIES);
+    all
+}
+
+/// An isometry that is no permutation, on even coordinates.
+fn turn(v: &[i64]) -> Vec<i64> {
+    let half = |a: i64, b: i64, c: i64, d: i64| (a * v[0] + b * v[1] + c * v[2] + d * v[3]) / 2;
+    vec![
+        half(1, 1, 1, 1),
+        half(1, 1, -1, -1),
+        half(1, -1, 1, -1),
+        half(1, -1, -1, 1),
+    ]
+}
+
+fn orders() -> Vec<[usize; 4]> {
+    let mut all = vec![];
+    for i in 0..256 {
+        let order = [i / 64, i / 16 % 4, i / 4 % 4, i % 4];
+        if (0..4).all(|k| order.contains(&k)) {
+            all.push(order);
+        }
+    }
+    all
+}
+
+fn moved(v: &[i64], order: [usize; 4], signs: usize) -> Vec<i64> {
+    (0..4)
+        .map(|i| v[order[i]] * if signs >> i & 1 == 1 { -1 } else { 1 })
+        .collect()
+}
+
+/// Seconds for one call.
+fn timed<T>(call: impl Fn(&mut [u8]) -> T) -> f64 {
+    let mut out = vec![0; MOST_BYTES];
+    let start = Instant::now();
+    black_box(call(black_box(&mut out)));
+    start.elapsed().as_secs_f64()
+}
+
+/// Both must write the same bytes, or the times compare nothing.
+fn same(bytes: &[u8], last: u32) {
+    let (mut a, mut b) = (vec![0; MOST_BYTES], vec![0; MOST_BYTES]);
+    let lengths = (
+        engine::write_out(bytes, &mut a),
+        plain::write_out(bytes, &mut b),
+    );
+    assert_eq!((lengths.0.ok(), &a), (lengths.1.ok(), &b));
+    let lengths = (engine::fold(bytes, &mut a), plain::fold(bytes, &mut b));
+    assert_eq!((lengths.0.ok(), &a), (lengths.1.ok(), &b));
+    let found = (engine::lookup(bytes, last), plain::lookup(bytes, last));
+    assert_eq!(found.0.ok(), found.1.ok());
+}
+
+/// Times both in turn, so that what else the machine does falls on both, and prints a line.
+pub fn measure(name: &str, runs: usize) {
+    let entries = entries(name);
+    let bytes = write(&entries);
+    let last = entries.len() as u32;
+    same(&bytes, last);
+    let bytes = &bytes[..];
+    let times: Vec<[f64; 6]> = (0..runs)
+        .map(|_| {
+            [
+                timed(|out| engine::write_out(bytes, out)),
+                timed(|out| plain::write_out(bytes, out)),
+                timed(|out| engine::fold(bytes, out)),
+                timed(|out| plain::fold(bytes, out)),
+                timed(|_| engine::lookup(bytes, last)),
+                timed(|_| plain::lookup(bytes, last)),
+            ]
+        })
+        .collect();
+    let milliseconds = |i: usize| 1e3 * median(times.iter().map(|t| t[i]).collect());
+    let ratio = |i: usize| median(times.iter().map(|t| t[i] / t[i + 1]).collect());
+    let stand = standing(&entries)
+        .iter()
+        .enumerate()
+        .filter(|(i, &s)| *i == s)
+        .count();
+    print!("{name:<10} {:>6} {stand:>6}", bytes.len());
+    for i in [0, 2, 4] {
+        print!(
+            " {:>9.3} {:>8.3} {:>6.2}",
+            milliseconds(i),
+            milliseconds(i + 1),
+            ratio(i)
+        );
+    }
+    println!();
+}
+
+pub fn print_heading() {
+    println!("catalogue   bytes stands     write     Rust  ratio      fold     Rust  ratio    lookup     Rust  ratio");
+}

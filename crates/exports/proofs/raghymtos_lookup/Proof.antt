@@ -1,0 +1,71 @@
+-- The answer is stored where there is room for it, and nothing is done where there is not.
+use mathlib.Core.Path.{_≡_, sym, ap, _∙_, subst}
+use Prim.Native.Nat.{_≤_, _<_}
+use native.Mathlib.Omega.{arith}
+use lib.IntN.{pos}
+use lib.ListN.{length}
+use lib.Seq.{sets}
+use mir.Syntax.{w64}
+use mir.Val.{toZ}
+use mir.Facts.{toZ-pos}
+use denote.Ref.{now}
+use borrow.Author.Tests.{le-leb, lt-leb}
+use Rattle.folds.specs.Services.{Lookup, lookupOf}
+use Rattle.exports.specs.Layout.{head, layoutLookup}
+use Rattle.exports.specs.Runs.{written-short}
+use Rattle.exports.specs.CatalogueShape.{lookup-few, head-stored}
+use borrow.Author.Needs.{needs}
+use Rattle.exports.proofs.raghymtos_lookup.Statement.{statement}
+use Rattle.exports.proofs.raghymtos_lookup.Tie as tie
+
+abbrev given : tie.Start → Lookup
+given s = lookupOf (now (s .args .bytes)) (s .args .number)
+
+returns : tie.Need-returns
+returns c =
+    let s = c .before .before in
+    let l = now (s .args .answer) in
+    let h : length l < 3 = c .if1 .taken in
+    (sym (lt-leb 3 (length l) h), written-short l 3 (layoutLookup (given s)) h)
+
+lookup-requires : tie.Need-lookup-requires
+lookup-requires c κs = search needs
+
+-- the numbers of the answer are small
+few : (c : tie.After-lookup) → (c .lookup .result .refusal ≤ 1000000000000) × (c .lookup .result .place ≤ 1000000000000)
+few c =
+    let s = c .before .before .before in
+    let n = lookup-few (now (s .args .bytes)) (s .args .number) in
+    subst (λ a. (a .refusal ≤ 1000000000000) × (a .place ≤ 1000000000000)) (sym (c .lookup .ensures)) (omega (arith, n .0), omega (arith, n .1))
+
+cast-put-head : tie.Need-cast-put-head
+cast-put-head c = let n = few (c .before .before) in record { sfits = omega (arith, n .0, n .1) }
+
+put-head-requires : tie.Need-put-head-requires
+put-head-requires c κs = let n = few (c .before .before) in (search needs, (omega (arith, n .0, n .1), omega (arith, n .0, n .1)))
+
+same-length : tie.Need-same-length
+same-length c = search needs
+
+returns-2 : tie.Need-returns-2
+returns-2 c =
+    let p = c .before in
+    let w = p .before .before .before in
+    let s = w .before .before .before in
+    let l = now (s .args .answer) in
+    let a = w .lookup .result in
+    let h : 3 ≤ length l = search needs in
+    let told : p .put-head .last .0 ≡ sets l 0 (head (a .refusal) (a .place) (toZ w64 (a .standing))) = p .put-head .ensures in
+    let e = told ∙ ap (λ n. sets l 0 (head (a .refusal) (a .place) n)) (toZ-pos w64 (omega arith)) ∙ ap (λ a. sets l 0 (head (a .refusal) (a .place) (pos (a .standing)))) (w .lookup .ensures) in
+    (sym (le-leb 3 (length l) h), head-stored l (given s .refusal) (given s .place) (pos (given s .standing)) h e)
+
+pub raghymtos-lookup-spec : {M : Type 1} → statement M
+raghymtos-lookup-spec =
+    tie.close
+    (tie.spec
+    returns
+    lookup-requires
+    cast-put-head
+    put-head-requires
+    same-length
+    returns-2)

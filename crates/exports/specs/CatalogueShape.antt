@@ -1,0 +1,95 @@
+-- The numbers in an answer about a catalogue are small, so they fit signed numbers; and how the answer is stored.
+use mathlib.Core.Path.{_≡_, refl, sym, ap, _∙_}
+use mathlib.Core.Bool.{Bool, true, false, cond}
+use mathlib.Core.List.{List}
+use mathlib.Core.Option.{Option, none, some}
+use Prim.Native.Nat.{ℕ, _≤_, _<_}
+use native.Mathlib.Omega.{arith}
+use lib.Dec.{ltb}
+use lib.IntN.{ℤ}
+use lib.ListN.{length}
+use lib.Seq.{sets}
+use borrow.Author.Tests.{le-leb, lt-leb}
+use Rattle.catalogues.specs.Catalogue.{Entry, Outcome, refused, accepted}
+use Rattle.catalogues.specs.Read.{read}
+use Rattle.catalogues.specs.Write.{write}
+use Rattle.catalogues.specs.Form.{WellFormed}
+use Rattle.catalogues.specs.WellFormed.{well-formed}
+use Rattle.catalogues.specs.WrittenSize.{length-written}
+use Rattle.catalogues.specs.Output.{Output, untouched, filledWith, output}
+use Rattle.folds.specs.Fold.{closedList, lookup}
+use Rattle.folds.specs.Services.{Lookup, foldedOutcome, foldOf, lookedUp, lookedIn, lookupOf}
+use Rattle.folds.specs.FoldedForm.{folded-size}
+use Rattle.exports.specs.Layout.{written, beside, head}
+use Rattle.exports.specs.Runs.{written-long}
+use Rattle.exports.specs.Places.{OutcomeLow, read-low}
+
+-- ---- writing
+
+-- a refusal with its place, or entries that a catalogue has room for
+abbrev Told : Outcome → Type 0
+Told (refused n p) = (n ≤ 17) × (p ≤ 4609)
+Told (accepted es) = length (write es) ≤ 18436
+
+told-read : (bytes : List ℕ) → Told (read bytes)
+unfolding write
+told-read bytes = go (read bytes) refl (read-low bytes)
+  where
+    go : (o : Outcome) → read bytes ≡ o → OutcomeLow 4609 o → Told o
+    go (refused n p) e q = q
+    go (accepted es) e q = let w = well-formed bytes es e .entered in length-written es (w .few) (w .fits)
+
+told-fold : (bytes : List ℕ) → Told (foldedOutcome (read bytes))
+told-fold bytes = go (read bytes) refl (read-low bytes)
+  where
+    go : (o : Outcome) → read bytes ≡ o → OutcomeLow 4609 o → Told (foldedOutcome o)
+    go (refused n p) e q = q
+    go (accepted es) e q = folded-size es (well-formed bytes es e)
+
+pub record Few (o : Output) : Type 0 where
+  pub refusal : o .refusal ≤ 17
+  pub place : o .place ≤ 4609
+  pub written : o .written ≤ 18436
+
+output-few : (o : Outcome) (out : List ℕ) → Told o → Few (output o out)
+output-few (refused n p) out t = record { refusal = t .0; place = t .1; written = omega arith }
+output-few (accepted es) out t = go (ltb (length out) (length (write es)))
+  where
+    go : (s : Bool) → Few (elim s [ true ↦ untouched 16 0 out | false ↦ filledWith (write es) out ])
+    go true = record { refusal = omega arith; place = omega arith; written = omega arith }
+    go false = record { refusal = omega arith; place = omega arith; written = t }
+
+pub write-few : (bytes out : List ℕ) → Few (output (read bytes) out)
+write-few bytes out = output-few (read bytes) out (told-read bytes)
+
+pub fold-few : (bytes out : List ℕ) → Few (foldOf bytes out)
+unfolding foldOf
+fold-few bytes out = output-few (foldedOutcome (read bytes)) out (told-fold bytes)
+
+-- ---- lookup
+
+abbrev FewFound : Lookup → Type 0
+FewFound l = (l .refusal ≤ 17) × (l .place ≤ 4609)
+
+looked-few : (o : Option ℕ) → FewFound (lookedUp o)
+looked-few none = (omega arith, omega arith)
+looked-few (some n) = (omega arith, omega arith)
+
+in-few : (o : Outcome) (number : ℕ) → OutcomeLow 4609 o → FewFound (lookedIn o number)
+in-few (refused n p) number q = q
+in-few (accepted es) number q = looked-few (lookup (closedList es) number)
+
+pub lookup-few : (bytes : List ℕ) (number : ℕ) → FewFound (lookupOf bytes number)
+unfolding lookupOf
+lookup-few bytes number = in-few (read bytes) number (read-low bytes)
+
+-- ---- the answer, and the output lent beside it
+
+pub head-stored : (l : List ℤ) (refusal place : ℕ) (number : ℤ) {x : List ℤ} → 3 ≤ length l → x ≡ sets l 0 (head refusal place number) → x ≡ written l 3 (head refusal place number)
+head-stored l refusal place number h e = e ∙ written-long l 3 (head refusal place number) refl h
+
+pub beside-short : (l : List ℤ) (before after : List ℕ) → length l < 3 → before ≡ beside l 3 before after
+beside-short l before after h = sym (ap (λ b. cond b after before) (lt-leb 3 (length l) h))
+
+pub beside-long : (l : List ℤ) (before after : List ℕ) {x : List ℕ} → 3 ≤ length l → x ≡ after → x ≡ beside l 3 before after
+beside-long l before after h e = e ∙ sym (ap (λ b. cond b after before) (le-leb 3 (length l) h))

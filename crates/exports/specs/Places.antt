@@ -1,0 +1,161 @@
+-- A refusal has a number up to 17, and a place up to the number of words that a catalogue can have.
+use mathlib.Core.Path.{_≡_, refl}
+use mathlib.Core.Bool.{Bool, true, false}
+use mathlib.Core.List.{List, [], _∷_, _++_}
+use mathlib.Core.Option.{Option, none, some}
+use Prim.Native.Nat.{ℕ, suc, _+_, _≤_}
+use native.Mathlib.Omega.{arith}
+use lib.Dec.{eqb}
+use lib.ListN.{length}
+use borrow.Author.Tests.{ltb-false}
+use Rattle.integers.specs.All.{All, all-append}
+use Rattle.lattices.specs.Vector.{Vec}
+use Rattle.lattices.specs.Volume.{isDependent}
+use Rattle.lattices.specs.Refusal.{any}
+use Rattle.catalogues.specs.Word.{Word, head, coordinate, see, end, other, decode, wordsOf}
+use Rattle.catalogues.specs.WordLaws.{length-words}
+use Rattle.catalogues.specs.Catalogue.{Head, See, Entry, Outcome, refused, accepted}
+use Rattle.catalogues.specs.Read.{State, outside, inside, after, closed, Step, next, stop, checked, isNumbered, withEntry, headRows, atHead, coordinateOf, withVector, withCoordinate, coordinateRows, atCoordinate, endRows, atEnd, step, atLast, readWords, firstPlace, dependentAt, lostAt, afterReading, afterWords, fileRows, read}
+use Rattle.catalogues.specs.Moves.{NoneOf}
+
+-- what holds of a refusal by a number up to 17, and of the rest when no row applies
+checked-low : {A : Type 0} (Q : A → Type 0) (refuse : ℕ → A) (rows : List (Bool × ℕ)) (a : A)
+    → ((n : ℕ) → n ≤ 17 → Q (refuse n)) → All (λ r. r .1 ≤ 17) rows → (NoneOf rows → Q a) → Q (checked refuse rows a)
+checked-low Q refuse [] a stops numbers goes = goes tt
+checked-low Q refuse (r ∷ rows) a stops numbers goes = go (r .0) refl (λ e. checked-low Q refuse rows a stops (numbers .1) (λ none. goes (e, none)))
+  where
+    go : (t : Bool) → r .0 ≡ t → (r .0 ≡ false → Q (checked refuse rows a)) → Q (elim t [ true ↦ refuse (r .1) | false ↦ checked refuse rows a ])
+    go true e more = stops (r .1) (numbers .0)
+    go false e more = more e
+
+-- places up to b
+module _ (b : ℕ) where
+  abbrev SeeLow : Option See → Type 0
+  SeeLow none = Unit {0}
+  SeeLow (some s) = s .place ≤ b
+
+  abbrev EntryLow : Entry → Type 0
+  EntryLow e = (e .head .place ≤ b) × SeeLow (e .see)
+
+  abbrev StateLow : State → Type 0
+  StateLow (outside es) = All EntryLow es
+  StateLow (inside es h vs v) = All EntryLow es × (h .place ≤ b)
+  StateLow (after es h vs) = All EntryLow es × (h .place ≤ b)
+  StateLow (closed es) = All EntryLow es
+
+  abbrev StepLow : Step → Type 0
+  StepLow (next t) = StateLow t
+  StepLow (stop n) = n ≤ 17
+
+  abbrev pub OutcomeLow : Outcome → Type 0
+  OutcomeLow (refused n p) = (n ≤ 17) × (p ≤ b)
+  OutcomeLow (accepted es) = All EntryLow es
+
+  -- ---- one word
+
+  with-entry : (es : List Entry) (h : Head) (vs : List Vec) (s : Option See) → All EntryLow es → h .place ≤ b → SeeLow s → All EntryLow (withEntry es h vs s)
+  with-entry es h vs s p q r = all-append EntryLow es (record { head = h; vectors = vs; see = s } ∷ []) p ((q, r), tt)
+
+  head-low : (es : List Entry) (h : Head) → All EntryLow es → h .place ≤ b → StepLow (atHead es h)
+  head-low es h p q = checked-low StepLow stop (headRows es h) (next (inside es h [] [])) (λ n l. l) (omega arith) (λ none. (p, q))
+
+  end-low : (es : List Entry) (count : ℕ) → All EntryLow es → StepLow (atEnd es count)
+  end-low es count p = checked-low StepLow stop (endRows es count) (next (closed es)) (λ n l. l) (omega arith) (λ none. p)
+
+  coordinate-low : (es : List Entry) (h : Head) (vs : List Vec) (v : Vec) (l : ℕ) → All EntryLow es × (h .place ≤ b) → StepLow (atCoordinate es h vs v l)
+  coordinate-low es h vs v l p =
+      let u = v ++ (coordinateOf l ∷ []) in
+      checked-low StepLow stop (coordinateRows h u l) (next (withCoordinate es h vs u)) (λ n l. l) (omega arith) (λ none. vector (eqb (length u) (h .m)) (eqb (length (vs ++ (u ∷ []))) (h .d)) u)
+    where
+      vector : (s t : Bool) (u : Vec) → StateLow (elim s [ true ↦ elim t [ true ↦ after es h (vs ++ (u ∷ [])) | false ↦ inside es h (vs ++ (u ∷ [])) [] ] | false ↦ inside es h vs u ])
+      vector true true u = p
+      vector true false u = p
+      vector false t u = p
+
+  step-low : (s : State) (i : ℕ) (w : Word) → i ≤ b → StateLow s → StepLow (step s i w)
+  unfolding step
+  step-low (outside es) i (head number d m) q p = head-low es (record { number = number; d = d; m = m; place = i }) p q
+  step-low (outside es) i (coordinate l) q p = omega arith
+  step-low (outside es) i (see number) q p = omega arith
+  step-low (outside es) i (end count) q p = end-low es count p
+  step-low (outside es) i (other k l) q p = omega arith
+  step-low (inside es h vs v) i (head number d m) q p = omega arith
+  step-low (inside es h vs v) i (coordinate l) q p = coordinate-low es h vs v l p
+  step-low (inside es h vs v) i (see number) q p = omega arith
+  step-low (inside es h vs v) i (end count) q p = omega arith
+  step-low (inside es h vs v) i (other k l) q p = omega arith
+  step-low (after es h vs) i (head number d m) q p = head-low (withEntry es h vs none) (record { number = number; d = d; m = m; place = i }) (with-entry es h vs none (p .0) (p .1) tt) q
+  step-low (after es h vs) i (coordinate l) q p = omega arith
+  step-low (after es h vs) i (see number) q p = with-entry es h vs (some (record { number = number; place = i })) (p .0) (p .1) q
+  step-low (after es h vs) i (end count) q p = end-low (withEntry es h vs none) count (with-entry es h vs none (p .0) (p .1) tt)
+  step-low (after es h vs) i (other k l) q p = omega arith
+  step-low (closed es) i w q p = omega arith
+
+  -- ---- all words
+
+  last-low : (s : State) (i : ℕ) → i ≤ b → StateLow s → OutcomeLow (atLast s i)
+  last-low (outside es) i q p = (omega arith, q)
+  last-low (inside es h vs v) i q p = (omega arith, q)
+  last-low (after es h vs) i q p = (omega arith, q)
+  last-low (closed es) i q p = p
+
+  words-low : (words : List ℕ) (s : State) (i : ℕ) → i + length words ≤ b → StateLow s → OutcomeLow (readWords s i words)
+  unfolding readWords
+  words-low [] s i q p = last-low s i (omega arith) p
+  words-low (w ∷ words) s i q p = go (step s i (decode w)) (step-low s i (decode w) (omega arith) p) (λ t r. words-low words t (suc i) (omega arith) r)
+    where
+      go : (r : Step) → StepLow r → ((t : State) → StateLow t → OutcomeLow (readWords t (suc i) words))
+          → OutcomeLow (elim r [ next t ↦ readWords t (suc i) words | stop n ↦ refused n i ])
+      go (next t) r more = more t r
+      go (stop n) r more = (r, omega arith)
+
+  -- ---- after reading
+
+  abbrev PlaceLow : Option ℕ → Type 0
+  PlaceLow none = Unit {0}
+  PlaceLow (some p) = p ≤ b
+
+  first-low : (f : Entry → Option ℕ) → ((e : Entry) → EntryLow e → PlaceLow (f e)) → (es : List Entry) → All EntryLow es → PlaceLow (firstPlace f es)
+  first-low f q [] p = tt
+  first-low f q (e ∷ es) p = go (f e) (q e (p .0)) (first-low f q es (p .1))
+    where
+      go : (o : Option ℕ) → PlaceLow o → PlaceLow (firstPlace f es) → PlaceLow (elim o [ some p ↦ some p | none ↦ firstPlace f es ])
+      go (some p) r more = r
+      go none r more = more
+
+  dependent-low : (e : Entry) → EntryLow e → PlaceLow (dependentAt e)
+  dependent-low e p = go (isDependent (e .head .m) (e .vectors))
+    where
+      go : (t : Bool) → PlaceLow (elim t [ true ↦ some (e .head .place) | false ↦ none ])
+      go true = p .0
+      go false = tt
+
+  lost-low : (es : List Entry) (e : Entry) → EntryLow e → PlaceLow (lostAt es e)
+  lost-low es e p = go (e .see) (p .1)
+    where
+      lost : (s : See) (t : Bool) → s .place ≤ b → PlaceLow (elim t [ true ↦ none | false ↦ some (s .place) ])
+      lost s true q = tt
+      lost s false q = q
+
+      go : (o : Option See) → SeeLow o → PlaceLow (elim o [ none ↦ none | some s ↦ elim (any (isNumbered (s .number)) es) [ true ↦ none | false ↦ some (s .place) ] ])
+      go none q = tt
+      go (some s) q = lost s (any (isNumbered (s .number)) es) q
+
+  after-low : (o : Outcome) → OutcomeLow o → OutcomeLow (afterWords o)
+  after-low (refused n p) q = q
+  after-low (accepted es) q = go (firstPlace dependentAt es) (first-low dependentAt dependent-low es q)
+    where
+      lost : (o : Option ℕ) → PlaceLow o → OutcomeLow (elim o [ some p ↦ refused 12 p | none ↦ accepted es ])
+      lost (some p) r = (omega arith, r)
+      lost none r = q
+
+      go : (o : Option ℕ) → PlaceLow o → OutcomeLow (elim o [ some p ↦ refused 5 p | none ↦ elim (firstPlace (lostAt es) es) [ some p ↦ refused 12 p | none ↦ accepted es ] ])
+      go (some p) r = (omega arith, r)
+      go none r = lost (firstPlace (lostAt es) es) (first-low (lostAt es) (lost-low es) es q)
+
+pub read-low : (bytes : List ℕ) → OutcomeLow 4609 (read bytes)
+unfolding read
+read-low bytes =
+    checked-low (OutcomeLow 4609) (λ n. refused n 0) (fileRows bytes) (afterWords (readWords (outside []) 0 (wordsOf bytes))) (λ n l. (l, omega arith)) (omega arith)
+    (λ r. after-low 4609 (readWords (outside []) 0 (wordsOf bytes))
+    (words-low 4609 (wordsOf bytes) (outside []) 0 (omega (arith, length-words bytes, ltb-false 18436 (length bytes) (r .1 .0))) tt))

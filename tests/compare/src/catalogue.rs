@@ -1,0 +1,191 @@
+//! One catalogue: written out, folded and looked up, against the reference.
+
+use raghymtos::catalogue::{self as engine, CatalogueRefusal};
+use reference::catalogue::fold::{folded, standing};
+use reference::catalogue::reader::read;
+use reference::catalogue::writer::write;
+use reference::catalogue::{lend, looked_up, Entry, Refused};
+
+use crate::lent::written;
+
+/// What stands in the lent bytes before the call.
+const MARK: u8 = 0xA5;
+
+/// Which lengths of the lent output are tried, about the right one.
+#[derive(Clone, Copy, PartialEq, Eq)]
+pub enum Rooms {
+    Few,
+    All,
+}
+
+/// A function that writes to a lent output, as the header has it and as the Rust crate has it.
+struct Writing {
+    name: &'static str,
+    into: fn(&[u8], &mut [u8], &mut [i64]) -> bool,
+    wrapped: fn(&[u8], &mut [u8]) -> Result<usize, CatalogueRefusal>,
+}
+
+const WRITE_OUT: Writing = Writing {
+    name: "write_out",
+    into: engine::write_out_into,
+    wrapped: engine::write_out,
+};
+
+const FOLD: Writing = Writing {
+    name: "fold",
+    into: engine::fold_into,
+    wrapped: engine::fold,
+};
+
+/// What was compared: the refusals of each call, and that of the catalogue itself.
+#[derive(Default)]
+pub struct Compared {
+    pub refused: Option<Refused>,
+    pub writings: u64,
+    pub short_outputs: u64,
+    pub lookups: u64,
+    pub absent_numbers: u64,
+}
+
+/// What differs is said in a line.
+pub fn compare(bytes: &[u8], rooms: Rooms) -> Result<Compared, String> {
+    let entries = read(bytes);
+    let mut seen = Compared {
+        refused: entries.as_ref().err().copied(),
+        ..Compared::default()
+    };
+    let whole = entries.as_ref().map(|e| write(e)).map_err(|r| *r);
+    let fold = entries.as_ref().map(|e| write(&folded(e))).map_err(|r| *r);
+    for (writing, expected) in [(WRITE_OUT, whole), (FOLD, fold)] {
+        for room in lengths(&expected, rooms) {
+            let refused = written_alike(&writing, bytes, &expected, room)?;
+            seen.writings += 1;
+            seen.short_outputs += (refused == 16) as u64;
+        }
+        wrapped_alike(&writing, bytes, &expected)?;
+    }
+    let standing = entries.as_ref().map_or(vec![], |e| standing(e));
+    let expected = |number: u32| match &entries {
+        Ok(entries) => looked_up(entries, &standing, number),
+        Err(refused) => Err(*refused),
+    };
+    let all = numbers(entries.as_deref().unwrap_or(&[]));
+    for &number in &all {
+        seen.lookups += 1;
+        seen.absent_numbers += (looked_up_alike(bytes, number, expected(number))? == 17) as u64;
+    }
+    wrapped_lookup_alike(bytes, all[0], expected(all[0]))?;
+    Ok(seen)
+}
+
+/// One byte too few, just enough, some more; or all lengths from none on.
+fn lengths(expected: &Result<Vec<u8>, Refused>, rooms: Rooms) -> Vec<usize> {
+    match (expected, rooms) {
+        (Err(_), _) => vec![0, 80],
+        (Ok(all), Rooms::Few) => vec![all.len() - 1, all.len(), all.len() + 5],
+        (Ok(all), Rooms::All) => (0..all.len() + 9).collect(),
+    }
+}
+
+/// The number of every entry, which are those of see words too, and some that no entry has. Of a large catalogue, which takes long,
+/// every twentieth.
+fn numbers(entries: &[Entry]) -> Vec<u32> {
+    let step = if entries.len() < 100 { 1 } else { 20 };
+    let mut all: Vec<u32> = entries.iter().step_by(step).map(|e| e.number).collect();
+    // equal in its lowest 20 bits to one that an entry has
+    let far = all.first().map_or(0, |n| n + (1 << 20));
+    let next = entries.iter().map(|e| e.number).max().map_or(1, |n| n + 1);
+    all.extend([0, next, far, u32::MAX]);
+    all
+}
+
+/// One call: the output and the answer as the reference gives them. Gives the refusal.
+fn written_alike(
+    writing: &Writing,
+    bytes: &[u8],
+    expected: &Result<Vec<u8>, Refused>,
+    room: usize,
+) -> Result<i64, String> {
+    let mut wanted_out = vec![MARK; room];
+    let wanted = match expected {
+        Ok(all) => lend(all, &mut wanted_out),
+        Err(refused) => Err(*refused),
+    };
+    let said = format!("{}, {room} bytes lent", writing.name);
+    let mut out = vec![MARK; room];
+    let answer = written(engine::ANSWER_NUMBERS, |answer| {
+        let mut lent = vec![MARK; room];
+        let is_taken = (writing.into)(bytes, &mut lent, answer);
+        out.copy_from_slice(&lent);
+        // an answer that is too short leaves the output alone too
+        is_taken || lent.iter().any(|&b| b != MARK)
+    })?;
+    if answer != laid_out(wanted.map(|n| n as i64)) {
+        return Err(format!(
+            "{said}: the engine gave {answer:?}, the reference {wanted:?}"
+        ));
+    }
+    if out != wanted_out {
+        return Err(format!(
+            "{said}: the engine wrote {out:x?}, the reference {wanted_out:x?}"
+        ));
+    }
+    Ok(answer[0])
+}
+
+/// One call with Rust's types: what is written, or the refusal.
+fn wrapped_alike(
+    writing: &Writing,
+    bytes: &[u8],
+    expected: &Result<Vec<u8>, Refused>,
+) -> Result<(), String> {
+    let mut out = vec![MARK; engine::MOST_BYTES];
+    let given = (writing.wrapped)(bytes, &mut out);
+    let is_alike = match (given, expected) {
+        (Ok(n), Ok(all)) => out[..n] == all[..],
+        (Err(refusal), Err(r)) => refusal.number_and_place() == (r.number as i64, r.place),
+        _ => false,
+    };
+    if is_alike {
+        Ok(())
+    } else {
+        Err(format!(
+            "{}: the Rust wrapper gives {given:?}",
+            writing.name
+        ))
+    }
+}
+
+fn looked_up_alike(bytes: &[u8], number: u32, wanted: Result<u32, Refused>) -> Result<i64, String> {
+    let answer = written(engine::ANSWER_NUMBERS, |answer| {
+        engine::lookup_into(bytes, number, answer)
+    })?;
+    let expected = laid_out(wanted.map(|n| n as i64));
+    if answer != expected {
+        return Err(format!(
+            "lookup {number}: the engine gave {answer:?}, the reference {expected:?}"
+        ));
+    }
+    Ok(answer[0])
+}
+
+fn wrapped_lookup_alike(
+    bytes: &[u8],
+    number: u32,
+    wanted: Result<u32, Refused>,
+) -> Result<(), String> {
+    let given = engine::lookup(bytes, number).map_err(CatalogueRefusal::number_and_place);
+    if given == wanted.map_err(|r| (r.number as i64, r.place)) {
+        Ok(())
+    } else {
+        Err(format!("lookup {number}: the Rust wrapper gives {given:?}"))
+    }
+}
+
+/// The answer in the header's order.
+fn laid_out(wanted: Result<i64, Refused>) -> Vec<i64> {
+    match wanted {
+        Ok(n) => vec![0, 0, n],
+        Err(r) => vec![r.number as i64, r.place as i64, 0],
+    }
+}

@@ -1,0 +1,96 @@
+//! Catalogues for comparison tests, the same for the same seed.
+
+use super::damage::{damaged, made_dependent, too_large, too_many, wrong_length, DAMAGES};
+use super::made::{largest, made};
+use super::reader::words;
+use super::writer::{bytes, write};
+use crate::random::Random;
+
+/// What a catalogue is made to try.
+#[derive(Clone, Copy, Debug, PartialEq, Eq)]
+pub enum Kind {
+    /// Accepted, a handful of entries.
+    Accepted,
+    /// Accepted, some ten or twenty entries.
+    Longer,
+    /// One of the damages.
+    Damaged,
+    /// Two damages, so that the order of the checks shows.
+    DamagedTwice,
+    /// An entry with dependent vectors, damaged or not.
+    Dependent,
+    WrongLength,
+    /// Any bytes.
+    Noise,
+    /// More than 256 heads.
+    TooMany,
+    /// About the most bytes.
+    TooLarge,
+    /// Accepted, 256 entries of the largest kind.
+    Largest,
+}
+
+/// How often each kind comes: its turn is where the case's index is a multiple of the number and of none before it.
+const TURNS: [(usize, Kind); 9] = [
+    (12_000, Kind::Largest),
+    (501, Kind::TooMany),
+    (251, Kind::TooLarge),
+    (53, Kind::Longer),
+    (23, Kind::WrongLength),
+    (19, Kind::Noise),
+    (7, Kind::Dependent),
+    (5, Kind::DamagedTwice),
+    (2, Kind::Damaged),
+];
+
+pub fn kind(index: usize) -> Kind {
+    let turn = TURNS.iter().find(|(n, _)| index % n == n - 1);
+    turn.map_or(Kind::Accepted, |t| t.1)
+}
+
+/// The case of a seed with this index.
+pub fn case(seed: u64, index: usize) -> Vec<u8> {
+    let mut random = Random::new(seed ^ (index as u64).wrapping_mul(0xA076_1D64_78BD_642F));
+    let random = &mut random;
+    let count = random.pick(&[1, 1, 2, 2, 3, 3, 4, 5, 6]);
+    match kind(index) {
+        Kind::Accepted if random.between(0, 200) == 0 => write(&[]),
+        Kind::Accepted => write(&made(count, random)),
+        Kind::Longer => {
+            let more = 7 + random.index(30);
+            write(&made(more, random))
+        }
+        Kind::Damaged => damaged_times(1, write(&made(count, random)), random),
+        Kind::DamagedTwice => damaged_times(2, write(&made(count, random)), random),
+        Kind::Dependent => {
+            let mut entries = made(count, random);
+            made_dependent(&mut entries, random);
+            let times = random.pick(&[0, 0, 1]);
+            damaged_times(times, write(&entries), random)
+        }
+        Kind::WrongLength => wrong_length(write(&made(count, random)), random),
+        Kind::Noise => noise(random),
+        Kind::TooMany => too_many(random),
+        Kind::TooLarge => too_large(random),
+        Kind::Largest => write(&largest(random)),
+    }
+}
+
+fn damaged_times(times: usize, whole: Vec<u8>, random: &mut Random) -> Vec<u8> {
+    let mut w = words(&whole);
+    for _ in 0..times {
+        let damage = random.pick(&DAMAGES);
+        w = damaged(w, damage, random);
+    }
+    bytes(&w)
+}
+
+/// Any bytes, or any words of the four kinds.
+fn noise(random: &mut Random) -> Vec<u8> {
+    let n = random.index(40);
+    if random.between(0, 1) == 0 {
+        return (0..n).map(|_| random.number() as u8).collect();
+    }
+    let word = |random: &mut Random| (1 + random.index(4) as u32) << 28 | random.index(600) as u32;
+    bytes(&(0..n).map(|_| word(random)).collect::<Vec<u32>>())
+}

@@ -1,0 +1,41 @@
+//! Standing entries and the folded catalogue.
+
+use super::hermite::hermite;
+use super::Entry;
+use crate::reduce;
+
+/// For each entry the index of its standing entry: the first with the same m and the same lattice.
+pub fn standing(entries: &[Entry]) -> Vec<usize> {
+    let forms: Vec<_> = entries
+        .iter()
+        .map(|e| (e.m(), hermite(&e.vectors)))
+        .collect();
+    forms
+        .iter()
+        .map(|f| forms.iter().position(|g| f == g).unwrap())
+        .collect()
+}
+
+/// For each entry the index of the standing entry that its see word leads to, if that is another than its own.
+pub fn leads(entries: &[Entry], standing: &[usize]) -> Vec<Option<usize>> {
+    let led = |i: usize| -> Option<usize> {
+        let see = entries[i].see?;
+        let named = entries.iter().position(|e| e.number == see)?;
+        Some(standing[named]).filter(|&s| s != standing[i])
+    };
+    (0..entries.len()).map(led).collect()
+}
+
+/// The standing entries in their order, with reduced vectors and see words led to standing entries.
+pub fn folded(entries: &[Entry]) -> Vec<Entry> {
+    let standing = standing(entries);
+    let leads = leads(entries, &standing);
+    let stands = (0..entries.len()).filter(|&i| standing[i] == i);
+    stands
+        .map(|i| Entry {
+            number: entries[i].number,
+            vectors: reduce(&entries[i].vectors.concat(), entries[i].d(), entries[i].m()).vectors,
+            see: leads[i].map(|k| entries[k].number),
+        })
+        .collect()
+}

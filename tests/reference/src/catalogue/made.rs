@@ -1,0 +1,134 @@
+//! Accepted catalogues: few lattices, most of them in several bases.
+
+use super::{Entry, MOST_ENTRIES, MOST_NUMBER};
+use crate::bases::{basis, scrambled};
+use crate::cases::KINDS;
+use crate::random::Random;
+use crate::vectors::rank;
+use crate::{fits, MOST};
+
+/// A catalogue of so many entries.
+pub fn made(count: usize, random: &mut Random) -> Vec<Entry> {
+    let most = random.pick(&[2, 6, 40]);
+    let lattices: Vec<Vec<Vec<i64>>> = (0..1 + random.index(count.min(most)))
+        .map(|_| independent(random))
+        .collect();
+    let numbers = numbers(count, random);
+    (0..count)
+        .map(|i| {
+            let chosen = random.index(lattices.len());
+            Entry {
+                number: numbers[i],
+                vectors: disguised(lattices[chosen].clone(), random),
+                see: see(i, &numbers, random),
+            }
+        })
+        .collect()
+}
+
+/// The largest catalogue: each entry with four vectors of four coordinates and a see word.
+pub fn largest(random: &mut Random) -> Vec<Entry> {
+    let numbers = numbers(MOST_ENTRIES, random);
+    let some = (0..40).map(|_| loop {
+        let vectors = independent(random);
+        if vectors.len() == MOST {
+            break vectors;
+        }
+    });
+    let lattices: Vec<Vec<Vec<i64>>> = some.collect();
+    (0..MOST_ENTRIES)
+        .map(|i| Entry {
+            number: numbers[i],
+            vectors: scrambled(lattices[i % lattices.len()].clone(), random),
+            see: Some(random.pick(&numbers)),
+        })
+        .collect()
+}
+
+/// A basis that is accepted.
+pub fn independent(random: &mut Random) -> Vec<Vec<i64>> {
+    loop {
+        let vectors = basis(KINDS[random.index(11)], random);
+        if vectors.iter().all(|v| fits(v)) && rank(&vectors) == vectors.len() {
+            return vectors;
+        }
+    }
+}
+
+/// Different numbers, often small ones or the greatest.
+fn numbers(count: usize, random: &mut Random) -> Vec<u32> {
+    let most = random.pick(&[count as u32, 300 + count as u32, MOST_NUMBER]);
+    let mut all = vec![];
+    while all.len() < count {
+        let number = random.between(1, most as i64) as u32;
+        if !all.contains(&number) {
+            all.push(number);
+        }
+    }
+    if random.between(0, 4) == 0 && !all.contains(&MOST_NUMBER) {
+        all[count - 1] = MOST_NUMBER;
+    }
+    all
+}
+
+/// None, its own number, or that of any entry.
+fn see(i: usize, numbers: &[u32], random: &mut Random) -> Option<u32> {
+    match random.between(0, 5) {
+        0..=2 => None,
+        3 => Some(numbers[i]),
+        _ => Some(random.pick(numbers)),
+    }
+}
+
+/// The same lattice in another basis, or one that is easily taken for it.
+fn disguised(vectors: Vec<Vec<i64>>, random: &mut Random) -> Vec<Vec<i64>> {
+    match random.between(0, 9) {
+        0 => vectors,
+        1 => padded(vectors),
+        2 => permuted(vectors, random),
+        3 => thinned(vectors, random),
+        4 => independent(random),
+        5 => turned(vectors, random),
+        _ => scrambled(turned(vectors, random), random),
+    }
+}
+
+/// Another order and other signs.
+fn turned(mut vectors: Vec<Vec<i64>>, random: &mut Random) -> Vec<Vec<i64>> {
+    for i in (0..vectors.len()).rev() {
+        let j = random.index(i + 1);
+        vectors.swap(i, j);
+        let sign = random.pick(&[-1, 1]);
+        vectors[i].iter_mut().for_each(|x| *x *= sign);
+    }
+    vectors
+}
+
+/// One coordinate more, which is 0: a lattice of another m.
+fn padded(mut vectors: Vec<Vec<i64>>) -> Vec<Vec<i64>> {
+    if vectors[0].len() < MOST {
+        vectors.iter_mut().for_each(|v| v.push(0));
+    }
+    vectors
+}
+
+/// Coordinates exchanged and with other signs: the same lengths, most often another lattice.
+fn permuted(mut vectors: Vec<Vec<i64>>, random: &mut Random) -> Vec<Vec<i64>> {
+    let m = vectors[0].len();
+    let (i, j, k) = (random.index(m), random.index(m), random.index(m));
+    for v in vectors.iter_mut() {
+        v.swap(i, j);
+        v[k] = -v[k];
+    }
+    vectors
+}
+
+/// One vector doubled: a part of the lattice.
+fn thinned(mut vectors: Vec<Vec<i64>>, random: &mut Random) -> Vec<Vec<i64>> {
+    let i = random.index(vectors.len());
+    let doubled: Vec<i64> = vectors[i].iter().map(|x| 2 * x).collect();
+    if fits(&doubled) {
+        vectors[i] = doubled;
+    }
+    vectors
+}

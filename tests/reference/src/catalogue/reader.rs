@@ -1,0 +1,148 @@
+//! Bytes to entries, or the first refusal.
+
+use super::{refuse, Entry, Refused, MOST_BYTES, MOST_ENTRIES};
+use crate::vectors::{rank, square};
+use crate::{MOST, MOST_SIZE, MOST_SQUARE};
+
+/// The kinds of words.
+pub const HEAD: u32 = 1;
+pub const COORDINATE: u32 = 2;
+pub const SEE: u32 = 3;
+pub const END: u32 = 4;
+
+pub fn kind(word: u32) -> u32 {
+    word >> 28
+}
+
+pub fn load(word: u32) -> u32 {
+    word & 0x0FFF_FFFF
+}
+
+pub fn words(bytes: &[u8]) -> Vec<u32> {
+    bytes
+        .chunks_exact(4)
+        .map(|b| u32::from_le_bytes([b[0], b[1], b[2], b[3]]))
+        .collect()
+}
+
+/// The words not yet read, and what has been read: entries, the place of each head, the place of each see word.
+struct Reader {
+    words: Vec<u32>,
+    at: usize,
+    entries: Vec<Entry>,
+    heads: Vec<usize>,
+    sees: Vec<usize>,
+}
+
+pub fn read(bytes: &[u8]) -> Result<Vec<Entry>, Refused> {
+    if bytes.len() % 4 != 0 {
+        return refuse(8, 0);
+    }
+    if bytes.len() > MOST_BYTES {
+        return refuse(9, 0);
+    }
+    let mut reader = Reader {
+        words: words(bytes),
+        at: 0,
+        entries: vec![],
+        heads: vec![],
+        sees: vec![],
+    };
+    while reader.is_next(HEAD) {
+        reader.entry()?;
+    }
+    reader.end()?;
+    reader.after()?;
+    Ok(reader.entries)
+}
+
+impl Reader {
+    fn is_next(&self, wanted: u32) -> bool {
+        self.words.get(self.at).is_some_and(|&w| kind(w) == wanted)
+    }
+
+    /// The load of the next word, which has to be of this kind.
+    fn take(&mut self, wanted: u32) -> Result<u32, Refused> {
+        if !self.is_next(wanted) {
+            return refuse(10, self.at);
+        }
+        self.at += 1;
+        Ok(load(self.words[self.at - 1]))
+    }
+
+    fn entry(&mut self) -> Result<(), Refused> {
+        let place = self.at;
+        let head = self.take(HEAD)?;
+        let (number, d, m) = (head >> 8, head as usize >> 4 & 15, head as usize & 15);
+        if self.entries.len() == MOST_ENTRIES {
+            return refuse(15, place);
+        }
+        if !(1..=MOST).contains(&d) {
+            return refuse(1, place);
+        }
+        if !(1..=MOST).contains(&m) {
+            return refuse(2, place);
+        }
+        if number == 0 || self.entries.iter().any(|e| e.number == number) {
+            return refuse(11, place);
+        }
+        let mut vectors = vec![];
+        for _ in 0..d {
+            vectors.push(self.vector(m)?);
+        }
+        let mut see = None;
+        let see_place = self.at;
+        if self.is_next(SEE) {
+            see = Some(self.take(SEE)?);
+        }
+        self.entries.push(Entry {
+            number,
+            vectors,
+            see,
+        });
+        self.heads.push(place);
+        self.sees.push(see_place);
+        Ok(())
+    }
+
+    fn vector(&mut self, m: usize) -> Result<Vec<i64>, Refused> {
+        let mut v = vec![];
+        while v.len() < m {
+            let place = self.at;
+            let x = self.take(COORDINATE)? as i64 - MOST_SIZE;
+            v.push(x);
+            if x > MOST_SIZE || v.len() == m && square(&v) > MOST_SQUARE {
+                return refuse(4, place);
+            }
+        }
+        Ok(v)
+    }
+
+    fn end(&mut self) -> Result<(), Refused> {
+        let place = self.at;
+        let count = self.take(END)? as usize;
+        if count != self.entries.len() {
+            return refuse(13, place);
+        }
+        if self.at != self.words.len() {
+            return refuse(14, self.at);
+        }
+        Ok(())
+    }
+
+    /// All entries are checked for dependent vectors before the first see word is looked at.
+    fn after(&self) -> Result<(), Refused> {
+        for (e, &place) in self.entries.iter().zip(&self.heads) {
+            if rank(&e.vectors) < e.d() {
+                return refuse(5, place);
+            }
+        }
+        for (e, &place) in self.entries.iter().zip(&self.sees) {
+            let is_named = |see: u32| self.entries.iter().any(|f| f.number == see);
+            if e.see.is_some_and(|see| !is_named(see)) {
+                return refuse(12, place);
+            }
+        }
+        Ok(())
+    }
+}

@@ -1,0 +1,39 @@
+//! Entries to bytes.
+
+use super::reader::{COORDINATE, END, HEAD, SEE};
+use super::Entry;
+use crate::MOST_SIZE;
+
+pub fn head_word(number: u32, d: usize, m: usize) -> u32 {
+    HEAD << 28 | number << 8 | (d as u32) << 4 | m as u32
+}
+
+pub fn coordinate_word(x: i64) -> u32 {
+    COORDINATE << 28 | (x + MOST_SIZE) as u32
+}
+
+pub fn see_word(number: u32) -> u32 {
+    SEE << 28 | number
+}
+
+pub fn end_word(count: usize) -> u32 {
+    END << 28 | count as u32
+}
+
+/// A head, the coordinates, and a see word if there is one.
+pub fn entry_words(e: &Entry) -> Vec<u32> {
+    let mut all = vec![head_word(e.number, e.d(), e.m())];
+    all.extend(e.vectors.concat().iter().map(|&x| coordinate_word(x)));
+    all.extend(e.see.map(see_word));
+    all
+}
+
+pub fn bytes(words: &[u32]) -> Vec<u8> {
+    words.iter().flat_map(|w| w.to_le_bytes()).collect()
+}
+
+pub fn write(entries: &[Entry]) -> Vec<u8> {
+    let mut words: Vec<u32> = entries.iter().flat_map(entry_words).collect();
+    words.push(end_word(entries.len()));
+    bytes(&words)
+}

@@ -1,0 +1,134 @@
+//! Document 01's catalogue, one catalogue for each row of the table of refusals, and what a fold promises.
+
+use reference::catalogue::cases::case;
+use reference::catalogue::fold::{folded, standing};
+use reference::catalogue::hermite::hermite;
+use reference::catalogue::listing::listing;
+use reference::catalogue::reader::read;
+use reference::catalogue::text::{entries, text};
+use reference::catalogue::writer::{bytes, write};
+use reference::catalogue::{fold, lookup, write_out, Refused};
+use reference::random::Random;
+use reference::vectors::coordinate;
+
+/// "A catalogue in full".
+const FULL: [u32; 18] = [
+    0x10000722, 0x20004E21, 0x20004E20, 0x20004E24, 0x20004E21, 0x10000922, 0x20004E22, 0x20004E20,
+    0x20004E20, 0x20004E23, 0x3000000C, 0x10000C22, 0x20004E20, 0x20004E21, 0x20004E21, 0x20004E20,
+    0x30000009, 0x40000003,
+];
+
+#[test]
+fn a_catalogue_in_full() {
+    let full = bytes(&FULL);
+    let expected = "3 2\n7 7 0 1\nv 1 0\nv 0 1\n9 9 7 1\nv 2 0\nv 0 3\n12 7 9 1\n";
+    assert_eq!(listing(&full), expected);
+    assert_eq!(lookup(&full, 12), Ok(7));
+    assert_eq!(
+        lookup(&full, 8),
+        Err(Refused {
+            number: 17,
+            place: 0
+        })
+    );
+    let mut out = [0x55; 76];
+    assert_eq!(write_out(&full, &mut out), Ok(72));
+    assert_eq!((&out[..72], &out[72..]), (&full[..], &[0x55; 4][..]));
+    assert_eq!(fold(&full, &mut out), Ok(48));
+    let again = out[..48].to_vec();
+    assert_eq!(fold(&again, &mut out), Ok(48));
+    assert_eq!(out[..48], again);
+}
+
+#[test]
+fn rows_of_the_table() {
+    let refused = |words: &[u32], number: u64, place: usize| {
+        let said = read(&bytes(words)).unwrap_err();
+        assert_eq!((said.number, said.place), (number, place), "{words:x?}");
+    };
+    let changed = |i: usize, word: u32| {
+        let mut words = FULL;
+        words[i] = word;
+        words
+    };
+    assert_eq!(listing(&[0; 3]), "refused 8 0\n");
+    assert_eq!(listing(&[0; 18_437]), "refused 8 0\n");
+    assert_eq!(listing(&[0; 18_440]), "refused 9 0\n");
+    refused(&[], 10, 0);
+    refused(&FULL[..17], 10, 17);
+    refused(&changed(2, 0x50004E20), 10, 2);
+    refused(&changed(5, 0x10000900), 1, 5);
+    refused(&changed(5, 0x10000920), 2, 5);
+    refused(&changed(5, 0x10000722), 11, 5);
+    refused(&changed(0, 0x10000022), 11, 0);
+    refused(&changed(1, 0x20009C41), 4, 1);
+    refused(&changed(4, 0x20009C40), 4, 4);
+    refused(&changed(17, 0x40000002), 13, 17);
+    refused(&[&FULL[..], &[0x40000003]].concat(), 14, 18);
+    refused(&changed(9, 0x20004E20), 5, 5);
+    refused(&changed(16, 0x30000008), 12, 16);
+    assert_eq!(listing(&bytes(&[0x40000000])), "0 0\n");
+}
+
+/// Every vector is a combination with whole coefficients, by Cramer's rule.
+fn inside(vectors: &[Vec<i64>], basis: &[Vec<i64>]) -> bool {
+    vectors.iter().all(|v| {
+        let at: Vec<_> = (0..basis.len()).map(|i| coordinate(basis, i, v)).collect();
+        let sum = |j: usize| -> i128 {
+            let terms = at.iter().zip(basis);
+            terms
+                .map(|((top, bottom), b)| top / bottom * b[j] as i128)
+                .sum()
+        };
+        (0..v.len()).all(|j| sum(j) == v[j] as i128)
+    })
+}
+
+/// One form for one lattice, two for two.
+#[test]
+fn forms_tell_lattices_apart() {
+    let mut random = Random::new(7);
+    let mut counts = [0; 2];
+    for i in 0..40_000 {
+        let Ok(list) = read(&case(9, i)) else {
+            continue;
+        };
+        for e in &list {
+            let f = &list[random.index(list.len())];
+            if (e.d(), e.m()) == (f.d(), f.m()) && e.vectors != f.vectors {
+                let is_one = inside(&e.vectors, &f.vectors) && inside(&f.vectors, &e.vectors);
+                let (g, h) = (hermite(&e.vectors), hermite(&f.vectors));
+                assert_eq!(g == h, is_one, "{e:?} {f:?}");
+                counts[is_one as usize] += 1;
+            }
+        }
+    }
+    assert!(counts.iter().all(|&n| n > 5_000), "{counts:?}");
+}
+
+#[test]
+fn folding_again_gives_the_same() {
+    let mut shorter = 0;
+    for i in 0..5_000 {
+        let Ok(list) = read(&case(3, i)) else {
+            continue;
+        };
+        let once = folded(&list);
+        assert_eq!(read(&write(&once)), Ok(once.clone()));
+        assert_eq!(folded(&once), once);
+        assert!(standing(&once).iter().enumerate().all(|(i, &s)| i == s));
+        shorter += (once.len() < list.len()) as u64;
+    }
+    assert!(shorter > 500, "{shorter}");
+}
+
+#[test]
+fn text_and_back() {
+    for i in 0..2_000 {
+        if let Ok(list) = read(&case(4, i)) {
+            assert_eq!(entries(&text(&list)), Ok(list));
+        }
+    }
+    assert_eq!(entries("1 1 1 ; 5\n2 1 1 ; \n"), Err(2));
+    assert_eq!(entries("1 1 1 ; 5 ; 1 2\n"), Err(1));
+}

@@ -1,0 +1,28 @@
+//! The samples' texts, bytes and listings belong together.
+
+use std::fs::{read, read_to_string};
+use std::path::Path;
+
+use reference::catalogue::listing::listing;
+use reference::catalogue::text::{entries, text};
+use reference::catalogue::writer::write;
+
+/// Entries and standing entries of a sample.
+fn counts(name: &str) -> String {
+    let folder = Path::new(env!("CARGO_MANIFEST_DIR")).join("../../samples");
+    let path = |end: &str| folder.join(format!("{name}.{end}"));
+    let words = read_to_string(path("txt")).unwrap();
+    let list = entries(&words).unwrap();
+    let bytes = read(path("catalogue")).unwrap();
+    let lines = read_to_string(path("listing")).unwrap();
+    assert_eq!(text(&list), words);
+    assert_eq!(write(&list), bytes);
+    assert_eq!(listing(&bytes), lines);
+    lines.lines().next().unwrap().to_string()
+}
+
+#[test]
+fn samples() {
+    assert_eq!(counts("generators"), "51 27");
+    assert_eq!(counts("cells"), "28 16");
+}
