@@ -1,4 +1,4 @@
--- Files over the limit are refused by their length alone, so bytes after the first 18,436 count only modulo 4.
+-- Files over the limit are refused by their length alone: their bytes after the first 18,436 count only modulo 4.
 use mathlib.Core.Path.{_≡_, refl, sym, ap, _∙_}
 use mathlib.Core.Bool.{Bool, true, false, not}
 use mathlib.Core.List.{List, [], _∷_}
@@ -6,10 +6,9 @@ use Prim.Native.Nat.{ℕ, _%_, _<_}
 use lib.Dec.{eqb}
 use lib.ListN.{length}
 use borrow.Author.Tests.{lt-ltb}
 use Rattle.catalogues.specs.Word.{wordsOf}
 use Rattle.catalogues.specs.Catalogue.{Outcome, refused, mostBytes}
 use Rattle.catalogues.specs.Read.{checked, outside, readWords, afterWords, read}
-use Rattle.folds.specs.Listing.{listed, listingOf}
 
 byLength : Bool → Outcome
 byLength odd = checked (λ n. refused n 0) ((odd, 8) ∷ (true, 9) ∷ []) (refused 0 0)
@@ -26,6 +25,5 @@ read-long file h =
     let odd = not (eqb (length file % 4) 0) in
     ap (λ long. checked (λ n. refused n 0) ((odd, 8) ∷ (long, 9) ∷ []) o) (lt-ltb _ _ h) ∙ over odd o
 
-pub long-alike : (file other : List ℕ) → mostBytes < length file → mostBytes < length other → length file % 4 ≡ length other % 4 → listingOf file ≡ listingOf other
-unfolding listingOf
-long-alike file other h k e = ap listed (read-long file h ∙ ap (λ n. byLength (not (eqb n 0))) e ∙ sym (read-long other k))
+pub long-alike : (file other : List ℕ) → mostBytes < length file → mostBytes < length other → length file % 4 ≡ length other % 4 → read file ≡ read other
+long-alike file other h k e = read-long file h ∙ ap (λ n. byLength (not (eqb n 0))) e ∙ sym (read-long other k)

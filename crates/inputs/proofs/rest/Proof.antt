@@ -3,8 +3,8 @@ use mathlib.Core.Path.{_≡_}
 use Prim.Native.Nat.{_<_}
 use lib.ListN.{length}
 use borrow.Author.Needs.{needs}
-use Rattle.listing.proofs.rest.Statement.{statement}
-use Rattle.listing.proofs.rest.Tie as tie
+use Rattle.inputs.proofs.rest.Statement.{statement}
+use Rattle.inputs.proofs.rest.Tie as tie
 
 abbrev Inv-loop : tie.InvT-loop
 Inv-loop space₀ r₀ turns₀ space r turns = (length space ≡ 4096) × (r < 4)
