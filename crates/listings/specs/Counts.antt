@@ -21,12 +21,12 @@ use Rattle.keeping.specs.Standing.{Held}
 use Rattle.keeping.specs.Keeping.{Ready, Keeps, ready-length, keeps-held}
 use Rattle.folding.specs.Folding.{prints, prints-all, prints-yes, prints-no}
 
-abbrev pub one : ℕ → ℕ → ℕ
-one place k = cond (eqb place k) 1 0
+abbrev pub oneIfOwn : ℕ → ℕ → ℕ
+oneIfOwn place k = cond (eqb place k) 1 0
 
 abbrev pub ownPlaces : List ℕ → ℕ → ℕ
 ownPlaces places zero = 0
-ownPlaces places (suc k) = ownPlaces places k + one (getD places k 0) k
+ownPlaces places (suc k) = ownPlaces places k + oneIfOwn (getD places k 0) k
 
 -- no more than there are places
 one-most : (b : Bool) → cond b 1 0 ≤ 1

@@ -3,3 +3,4 @@ pub mod Lines
 pub mod Counts
 pub mod Entries
 pub mod Listed
+pub mod ListedLaws

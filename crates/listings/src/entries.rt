@@ -9,7 +9,7 @@ ghost use Rattle.keeping.specs.Places.{Closed};
 ghost use Rattle.keeping.specs.Keeping.{Ready, Keeps};
 ghost use Rattle.folding.specs.Spread.{Full};
 ghost use Rattle.texts.specs.Puts.{Puts};
-ghost use Rattle.listings.specs.Counts.{one, ownPlaces};
+ghost use Rattle.listings.specs.Counts.{oneIfOwn, ownPlaces};
 ghost use Rattle.listings.specs.Entries.{vectorsOf, entryText};
 use super::lines;
 use keeping::kept::Kept;
@@ -78,8 +78,8 @@ fn put_entries(
 }
 
 // 1 for an entry at place k whose standing entry is at its own place, else 0.
-fn own(place: usize, k: usize) -> usize
-    ensures { λ r. ⌜ r ≡ one place k ⌝ }
+fn one_if_own(place: usize, k: usize) -> usize
+    ensures { λ r. ⌜ r ≡ oneIfOwn place k ⌝ }
 {
     if place == k {
         return 1;
@@ -94,7 +94,7 @@ fn count_standing(standing: &[usize], count: usize) -> usize
 {
     let mut n = 0;
     for k in 0..count {
-        n = n + own(standing[k], k);
+        n = n + one_if_own(standing[k], k);
     }
     n
 }

@@ -5,7 +5,8 @@ use native.Mathlib.Omega.{arith}
 use lib.ListN.{length}
 use Rattle.records.specs.Catalogues.{writtenOf}
 use Rattle.keeping.specs.Keeping.{ready}
-use Rattle.listings.specs.Listed.{mostText, too-short, text-put, text-counts, refused-small, refused-text, accepted-text, accepted-small}
+use Rattle.listings.specs.Listed.{mostText}
+use Rattle.listings.specs.ListedLaws.{too-short, text-put, text-counts, refused-small, refused-text, accepted-text, accepted-small}
 use borrow.Author.Needs.{needs}
 use Rattle.listings.proofs.list.Statement.{statement}
 use Rattle.listings.proofs.list.Tie as tie

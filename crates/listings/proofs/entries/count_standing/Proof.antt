@@ -17,19 +17,19 @@ abbrev μ-loop : tie.MeasureT-loop
 loop-holds : tie.Need-loop-holds Inv-loop μ-loop
 loop-holds c = (search needs, refl)
 
-mul-own : tie.Need-mul-own Inv-loop μ-loop
-mul-own c = search needs
+mul-one-if-own : tie.Need-mul-one-if-own Inv-loop μ-loop
+mul-one-if-own c = search needs
 
-shared-slice-read-own : tie.Need-shared-slice-read-own Inv-loop μ-loop
-shared-slice-read-own c = search needs
+shared-slice-read-one-if-own : tie.Need-shared-slice-read-one-if-own Inv-loop μ-loop
+shared-slice-read-one-if-own c = search needs
 
-own-requires : tie.Need-own-requires Inv-loop μ-loop
-own-requires c κs = search needs
+one-if-own-requires : tie.Need-one-if-own-requires Inv-loop μ-loop
+one-if-own-requires c κs = search needs
 
-more : (c : tie.After-own Inv-loop μ-loop) → let l = c .before .before .before in l .loop .n + c .own .result ≡ ownPlaces (l .before .before .args .standing .now) (l .loop .k + 1)
+more : (c : tie.After-one-if-own Inv-loop μ-loop) → let l = c .before .before .before in l .loop .n + c .one-if-own .result ≡ ownPlaces (l .before .before .args .standing .now) (l .loop .k + 1)
 more c =
     let l = c .before .before .before in
-    ap₂ _+_ (l .loop .inv .1) (c .own .ensures) ∙ ap (ownPlaces (l .before .before .args .standing .now)) (sym (add-one (l .loop .k)))
+    ap₂ _+_ (l .loop .inv .1) (c .one-if-own .ensures) ∙ ap (ownPlaces (l .before .before .args .standing .now)) (sym (add-one (l .loop .k)))
 
 add-n : tie.Need-add-n Inv-loop μ-loop
 add-n c =
@@ -61,9 +61,9 @@ count-standing-spec =
     Inv-loop
     μ-loop
     loop-holds
-    mul-own
-    shared-slice-read-own
-    own-requires
+    mul-one-if-own
+    shared-slice-read-one-if-own
+    one-if-own-requires
     add-n
     add-k
     loop-less
