@@ -1,6 +1,5 @@
 // One catalogue for each refusal of reading and each place that it can stand at, and the catalogues of document 01: what reading gives,
 // and what writing it out again leaves of a lent output.
-mod forms;
 mod shown;
 
 // The words as bytes.

@@ -12,6 +12,7 @@ pub mod WordLaws
 pub mod Moves
 pub mod RoundTrip
 pub mod OutputLaws
+pub mod TooLong
 pub mod WellFormed
 pub mod EntriesAccepted
 pub mod ReadVectors

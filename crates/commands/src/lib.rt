@@ -54,6 +54,10 @@ pub fn run(word: &[u8], number: &[u8]) {
         files::lookup(number);
         return;
     }
+    if check::same(word, b"list") {
+        files::list();
+        return;
+    }
     if check::same(word, b"encode") {
         files::encode();
         return;

@@ -1,4 +1,4 @@
-// Whole catalogues on standard input: folded, looked up, and turned into text and back. What is written, no contract can say: the
+// Whole catalogues on standard input: folded, looked up, listed, and turned into text and back. What is written, no contract can say: the
 // answers themselves are under contract in the catalogue.
 use libc::STDIN_FILENO;
 use libc::STDOUT_FILENO;
@@ -20,8 +20,8 @@ fn write_first(bytes: &[u8], n: usize) {
 
 // Writes the folded catalogue.
 pub fn fold() {
-    let mut bytes = [0u8; 18440];
-    let n = io::read_full(STDIN_FILENO, &mut bytes);
+    let mut bytes = [0u8; 18443];
+    let n = inputs::read_catalogue(&mut bytes);
     let mut out = [0u8; 18436];
     let w = catalogue::fold(&bytes[..n], &mut out);
     if w.refusal != 0 {
@@ -41,8 +41,8 @@ fn asked(n: usize) -> u32 {
 
 // Writes the standing number of the entry with this number.
 fn look_up(number: u32) {
-    let mut bytes = [0u8; 18440];
-    let n = io::read_full(STDIN_FILENO, &mut bytes);
+    let mut bytes = [0u8; 18443];
+    let n = inputs::read_catalogue(&mut bytes);
     let f = catalogue::lookup(&bytes[..n], number);
     if f.refusal != 0 {
         refused(f.refusal, f.place);
@@ -67,10 +67,20 @@ pub fn lookup(word: &[u8]) {
     look_up(asked(encoding::whole(numbers[0])));
 }
 
+// Writes the listing.
+pub fn list() {
+    let mut bytes = [0u8; 18443];
+    let n = inputs::read_catalogue(&mut bytes);
+    let mut text = [0u8; 40000];
+    let w = listings::list(&bytes[..n], &mut text);
+    let length = w.length;
+    io::write_all(STDOUT_FILENO, &text[..length]);
+}
+
 // Writes the entries of a catalogue as text, a line each.
 pub fn decode() {
-    let mut bytes = [0u8; 18440];
-    let n = io::read_full(STDIN_FILENO, &mut bytes);
+    let mut bytes = [0u8; 18443];
+    let n = inputs::read_catalogue(&mut bytes);
     let c = catalogue::read(&bytes[..n]);
     if c.refusal != 0 {
         refused(c.refusal, c.place);

@@ -1,4 +1,4 @@
-// The catalogue in full of document 01 and others: what folding writes to a lent output, and what lookups give.
+// The catalogue in full of document 01 and others: what folding writes to a lent output, what lookups give, and the listing.
 use libc::STDOUT_FILENO;
 
 // Writes a blank and n.
@@ -45,6 +45,14 @@ fn found(bytes: &[u8], number: u32) {
     printing::newline();
 }
 
+// Writes the listing.
+fn listed(bytes: &[u8]) {
+    let mut text = [0u8; 40000];
+    let w = listings::list(bytes, &mut text);
+    let n = w.length;
+    io::write_all(STDOUT_FILENO, &text[..n]);
+}
+
 // Document 01's catalogue: a see word forward to a folded entry, and one on a folded entry.
 fn in_full() {
     let b =
@@ -54,6 +62,7 @@ fn in_full() {
     found(b, 9);
     found(b, 12);
     found(b, 8);
+    listed(b);
 }
 
 // See words to themselves, backward, forward, to folded entries and in a circle.
@@ -66,6 +75,7 @@ fn see_words() {
     found(b, 3);
     found(b, 4);
     found(b, 5);
+    listed(b);
 }
 
 // The same vectors with a zero more are of another m.
@@ -75,6 +85,7 @@ fn other_m() {
     folded(b"different m", b);
     found(b, 1);
     found(b, 2);
+    listed(b);
 }
 
 // The catalogue's own refusal comes first.
@@ -82,6 +93,30 @@ fn refused() {
     let b = b"\x11\x01\x00\x10\x22\x4e\x00\x20\x09\x00\x00\x30\x01\x00\x00\x40";
     folded(b"a lost see word", b);
     found(b, 1);
+    listed(b);
+}
+
+// As many entries as a catalogue can have, all of different lattices.
+fn many() {
+    let mut words = [0u32; 1024];
+    let n = forms::multiples(&mut words, 256);
+    let mut bytes = [0u8; 4096];
+    let k = forms::store(&words[..n], &mut bytes);
+    folded(b"256 entries", &bytes[..k]);
+    found(&bytes[..k], 256);
+    listed(&bytes[..k]);
+}
+
+// An output of one byte less than any listing takes is refused and stays.
+fn short() {
+    let mut text = [170u8; 39999];
+    let w = listings::list(b"\x00\x00\x00\x40", &mut text);
+    io::write_all(STDOUT_FILENO, b"39999 bytes");
+    field(w.refusal);
+    field(w.place as u64);
+    field(w.length as u64);
+    byte(text[0]);
+    printing::newline();
 }
 
 fn main() {
@@ -89,4 +124,6 @@ fn main() {
     see_words();
     other_m();
     refused();
+    many();
+    short();
 }

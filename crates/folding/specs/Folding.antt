@@ -77,11 +77,11 @@ module _ (es : List definition.Entry) where
         ∙ ap (map (printed ss)) (standing-snoc (map (stoodOf es) (take k es)) s ∙ ap (λ b. standingIn (map (stoodOf es) (take k es)) ++ only b s) (stands-place es o w held k here))
         ∙ map-append (printed ss) (standingIn (map (stoodOf es) (take k es))) (only (eqb (getD places k 0) k) s)
 
-    prints-yes : getD places k 0 ≡ k → prints (k + 1) ≡ prints k ++ (printed ss s ∷ [])
+    pub prints-yes : getD places k 0 ≡ k → prints (k + 1) ≡ prints k ++ (printed ss s ∷ [])
     unfolding only
     prints-yes e = prints-more ∙ ap (λ b. prints k ++ map (printed ss) (only b s)) (eq-eqb _ _ e)
 
-    prints-no : getD places k 0 ≢ k → prints (k + 1) ≡ prints k
+    pub prints-no : getD places k 0 ≢ k → prints (k + 1) ≡ prints k
     unfolding only
     prints-no h = prints-more ∙ ap (λ b. prints k ++ map (printed ss) (only b s)) (ne-eqb _ _ h) ∙ append-nil (prints k)
 

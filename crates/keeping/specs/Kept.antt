@@ -32,13 +32,13 @@ use Rattle.folds.specs.SameLattice.{Sound, entry-full}
 use Rattle.folds.specs.Deciding.{entry-rows, entry-member, different-m, different-d, holds-reduced}
 use Rattle.keeping.specs.declared.kept.Kept.{Kept}
 
--- d, m and the engine's rows of an entry
+-- d, m, the engine's rows and its count of passes, of an entry
 abbrev pub keptOf : Entry → Kept
-keptOf e = record { d = e .head .d; m = e .head .m; vectors = map vectorRow (reductionOf (inputOf e) .basis) }
+keptOf e = record { d = e .head .d; m = e .head .m; vectors = map vectorRow (reductionOf (inputOf e) .basis); passes = reductionOf (inputOf e) .passes }
 
 -- what an array of them gives beyond its end
 abbrev pub noKept : Kept
-noKept = record { d = 0; m = 0; vectors = [] }
+noKept = record { d = 0; m = 0; vectors = []; passes = 0 }
 
 abbrev pub rowsIn : Kept → List Vec
 rowsIn k = map (λ r. r .at) (k .vectors)

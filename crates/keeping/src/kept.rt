@@ -7,11 +7,12 @@ ghost use Rattle.catalogues.specs.Form.{EntryFits};
 ghost use Rattle.keeping.specs.Kept.{keptOf, Fair, heldIn, sameKept};
 ghost use Rattle.keeping.specs.Keeping.{Keeps};
 
-// Of an entry: d, m and its reduced vectors, then zeros.
+// Of an entry: d, m, its reduced vectors, then zeros, and how many passes reduced it.
 pub struct Kept {
     pub d: usize,
     pub m: usize,
     pub vectors: [rows::VectorRow; 4],
+    pub passes: u64,
 }
 
 // An entry is reduced, once.
@@ -27,6 +28,7 @@ pub fn keep(e: records::Entry) -> Kept
         d: e.d,
         m: e.m,
         vectors: vectors,
+        passes: r.passes,
     }
 }
 
@@ -40,6 +42,7 @@ pub fn keep_all(c: records::Catalogue) -> [Kept; 256]
         d: 0,
         m: 0,
         vectors: [rows::VectorRow { at: [0; 4] }; 4],
+        passes: 0,
     };
     let mut list = [none; 256];
     for k in 0..c.count {

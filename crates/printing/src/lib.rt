@@ -1,18 +1,6 @@
 // Signed numbers, rows and line ends, written to standard output in decimal. What is written, no contract can say: a write that
 // fails is passed over.
-ghost use mathlib.Core.Path.{_≡_};
-ghost use lib.IntN.{natAbs};
 use libc::STDOUT_FILENO;
-
-// The size of z. The least number's size is no i64, so one is added after the sign is turned.
-pub fn magnitude(z: i64) -> u64
-    ensures { λ r. ⌜ r ≡ natAbs z ⌝ }
-{
-    if z < 0 {
-        return -(z + 1) as u64 + 1;
-    }
-    z as u64
-}
 
 // Writes n.
 pub fn number(n: u64) {
@@ -24,7 +12,7 @@ pub fn signed(z: i64) {
     if z < 0 {
         io::write_all(STDOUT_FILENO, b"-");
     }
-    number(magnitude(z));
+    number(texts::magnitude(z));
 }
 
 // Writes a blank and z.

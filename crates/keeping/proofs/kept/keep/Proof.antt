@@ -40,9 +40,9 @@ returns : tie.Need-returns
 returns c =
     let s = c .before .before .before .before .before in
     let e = s .args .e in
-    let kept : _ → Kept = λ vectors. record { d = e .d; m = e .m; vectors = vectors } in
-    ap (λ r. kept (r .vectors)) (c .before .reduce .ensures)
-    ∙ ap (λ l. kept (map vectorRow (reductionOf (record { numbers = l; d = e .d; m = e .m; target = [] }) .basis))) (same s)
+    let kept : _ → _ → Kept = λ vectors passes. record { d = e .d; m = e .m; vectors = vectors; passes = passes } in
+    ap (λ r. kept (r .vectors) (r .passes)) (c .before .reduce .ensures)
+    ∙ ap (λ l. let r = reductionOf (record { numbers = l; d = e .d; m = e .m; target = [] }) in kept (map vectorRow (r .basis)) (r .passes)) (same s)
 
 pub keep-spec : {M : Type 1} → statement M
 keep-spec =
