@@ -10,10 +10,9 @@ use lib.IntN.{ℤ}
 use lib.ListN.{length}
 use lib.Seq.{sets}
 use borrow.Author.Tests.{le-leb, lt-leb}
-use Rattle.catalogues.specs.Catalogue.{Entry, Outcome, refused, accepted}
+use Rattle.catalogues.specs.Catalogue.{Outcome, refused, accepted}
 use Rattle.catalogues.specs.Read.{read}
 use Rattle.catalogues.specs.Write.{write}
-use Rattle.catalogues.specs.Form.{WellFormed}
 use Rattle.catalogues.specs.WellFormed.{well-formed}
 use Rattle.catalogues.specs.WrittenSize.{length-written}
 use Rattle.catalogues.specs.Output.{Output, untouched, filledWith, output}

@@ -15,7 +15,7 @@ use Rattle.lattices.specs.Refusal.{any}
 use Rattle.catalogues.specs.Word.{Word, head, coordinate, see, end, other, decode, wordsOf}
 use Rattle.catalogues.specs.WordLaws.{length-words}
 use Rattle.catalogues.specs.Catalogue.{Head, See, Entry, Outcome, refused, accepted}
-use Rattle.catalogues.specs.Read.{State, outside, inside, after, closed, Step, next, stop, checked, isNumbered, withEntry, headRows, atHead, coordinateOf, withVector, withCoordinate, coordinateRows, atCoordinate, endRows, atEnd, step, atLast, readWords, firstPlace, dependentAt, lostAt, afterReading, afterWords, fileRows, read}
+use Rattle.catalogues.specs.Read.{State, outside, inside, after, closed, Step, next, stop, checked, isNumbered, withEntry, headRows, atHead, coordinateOf, withCoordinate, coordinateRows, atCoordinate, endRows, atEnd, step, atLast, readWords, firstPlace, dependentAt, lostAt, afterWords, fileRows, read}
 use Rattle.catalogues.specs.Moves.{NoneOf}
 
 -- what holds of a refusal by a number up to 17, and of the rest when no row applies

@@ -1,9 +1,7 @@
 // A catalogue out of text, an entry to a line: `number d m ; coordinates`, and `; see` where there is a see word.
 ghost use mathlib.Core.Path.{_≡_};
-ghost use Prim.Native.Nat.{_^_, _≤_, _<_};
-ghost use lib.IntN.{pos};
+ghost use Prim.Native.Nat.{_≤_, _<_};
 ghost use lib.ListN.{length};
-ghost use lib.Signed.{_≤ℤ_, _<ℤ_};
 use libc::STDOUT_FILENO;
 use requests::Kind;
 

@@ -1,6 +1,6 @@
 -- Fold and lookup for every list of bytes: "A catalogue's rows run from 'whole file' to 'after reading'; the rows for lookup and output
 -- concern the call alone."
-use mathlib.Core.List.{List, []}
+use mathlib.Core.List.{List}
 use mathlib.Core.Option.{Option, none, some}
 use Prim.Native.Nat.{ℕ}
 use Rattle.catalogues.specs.Catalogue.{Outcome, refused, accepted}

@@ -1,5 +1,5 @@
 -- `reduce_first` goes through the turns of the repetition: at each the reduction of the work is what is left to do.
-use mathlib.Core.Path.{_≡_, refl, sym, ap, ap₂, _∙_, subst}
+use mathlib.Core.Path.{_≡_, refl, sym, ap, _∙_, subst}
 use mathlib.Core.Logic.{⊎-elim}
 use Prim.Native.Nat.{ℕ, _-_, _+_, _≤_, _<_}
 use native.Mathlib.Omega.{arith}
@@ -7,9 +7,9 @@ use borrow.Author.Needs.{needs}
 use borrow.Author.Tests.{not-true, not-false}
 use borrow.Fn.Kinds.{In}
 use borrow.Fn.PlainCycle.{Measures, is, falls, and}
-use Rattle.rows.specs.Rows.{Four, rowsOf, workOf, four-rows}
+use Rattle.rows.specs.Rows.{Four, rowsOf}
 use Rattle.engine.specs.State.{rowsIn, ordered, passed, reduced}
-use Rattle.engine.specs.Fine.{Fine, fine-fewer}
+use Rattle.engine.specs.Fine.{Fine}
 use Rattle.engine.specs.Room.{Ready}
 use Rattle.engine.specs.Turn.{rowsIn-workOf}
 use lib.ListN.{length, length-map}

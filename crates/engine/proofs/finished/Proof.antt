@@ -1,11 +1,10 @@
 -- `finished` packs the work's tables, V by rows.
-use mathlib.Core.Path.{_≡_, ap, _∙_}
-use mathlib.Core.List.{[], map}
+use mathlib.Core.List.{[]}
 use Prim.Native.Nat.{ℕ}
 use lib.ListN.{getD}
 use Rattle.integers.specs.Size.{Within}
-use Rattle.lattices.specs.Vector.{N, nth}
-use Rattle.rows.specs.Rows.{tableRow, transposed}
+use Rattle.lattices.specs.Vector.{nth}
+use Rattle.rows.specs.Rows.{transposed}
 use Rattle.engine.specs.Whole.{Whole, whole-of, small}
 use Rattle.engine.specs.Answer.{finished}
 use borrow.Author.Needs.{needs}

@@ -10,7 +10,7 @@ use Rattle.lattices.specs.VectorLaws.{_≈_}
 use Rattle.lattices.specs.Nearest.{nearest}
 use Rattle.lattices.specs.Answer.{padded}
 use Rattle.lattices.specs.Refusal.{Input, firstOf, vectorChecks, targetChecks}
-use Rattle.reductions.specs.Accepted.{Accepted, accepted, Targeted, targeted}
+use Rattle.reductions.specs.Accepted.{accepted, targeted}
 use Rattle.reductions.specs.Demand.{accepted-reduction, first-refused, first-passed}
 use Rattle.layers.specs.Near.{Near, coordinates, left-bounded}
 use Rattle.engine.specs.Answer.{vectors-back}

@@ -9,7 +9,6 @@ use mir.Facts.{toZ-ofZ}
 use Rattle.integers.specs.Order.{ltZ-true, ltZ-false, leZ-true, leZ-false}
 use Rattle.integers.specs.Size.{within-neg, fits-within}
 use Rattle.search.specs.Multiples.{within-twice, one-lowers, minus-one-lowers}
-use borrow.Author.Needs.{needs}
 use Rattle.search.proofs.multiple.Statement.{statement}
 use Rattle.search.proofs.multiple.Tie as tie
 use Rattle.search.proofs.rounded_or.Reads as rounded-or-reads

@@ -1,6 +1,5 @@
 -- `rounded_or` tests the sign of q and of q·n − 2p.
 use mathlib.Core.Logic.{inl, inr}
-use mir.Syntax.{w64}
 use mir.Facts.{toZ-ofZ}
 use Rattle.integers.specs.Order.{ltZ-true, leZ-true}
 use Rattle.search.specs.Multiples.{Tested, tested}

@@ -1,7 +1,6 @@
 -- Each entry of a multiple is a multiple.
-use mathlib.Core.Path.{_≡_, refl, sym, ap, _∙_, subst}
+use mathlib.Core.Path.{refl, sym, ap, _∙_, subst}
 use Prim.Native.Nat.{_-_, _≤_}
-use native.Mathlib.Omega.{arith}
 use lib.IntN.{_*ℤ_}
 use mir.Facts.{toZ-ofZ}
 use mir.Syntax.{w64}

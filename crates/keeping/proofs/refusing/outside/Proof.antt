@@ -2,7 +2,6 @@
 use mathlib.Core.Path.{refl, sym, _∙_, subst}
 use mathlib.Core.List.{[]}
 use Prim.Native.Nat.{_-_, _≤_}
-use native.Mathlib.Omega.{arith}
 use lib.ListN.{getD}
 use borrow.Author.Needs.{needs}
 use Rattle.integers.specs.Size.{Within}
