@@ -1,8 +1,10 @@
 //! Compares the compiled engine with the reference on inputs of every kind. Arguments, all optional: how many inputs, the seed to begin
-//! with, and how many random catalogues. A difference ends the run with the input and what both gave.
+//! with, how many random catalogues for the library, and how many for the command line. A difference ends the run with the input and
+//! what both gave.
 
 mod catalogue;
 mod catalogues;
+mod commands;
 mod lattices;
 mod lent;
 mod nearest;
@@ -20,7 +22,8 @@ fn argument(n: usize, otherwise: u64) -> u64 {
 fn main() -> ExitCode {
     let seed = argument(2, 1);
     let compared = lattices::compare(argument(1, 210_000) as usize, seed)
-        .and_then(|()| catalogues::compare(argument(3, 100_000) as usize, seed));
+        .and_then(|()| catalogues::compare(argument(3, 100_000) as usize, seed))
+        .and_then(|()| commands::compare(argument(4, 1_000) as usize, seed));
     match compared {
         Ok(()) => ExitCode::SUCCESS,
         Err(what) => {

@@ -1,0 +1,81 @@
+//! The command line on random catalogues: folded, listed, looked up, and turned into text and back.
+
+use std::io::Write;
+use std::process::{Command, Stdio};
+
+use reference::catalogue::cases::case;
+use reference::catalogue::fold::folded;
+use reference::catalogue::listing::listing;
+use reference::catalogue::reader::read;
+use reference::catalogue::text::text;
+use reference::catalogue::writer::write;
+use reference::catalogue::{lookup, Entry, Refused};
+
+const PROGRAM: &str = "target/bin/raghymtos";
+
+/// What the program writes for these words and this input.
+fn run(words: &[&str], input: &[u8]) -> Result<Vec<u8>, String> {
+    let fails = |e: std::io::Error| format!("{PROGRAM}: {e}");
+    let mut child = Command::new(PROGRAM)
+        .args(words)
+        .stdin(Stdio::piped())
+        .stdout(Stdio::piped())
+        .spawn()
+        .map_err(fails)?;
+    let mut stdin = child.stdin.take().ok_or("no standard input")?;
+    stdin.write_all(input).map_err(fails)?;
+    drop(stdin);
+    Ok(child.wait_with_output().map_err(fails)?.stdout)
+}
+
+fn same(words: &[&str], input: &[u8], expected: Vec<u8>) -> Result<(), String> {
+    let got = run(words, input)?;
+    if got == expected {
+        return Ok(());
+    }
+    let hexadecimal: String = input.iter().map(|b| format!("{b:02x}")).collect();
+    let (got, expected) = (got.escape_ascii(), expected.escape_ascii());
+    Err(format!(
+        "{words:?} on {hexadecimal}\ngives    {got}\nexpected {expected}"
+    ))
+}
+
+/// What is expected of an outcome: the refusal as a line, or what the entries give.
+fn said<T>(outcome: Result<T, Refused>, accepted: impl FnOnce(T) -> Vec<u8>) -> Vec<u8> {
+    match outcome {
+        Err(Refused { number, place }) => format!("refused {number} {place}\n").into_bytes(),
+        Ok(answer) => accepted(answer),
+    }
+}
+
+fn compare_one(bytes: &[u8]) -> Result<(), String> {
+    let outcome = read(bytes);
+    same(&["list"], bytes, listing(bytes).into_bytes())?;
+    let fold = |es: Vec<Entry>| write(&folded(&es));
+    same(&["fold"], bytes, said(outcome.clone(), fold))?;
+    let decoded = |es: Vec<Entry>| text(&es).into_bytes();
+    same(&["decode"], bytes, said(outcome.clone(), decoded))?;
+    let number = outcome
+        .as_ref()
+        .map_or(1, |es| es.last().map_or(1, |e| e.number));
+    let standing = |n: u32| format!("{n}\n").into_bytes();
+    same(
+        &["lookup", &number.to_string()],
+        bytes,
+        said(lookup(bytes, number), standing),
+    )?;
+    match outcome {
+        Ok(entries) => same(&["encode"], text(&entries).as_bytes(), bytes.to_vec()),
+        Err(_) => Ok(()),
+    }
+}
+
+/// Compares so many random catalogues of a seed.
+pub fn compare(count: usize, seed: u64) -> Result<(), String> {
+    for index in 0..count {
+        compare_one(&case(seed, index))
+            .map_err(|what| format!("seed {seed}, index {index}: {what}"))?;
+    }
+    println!("{count} catalogues by the command line: folded, listed, looked up, decoded and encoded as the reference does");
+    Ok(())
+}
