@@ -9,7 +9,7 @@ use Rattle.requests.specs.Parts.{takenAt}
 use Rattle.lines.specs.Encoding.{lineFrom, encoded}
 
 -- "9 2 2 ; 2 0 0 3 ; 12", a blank line, and "7\t1 1 ;-5\r"
-text : List ℕ
+pub text : List ℕ
 text =
     57 ∷ 32 ∷ 50 ∷ 32 ∷ 50 ∷ 32 ∷ 59 ∷ 32 ∷ 50 ∷ 32 ∷ 48 ∷ 32 ∷ 48 ∷ 32 ∷ 51 ∷ 32 ∷ 59 ∷ 32 ∷ 49 ∷ 50 ∷ 10
     ∷ 32 ∷ 10
