@@ -3,3 +3,4 @@ pub mod Text
 pub mod Encoding
 pub mod Examples
 pub mod DecimalBack
+pub mod NumberBack
