@@ -4,3 +4,4 @@ pub mod Encoding
 pub mod Examples
 pub mod DecimalBack
 pub mod NumberBack
+pub mod PartBack
