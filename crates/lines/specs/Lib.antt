@@ -5,3 +5,4 @@ pub mod Examples
 pub mod DecimalBack
 pub mod NumberBack
 pub mod PartBack
+pub mod LineBack
