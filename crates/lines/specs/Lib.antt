@@ -6,3 +6,5 @@ pub mod DecimalBack
 pub mod NumberBack
 pub mod PartBack
 pub mod LineBack
+pub mod LinesBack
+pub mod RoundTrip
