@@ -5,7 +5,7 @@ use mathlib.Core.List.{List, [], _∷_, _++_, map, append-assoc, append-nil}
 use mathlib.Core.Option.{Option, none, some}
 use Prim.Native.Nat.{ℕ, _+_, _*_, _≤_}
 use native.Mathlib.Omega.{arith}
-use lib.Dec.{eqb, ltb}
+use lib.Dec.{ltb}
 use lib.IntN.{ℤ, pos, natAbs}
 use lib.ListN.{length, drop}
 use lib.Seq.{drop-append-add}
@@ -15,7 +15,7 @@ use Rattle.integers.specs.Tests.{neither}
 use Rattle.integers.specs.Decimal.{decimal, signed}
 use Rattle.lattices.specs.Refusal.{any, mostSize}
 use Rattle.catalogues.specs.Catalogue.{Head, See, Entry, coordinates}
-use Rattle.catalogues.specs.Word.{Word}
+use Rattle.catalogues.specs.Word.{Word, see}
 use Rattle.catalogues.specs.Write.{headWord, coordinateWord, seeWords, entryWords}
 use Rattle.catalogues.specs.Form.{HeadFits, EntryFits}
 use Rattle.catalogues.specs.EntriesAccepted.{count-coordinates, few-coordinates, all-near}
@@ -27,8 +27,8 @@ use Rattle.requests.specs.Tokens.{tokenAt}
 use Rattle.requests.specs.Parts.{more, takenAt}
 use Rattle.lines.specs.Text.{semicolon, seeFields, entryFields, entryText}
 use Rattle.lines.specs.Encoding.{seeFrom, lastFrom, before, areCoordinates, coordinatesFrom, headFrom, lineFrom}
-use Rattle.lines.specs.NumberBack.{signed-reads}
-use Rattle.lines.specs.PartBack.{spaced, after-spaced, spaced-append, Stop, Written, taken, part-goes, part-back}
+use Rattle.lines.specs.NumberBack.{Written, signed-reads}
+use Rattle.lines.specs.PartBack.{spaced, after-spaced, spaced-append, Stop, taken, part-goes, part-back}
 
 -- ---- where parts stop
 
@@ -42,12 +42,12 @@ at-semicolon rest = record { ends = refl; token = refl; last = refl }
 
 -- ---- the see word
 
-see-back : (n : ℕ) → n ≤ 268435455 → seeFrom (takenAt 1 (spaced (decimal n ∷ []))) ≡ some (seeWords (some (record { number = n; place = 0 })))
+see-back : (n : ℕ) → n ≤ 268435455 → seeFrom (takenAt 1 (spaced (decimal n ∷ []))) ≡ some (see n ∷ [])
 see-back n h =
     let text = spaced (decimal n ∷ []) in
     ap (λ s. seeFrom (takenAt 1 s)) (sym (append-nil text))
     ∙ ap seeFrom (part-back 1 (pos n ∷ []) (omega arith) (omega arith, tt) line-ends)
-    ∙ ap (λ b. cond b (some (seeWords (some (record { number = n; place = 0 })))) none) (le-leb n 268435455 h)
+    ∙ ap (λ b. cond b (some (see n ∷ [])) none) (le-leb n 268435455 h)
 
 -- ---- coordinates, and what follows them
 

@@ -17,7 +17,7 @@ use Rattle.requests.specs.declared.Kind.the-variants.{TooLarge}
 use Rattle.requests.specs.Numbers.{isDigit, leading, digits, value, wrong, read, sized, withSign, signedAt, minusAt, numberAt}
 use Rattle.requests.specs.NumberLaws.{signed-some}
 use Rattle.requests.specs.Tokens.{isBlank, ends, later, tokenHere, tokenAt}
-use Rattle.requests.specs.TokenLaws.{blank-no, token-number}
+use Rattle.requests.specs.TokenLaws.{token-number}
 use Rattle.lines.specs.DecimalBack.{Tells, decimal-tells}
 
 -- ---- bytes
@@ -93,7 +93,11 @@ told-reads n (b ∷ s) h t = record {
       (ap (λ m. signedAt m (drop m l)) none ∙ digits-read 0 n (b ∷ s) rest (omega arith) t e (suc (length s)) (omega arith));
 }
 
-pub signed-reads : (z : ℤ) → natAbs z ≤ 9223372036854775807 → Reads (signed z) z
+-- no larger than a token's value may be
+abbrev pub Written : ℤ → Type 0
+Written z = natAbs z ≤ 9223372036854775807
+
+pub signed-reads : (z : ℤ) → Written z → Reads (signed z) z
 signed-reads (pos n) h = told-reads n (decimal n) h (decimal-tells n)
 signed-reads (negsuc n) h = record {
   token = λ rest e.

@@ -4,7 +4,7 @@ use mathlib.Core.Bool.{true, false, cond}
 use mathlib.Core.List.{List, [], _∷_, _++_, map, append-assoc}
 use Prim.Native.Nat.{ℕ, zero, suc, _+_, _≤_}
 use native.Mathlib.Omega.{arith}
-use lib.IntN.{ℤ, natAbs}
+use lib.IntN.{ℤ}
 use lib.ListN.{length, length-append, drop}
 use lib.Seq.{drop-append-seam}
 use Rattle.integers.specs.All.{All}
@@ -15,7 +15,7 @@ use Rattle.requests.specs.Numbers.{wrong, read}
 use Rattle.requests.specs.Tokens.{ends, tokenAt}
 use Rattle.requests.specs.Parts.{isNumber, Taken, stopped, more, takenAt}
 use Rattle.folds.specs.Listing.{after}
-use Rattle.lines.specs.NumberBack.{Reads, signed-reads, blank-reads}
+use Rattle.lines.specs.NumberBack.{Reads, Written, signed-reads, blank-reads}
 
 -- ---- fields with a blank before each, and no newline behind them
 
@@ -41,20 +41,19 @@ pub record Stop (k : Kind) (n : ℕ) (rest : List ℕ) : Type 0 where
 
 part-stops : (room : ℕ) {k : Kind} {n : ℕ} {rest : List ℕ} → Stop k n rest → takenAt room rest ≡ stopped n k
 unfolding takenAt
-part-stops zero {k} {n} t = ap (λ t. cond (isNumber (t .kind)) (stopped 0 TooMany) (stopped (t .length) (t .kind))) (t .token) ∙ ap (λ b. cond b (stopped 0 TooMany) (stopped n k)) (t .last)
+part-stops zero {k} {n} t =
+    ap (λ t. cond (isNumber (t .kind)) (stopped 0 TooMany) (stopped (t .length) (t .kind))) (t .token)
+    ∙ ap (λ b. cond b (stopped 0 TooMany) (stopped n k)) (t .last)
 part-stops (suc room) {k} {n} {rest} t =
     ap (λ t. cond (isNumber (t .kind)) (more t (takenAt room (drop (t .length) rest))) (stopped (t .length) (t .kind))) (t .token)
     ∙ ap (λ b. cond b (more (wrong k n) (takenAt room (drop n rest))) (stopped n k)) (t .last)
 
-pub part-goes : (room : ℕ) {s : List ℕ} {z : ℤ} (rest : List ℕ) → Reads s z → ends rest ≡ true → takenAt (suc room) (s ++ rest) ≡ more (read (length s) z) (takenAt room rest)
+pub part-goes : (room : ℕ) {s : List ℕ} {z : ℤ} (rest : List ℕ) → Reads s z → ends rest ≡ true
+    → takenAt (suc room) (s ++ rest) ≡ more (read (length s) z) (takenAt room rest)
 unfolding takenAt
 part-goes room {s} {z} rest r e =
     ap (λ t. cond (isNumber (t .kind)) (more t (takenAt room (drop (t .length) (s ++ rest)))) (stopped (t .length) (t .kind))) (r .token rest e)
     ∙ ap (λ l. more (read (length s) z) (takenAt room l)) (drop-append-seam s rest)
-
--- a number that is written and read again
-abbrev pub Written : ℤ → Type 0
-Written z = natAbs z ≤ 9223372036854775807
 
 abbrev pub taken : List ℤ → ℕ → Kind → Taken
 taken zs n k = record { numbers = zs; length = n; stop = k }

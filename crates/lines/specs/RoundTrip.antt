@@ -1,12 +1,12 @@
 -- The text of a catalogue tells the words of the catalogue; so a file that is accepted, written as text and encoded, is the same file again.
-use mathlib.Core.Path.{_≡_, refl, sym, ap, ap₂, _∙_}
+use mathlib.Core.Path.{_≡_, refl, ap, ap₂, _∙_}
 use mathlib.Core.Bool.{cond}
 use mathlib.Core.List.{List, [], _∷_, _++_, map, append-assoc}
-use mathlib.Core.Option.{Option, none, some}
+use mathlib.Core.Option.{some, Option·map}
 use Prim.Native.Nat.{ℕ, _<_}
-use lib.ListN.{length, getD, length-map}
+use lib.ListN.{getD, length-map}
 use Rattle.integers.specs.All.{All}
-use Rattle.catalogues.specs.Word.{Word, end, encode, bytesOf}
+use Rattle.catalogues.specs.Word.{end, encode, bytesOf}
 use Rattle.catalogues.specs.Catalogue.{Entry, accepted}
 use Rattle.catalogues.specs.Read.{read}
 use Rattle.catalogues.specs.Write.{entryWords, entriesWords, catalogueWords, write}
@@ -38,16 +38,12 @@ pub text-back : (es : List Entry) → All EntryFits es → All (λ e. SeeFits (e
 unfolding encoded
 text-back es p q = ap ended (entries-back es p q) ∙ ap₂ (λ ws n. some (ws ++ (end n ∷ []))) (joined-words es) (length-map es entryWords)
 
--- ---- files
+-- ---- an accepted file, as text and as a file again
 
--- the bytes of the words, if there are words
-abbrev pub fileOf : Option (List Word) → Option (List ℕ)
-fileOf none = none
-fileOf (some ws) = some (bytesOf (map encode ws))
-
-pub file-back : (bytes : List ℕ) (es : List Entry) → ((i : ℕ) → getD bytes i 0 < 256) → read bytes ≡ accepted es → fileOf (encoded (textOf es)) ≡ some bytes
+pub file-back : (bytes : List ℕ) (es : List Entry) → ((i : ℕ) → getD bytes i 0 < 256) → read bytes ≡ accepted es
+    → Option·map (λ ws. bytesOf (map encode ws)) (encoded (textOf es)) ≡ some bytes
 unfolding write
 file-back bytes es h e =
     let w = well-formed bytes es e in
     let fits = w .entered .fits in
-    ap fileOf (text-back es fits (sees-fit es es fits (w .named))) ∙ ap some (same-bytes bytes es h e)
+    ap (Option·map (λ ws. bytesOf (map encode ws))) (text-back es fits (sees-fit es es fits (w .named))) ∙ ap some (same-bytes bytes es h e)
