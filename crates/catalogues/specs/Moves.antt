@@ -21,11 +21,11 @@ abbrev pub NoneOf : List (Bool × ℕ) → Type 0
 NoneOf [] = Unit {0}
 NoneOf (r ∷ rows) = (r .0 ≡ false) × NoneOf rows
 
--- what holds of a refusal by any number but 0, and of the rest when no row applies
-checked-case : {A : Type 0} (Q : A → Type 0) (refuse : ℕ → A) (rows : List (Bool × ℕ)) (a : A)
-    → ((n : ℕ) → n ≢ 0 → Q (refuse n)) → All (λ r. r .1 ≢ 0) rows → (NoneOf rows → Q a) → Q (checked refuse rows a)
-checked-case Q refuse [] a stops numbers goes = goes tt
-checked-case Q refuse (r ∷ rows) a stops numbers goes = go (r .0) refl (λ e. checked-case Q refuse rows a stops (numbers .1) (λ none. goes (e, none)))
+-- what holds of a refusal by a number that is N, and of the rest when no row applies
+pub checked-case : {A : Type 0} (N : ℕ → Type 0) (Q : A → Type 0) (refuse : ℕ → A) (rows : List (Bool × ℕ)) (a : A)
+    → ((n : ℕ) → N n → Q (refuse n)) → All (λ r. N (r .1)) rows → (NoneOf rows → Q a) → Q (checked refuse rows a)
+checked-case N Q refuse [] a stops numbers goes = goes tt
+checked-case N Q refuse (r ∷ rows) a stops numbers goes = go (r .0) refl (λ e. checked-case N Q refuse rows a stops (numbers .1) (λ none. goes (e, none)))
   where
     go : (t : Bool) → r .0 ≡ t → (r .0 ≡ false → Q (checked refuse rows a)) → Q (elim t [ true ↦ refuse (r .1) | false ↦ checked refuse rows a ])
     go true e more = stops (r .1) (numbers .0)
@@ -51,16 +51,16 @@ Going Q (next t) = Q t
 Going Q (stop n) = n ≢ 0
 
 head-moves : (s : State) (es : List Entry) → Between s es → (h : Head) → Going (Moves s (h .place) (head (h .number) (h .d) (h .m))) (atHead es h)
-head-moves s es b h = checked-case (Going (Moves s (h .place) (head (h .number) (h .d) (h .m)))) stop (headRows es h) (next (inside es h [] [])) (λ n h. h) (omega arith) (λ p. by-head h b p)
+head-moves s es b h = checked-case (λ n. n ≢ 0) (Going (Moves s (h .place) (head (h .number) (h .d) (h .m)))) stop (headRows es h) (next (inside es h [] [])) (λ n h. h) (omega arith) (λ p. by-head h b p)
 
 end-moves : (s : State) (es : List Entry) → Between s es → (i count : ℕ) → Going (Moves s i (end count)) (atEnd es count)
 end-moves s es b i count =
-    checked-case (Going (Moves s i (end count))) stop (endRows es count) (next (closed es)) (λ n h. h) (omega arith)
+    checked-case (λ n. n ≢ 0) (Going (Moves s i (end count))) stop (endRows es count) (next (closed es)) (λ n h. h) (omega arith)
     (λ p. subst (λ c. Moves s i (end c) (closed es)) (sym (eqb-true count (length es) (not-false _ (p .0)))) (by-end b))
 
 coordinate-moves : (es : List Entry) (h : Head) (vs : List Vec) (v : Vec) (i l : ℕ) → Going (Moves (inside es h vs v) i (coordinate l)) (atCoordinate es h vs v l)
 coordinate-moves es h vs v i l =
-    checked-case (Going (Moves (inside es h vs v) i (coordinate l))) stop (coordinateRows h (v ++ (coordinateOf l ∷ [])) l) (next (withCoordinate es h vs (v ++ (coordinateOf l ∷ [])))) (λ n h. h) (omega arith)
+    checked-case (λ n. n ≢ 0) (Going (Moves (inside es h vs v) i (coordinate l))) stop (coordinateRows h (v ++ (coordinateOf l ∷ [])) l) (next (withCoordinate es h vs (v ++ (coordinateOf l ∷ [])))) (λ n h. h) (omega arith)
     (λ p. by-coordinate es h vs v l p)
 
 pub moved : (s : State) (i : ℕ) (w : Word) → Going (Moves s i w) (step s i w)
@@ -138,7 +138,7 @@ module _ (P : List ℕ → State → Type 0) (keeps : (past : List ℕ) (s t : S
   bytes-kept : (bytes : List ℕ) → P [] (outside []) → WhenAccepted (Kept P bytes) (read bytes)
   unfolding read
   bytes-kept bytes p =
-      checked-case (WhenAccepted (Kept P bytes)) (λ n. refused n 0) (fileRows bytes) (afterWords (readWords (outside []) 0 (wordsOf bytes))) (λ n h. h) (omega arith)
+      checked-case (λ n. n ≢ 0) (WhenAccepted (Kept P bytes)) (λ n. refused n 0) (fileRows bytes) (afterWords (readWords (outside []) 0 (wordsOf bytes))) (λ n h. h) (omega arith)
       (λ r. then-ended (readWords (outside []) 0 (wordsOf bytes))
       (λ es q e. record { whole = eqb-true _ 0 (not-false _ (r .0)); few = ltb-false _ _ (r .1 .0); kept = q; ended = e })
       (words-kept (wordsOf bytes) [] (outside []) 0 p))

@@ -30,7 +30,7 @@ entries-append (e ∷ es) fs = ap (λ l. entryWords e ++ l) (entries-append es f
 pub entries-snoc : (es : List Entry) (e : Entry) → entriesWords (es ++ (e ∷ [])) ≡ entriesWords es ++ entryWords e
 entries-snoc es e = entries-append es (e ∷ []) ∙ ap (λ l. entriesWords es ++ l) (append-nil (entryWords e))
 
-coordinates-snoc : (vs : List Vec) (v : Vec) → coordinates (vs ++ (v ∷ [])) ≡ coordinates vs ++ v
+pub coordinates-snoc : (vs : List Vec) (v : Vec) → coordinates (vs ++ (v ∷ [])) ≡ coordinates vs ++ v
 coordinates-snoc [] v = append-nil v
 coordinates-snoc (u ∷ vs) v = ap (λ l. u ++ l) (coordinates-snoc vs v) ∙ sym (append-assoc u (coordinates vs) v)
 

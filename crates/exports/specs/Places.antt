@@ -1,5 +1,4 @@
 -- A refusal has a number up to 17, and a place up to the number of words that a catalogue can have.
-use mathlib.Core.Path.{_≡_, refl}
 use mathlib.Core.Bool.{Bool, true, false}
 use mathlib.Core.List.{List, [], _∷_, _++_}
 use mathlib.Core.Option.{Option, none, some}
@@ -15,18 +14,8 @@ use Rattle.lattices.specs.Refusal.{any}
 use Rattle.catalogues.specs.Word.{Word, head, coordinate, see, end, other, decode, wordsOf}
 use Rattle.catalogues.specs.WordLaws.{length-words}
 use Rattle.catalogues.specs.Catalogue.{Head, See, Entry, Outcome, refused, accepted}
-use Rattle.catalogues.specs.Read.{State, outside, inside, after, closed, Step, next, stop, checked, isNumbered, withEntry, headRows, atHead, coordinateOf, withCoordinate, coordinateRows, atCoordinate, endRows, atEnd, step, atLast, readWords, firstPlace, dependentAt, lostAt, afterWords, fileRows, read}
-use Rattle.catalogues.specs.Moves.{NoneOf}
-
--- what holds of a refusal by a number up to 17, and of the rest when no row applies
-checked-low : {A : Type 0} (Q : A → Type 0) (refuse : ℕ → A) (rows : List (Bool × ℕ)) (a : A)
-    → ((n : ℕ) → n ≤ 17 → Q (refuse n)) → All (λ r. r .1 ≤ 17) rows → (NoneOf rows → Q a) → Q (checked refuse rows a)
-checked-low Q refuse [] a stops numbers goes = goes tt
-checked-low Q refuse (r ∷ rows) a stops numbers goes = go (r .0) refl (λ e. checked-low Q refuse rows a stops (numbers .1) (λ none. goes (e, none)))
-  where
-    go : (t : Bool) → r .0 ≡ t → (r .0 ≡ false → Q (checked refuse rows a)) → Q (elim t [ true ↦ refuse (r .1) | false ↦ checked refuse rows a ])
-    go true e more = stops (r .1) (numbers .0)
-    go false e more = more e
+use Rattle.catalogues.specs.Read.{State, outside, inside, after, closed, Step, next, stop, isNumbered, withEntry, headRows, atHead, coordinateOf, withCoordinate, coordinateRows, atCoordinate, endRows, atEnd, step, atLast, readWords, firstPlace, dependentAt, lostAt, afterWords, fileRows, read}
+use Rattle.catalogues.specs.Moves.{checked-case}
 
 -- places up to b
 module _ (b : ℕ) where
@@ -57,15 +46,15 @@ module _ (b : ℕ) where
   with-entry es h vs s p q r = all-append EntryLow es (record { head = h; vectors = vs; see = s } ∷ []) p ((q, r), tt)
 
   head-low : (es : List Entry) (h : Head) → All EntryLow es → h .place ≤ b → StepLow (atHead es h)
-  head-low es h p q = checked-low StepLow stop (headRows es h) (next (inside es h [] [])) (λ n l. l) (omega arith) (λ none. (p, q))
+  head-low es h p q = checked-case (λ n. n ≤ 17) StepLow stop (headRows es h) (next (inside es h [] [])) (λ n l. l) (omega arith) (λ none. (p, q))
 
   end-low : (es : List Entry) (count : ℕ) → All EntryLow es → StepLow (atEnd es count)
-  end-low es count p = checked-low StepLow stop (endRows es count) (next (closed es)) (λ n l. l) (omega arith) (λ none. p)
+  end-low es count p = checked-case (λ n. n ≤ 17) StepLow stop (endRows es count) (next (closed es)) (λ n l. l) (omega arith) (λ none. p)
 
   coordinate-low : (es : List Entry) (h : Head) (vs : List Vec) (v : Vec) (l : ℕ) → All EntryLow es × (h .place ≤ b) → StepLow (atCoordinate es h vs v l)
   coordinate-low es h vs v l p =
       let u = v ++ (coordinateOf l ∷ []) in
-      checked-low StepLow stop (coordinateRows h u l) (next (withCoordinate es h vs u)) (λ n l. l) (omega arith) (λ none. vector (eqb (length u) (h .m)) (eqb (length (vs ++ (u ∷ []))) (h .d)) u)
+      checked-case (λ n. n ≤ 17) StepLow stop (coordinateRows h u l) (next (withCoordinate es h vs u)) (λ n l. l) (omega arith) (λ none. vector (eqb (length u) (h .m)) (eqb (length (vs ++ (u ∷ []))) (h .d)) u)
     where
       vector : (s t : Bool) (u : Vec) → StateLow (elim s [ true ↦ elim t [ true ↦ after es h (vs ++ (u ∷ [])) | false ↦ inside es h (vs ++ (u ∷ [])) [] ] | false ↦ inside es h vs u ])
       vector true true u = p
@@ -156,6 +145,6 @@ module _ (b : ℕ) where
 pub read-low : (bytes : List ℕ) → OutcomeLow 4609 (read bytes)
 unfolding read
 read-low bytes =
-    checked-low (OutcomeLow 4609) (λ n. refused n 0) (fileRows bytes) (afterWords (readWords (outside []) 0 (wordsOf bytes))) (λ n l. (l, omega arith)) (omega arith)
+    checked-case (λ n. n ≤ 17) (OutcomeLow 4609) (λ n. refused n 0) (fileRows bytes) (afterWords (readWords (outside []) 0 (wordsOf bytes))) (λ n l. (l, omega arith)) (omega arith)
     (λ r. after-low 4609 (readWords (outside []) 0 (wordsOf bytes))
     (words-low 4609 (wordsOf bytes) (outside []) 0 (omega (arith, length-words bytes, ltb-false 18436 (length bytes) (r .1 .0))) tt))

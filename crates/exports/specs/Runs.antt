@@ -8,14 +8,11 @@ use lib.IntN.{ℤ, pos}
 use lib.ListN.{length, set, drop, getD}
 use borrow.Author.Tests.{le-leb, lt-leb}
 use lib.Seq.{sets, sets-eq}
+use Rattle.integers.specs.Runs.{sets-append}
 use Rattle.rows.specs.Rows.{four}
 use Rattle.exports.specs.Layout.{flat, written}
 
 -- the second run begins where the first ends
-pub sets-append : (l : List ℤ) (i j : ℕ) (vs rest : List ℤ) → j ≡ i + length vs → sets (sets l i vs) j rest ≡ sets l i (vs ++ rest)
-sets-append l i j [] rest e = let here : j ≡ i = omega arith in ap (λ k. sets l k rest) here
-sets-append l i j (x ∷ vs) rest e = sets-append (set l i x) (suc i) j vs rest (omega arith)
-
 pub sets-then : (l : List ℤ) (i j : ℕ) (vs rest : List ℤ) {x : List ℤ} → x ≡ sets l i vs → j ≡ i + length vs → sets x j rest ≡ sets l i (vs ++ rest)
 sets-then l i j vs rest e h = ap (λ y. sets y j rest) e ∙ sets-append l i j vs rest h
 

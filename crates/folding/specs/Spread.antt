@@ -1,6 +1,6 @@
 -- Rows written one after the other into an array of coordinates.
 use mathlib.Core.Path.{_≡_, refl, sym, ap, ap₂, _∙_}
-use mathlib.Core.List.{List, [], _∷_, _++_, map, append-nil, append-assoc}
+use mathlib.Core.List.{List, [], _∷_, _++_, map, append-nil}
 use Prim.Native.Nat.{ℕ, zero, suc, _+_, _*_, _≤_, _<_}
 use native.Mathlib.Numerals.{add-one}
 use native.Mathlib.Omega.{arith}
@@ -15,6 +15,7 @@ use Rattle.lattices.specs.AnswerLaws.{length-padded, take-padded}
 use Rattle.reductions.specs.Start.{Coordinates}
 use Rattle.engine.specs.Finish.{R}
 use Rattle.catalogues.specs.Catalogue.{Entry, coordinates, inputOf}
+use Rattle.catalogues.specs.RoundTrip.{coordinates-snoc}
 use Rattle.catalogues.specs.EntriesAccepted.{is-basis}
 use Rattle.folds.specs.Fold.{reducedOf}
 use Rattle.folds.specs.SameLattice.{Sound, entry-full}
@@ -59,10 +60,6 @@ pub record Full (k : Kept) : Type 0 where
   pub narrow : k .m ≤ 4
   pub rows : (i : ℕ) → i < k .d → length (getD (rowsIn k) i []) ≡ 4
   pub count : k .d ≤ length (rowsIn k)
-
-coordinates-snoc : (vs : List Vec) (v : Vec) → coordinates (vs ++ (v ∷ [])) ≡ coordinates vs ++ v
-coordinates-snoc [] v = append-nil v
-coordinates-snoc (u ∷ vs) v = ap (λ l. u ++ l) (coordinates-snoc vs v) ∙ sym (append-assoc u (coordinates vs) v)
 
 -- the first i rows, cut to m numbers
 abbrev pub cut : ℕ → List Vec → ℕ → List ℤ

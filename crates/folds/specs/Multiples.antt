@@ -1,37 +1,20 @@
 -- How a vector may be refused without a search for its coefficients. By Cramer's rule, the exterior product of a vector of a lattice with the volume
 -- of all basis vectors but one is a whole multiple of the volume of all: by the coefficient. What is no multiple is not in the lattice.
-use mathlib.Core.Path.{_≡_, refl, sym, ap, ap₂, _∙_, subst}
-use mathlib.Core.Bool.{true, false}
+use mathlib.Core.Path.{_≡_, refl, sym, ap, _∙_, subst}
 use mathlib.Core.List.{List, [], _∷_, _++_}
 use Prim.Native.Nat.{ℕ, zero, suc, _<_}
 use native.Mathlib.Nat.{le-of-suc-le-suc}
 use native.Mathlib.Omega.{arith}
-use lib.IntN.{ℤ, _-ℤ_, _*ℤ_}
+use lib.IntN.{ℤ, _*ℤ_}
 use lib.ListN.{length, getD, set, take}
 use Rattle.lattices.specs.Vector.{Vec, nth, comb, _⊙_}
 use Rattle.lattices.specs.VectorLaws.{_≈_, ≈-refl, ≈-trans, ≈-⊕, ≈-nth, ⊕-left-comm}
 use Rattle.lattices.specs.Permutation.{Perm, same, skip, swap, then}
-use Rattle.lattices.specs.Volume.{Index, Form, head, rest, wedge, volume}
-use Rattle.volumes.specs.Forms.{half, Multiple, multiple-of, multiple-multiple}
+use Rattle.lattices.specs.Volume.{Form, wedge, volume}
+use Rattle.volumes.specs.Forms.{Multiple, multiple-of, multiple-multiple}
 use Rattle.volumes.specs.Cramer.{cramer, perm-signed}
 use Rattle.minima.specs.Members.{Member}
-
--- ---- trailing zeros do not count
-
-nth-head : (u : Vec) → head u ≡ nth u 0
-nth-head [] = refl
-nth-head (x ∷ u) = refl
-
-nth-rest : (u : Vec) (i : ℕ) → nth (rest u) i ≡ nth u (suc i)
-nth-rest [] i = refl
-nth-rest (x ∷ u) i = refl
-
-wedge-same : (u v : Vec) (ω : Form) → ((i : ℕ) → nth u i ≡ nth v i) → (s : Index) → wedge u ω s ≡ wedge v ω s
-wedge-same u v ω e [] = refl
-wedge-same u v ω e (false ∷ s) = wedge-same (rest u) (rest v) (half false ω) (λ i. nth-rest u i ∙ e (suc i) ∙ sym (nth-rest v i)) s
-wedge-same u v ω e (true ∷ s) =
-    ap₂ (λ x y. x *ℤ ω (false ∷ s) -ℤ y) (nth-head u ∙ e zero ∙ sym (nth-head v))
-    (wedge-same (rest u) (rest v) (half true ω) (λ i. nth-rest u i ∙ e (suc i) ∙ sym (nth-rest v i)) s)
+use Rattle.reductions.specs.Kept.{wedge-nth}
 
 -- g is a whole multiple of f
 pub record ProductOf (f g : Form) : Type 0 where
@@ -69,7 +52,7 @@ member-multiple {a} {v} {cs} {bs} p m =
     record {
       times = nth (n .coefficients) 0 *ℤ q .sign;
       product = multiple-multiple
-          (multiple-of (nth (n .coefficients) 0) (wedge a (volume cs)) (λ s. sym (wedge-same (comb (n .coefficients) (a ∷ cs)) v (volume cs) (≈-nth (n .gives)) s) ∙ cramer zero (n .coefficients) (a ∷ cs) (omega arith) s))
+          (multiple-of (nth (n .coefficients) 0) (wedge a (volume cs)) (λ s. sym (wedge-nth (comb (n .coefficients) (a ∷ cs)) v (≈-nth (n .gives)) (volume cs) s) ∙ cramer zero (n .coefficients) (a ∷ cs) (omega arith) s))
           (q .by-sign);
     }
 

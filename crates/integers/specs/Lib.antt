@@ -11,6 +11,7 @@ pub mod Size
 pub mod All
 pub mod Tests
 pub mod Lists
+pub mod Runs
 pub mod Decimal
 pub mod Lex
 pub mod Examples

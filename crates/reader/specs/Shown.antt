@@ -8,6 +8,7 @@ use lib.ListN.{length, set, length-append}
 use Rattle.lattices.specs.Vector.{Vec}
 use Rattle.catalogues.specs.Catalogue as definition
 use Rattle.catalogues.specs.Catalogue.{Head, See, coordinates}
+use Rattle.catalogues.specs.RoundTrip.{coordinates-snoc}
 use Rattle.records.specs.declared.Entry.{Entry}
 use Rattle.reader.specs.declared.parts.Part.{Part}
 use Rattle.records.specs.Filled.{filled, filled-next}
@@ -33,9 +34,8 @@ partOf h vs v = record {
 length-snoc : {A : Type 0} (l : List A) (x : A) → length l + 1 ≡ length (l ++ (x ∷ []))
 length-snoc l x = sym (length-append l (x ∷ []))
 
-coordinates-snoc : (vs : List Vec) (v : Vec) → coordinates vs ++ v ≡ coordinates (vs ++ (v ∷ [])) ++ []
-coordinates-snoc [] v = sym (append-nil (v ++ []) ∙ append-nil v)
-coordinates-snoc (u ∷ vs) v = append-assoc u (coordinates vs) v ∙ ap (λ l. u ++ l) (coordinates-snoc vs v) ∙ sym (append-assoc u (coordinates (vs ++ (v ∷ []))) [])
+coordinates-more : (vs : List Vec) (v : Vec) → coordinates vs ++ v ≡ coordinates (vs ++ (v ∷ [])) ++ []
+coordinates-more vs v = sym (append-nil (coordinates (vs ++ (v ∷ []))) ∙ coordinates-snoc vs v)
 
 module _ (h : Head) (vs : List Vec) (v : Vec) where
   -- the fields that an operation changes
@@ -64,7 +64,7 @@ module _ (h : Head) (vs : List Vec) (v : Vec) where
   pub part-vector : putVector (partOf h vs v) ≡ partOf h (vs ++ (v ∷ [])) []
   unfolding made
   part-vector =
-      ap₂ (λ r k. made r 0 (filled (pos 0) 4 []) (length k) (filled (pos 0) 16 k)) (length-snoc vs v) (coordinates-snoc vs v)
+      ap₂ (λ r k. made r 0 (filled (pos 0) 4 []) (length k) (filled (pos 0) 16 k)) (length-snoc vs v) (coordinates-more vs v)
 
 -- the entry is whole
 pub whole-entry : (h : Head) (vs : List Vec) (s : Option See) → whole (partOf h vs []) (sees s) (seeNumber s) (seePlace s) ≡ entryOf (record { head = h; vectors = vs; see = s })

@@ -31,7 +31,7 @@ rest-nth : (u : Vec) (i : ℕ) → nth (rest u) i ≡ nth u (suc i)
 rest-nth [] i = refl
 rest-nth (x ∷ u) i = refl
 
-wedge-nth : (u v : Vec) → ((i : ℕ) → nth u i ≡ nth v i) → (ω : Form) (s : Index) → wedge u ω s ≡ wedge v ω s
+pub wedge-nth : (u v : Vec) → ((i : ℕ) → nth u i ≡ nth v i) → (ω : Form) (s : Index) → wedge u ω s ≡ wedge v ω s
 wedge-nth u v e ω [] = refl
 wedge-nth u v e ω (false ∷ s) = wedge-nth (rest u) (rest v) (λ i. rest-nth u i ∙ e (suc i) ∙ sym (rest-nth v i)) (λ t. ω (false ∷ t)) s
 wedge-nth u v e ω (true ∷ s) = ap₂ (λ a b. a *ℤ ω (false ∷ s) -ℤ b) (head-nth u ∙ e 0 ∙ sym (head-nth v))

@@ -14,7 +14,7 @@ use Rattle.integers.specs.Size.{Within, within-add, within-sub, within-neg, wit
 use Rattle.integers.specs.Lists.{entries, nth-⊕, length-⊕-same, length-⊖-same}
 use Rattle.lattices.specs.Vector.{Vec, nth, dot, _⊕_, _⊙_}
 use Rattle.lattices.specs.VectorLaws.{against, bilinear, dot-comm, comb-dot}
-use Rattle.rows.specs.Dot.{dot-suc}
+use Rattle.rows.specs.Dot.{dot-suc, Turn}
 use Rattle.minima.specs.Digits.{Bounded}
 use Rattle.minima.specs.Snoc.{length-against}
 use Rattle.search.specs.Numbers.{moved, gainOf, Sized}
@@ -26,14 +26,7 @@ unfolding dot
 sum-within zero a b f = record { within = omega arith }
 sum-within {P} (suc i) a b f = rw dot-suc (within-le (omega arith) (within-add (sum-within i a b f) (f i)))
 
--- turn i: the entries, their product, the sum so far and the next
-pub record Turn (a b : List ℤ) (i : ℕ) : Type 0 where
-  pub left : SFits w64 (nth a i)
-  pub right : SFits w64 (nth b i)
-  pub product : SFits w64 (nth a i *ℤ nth b i)
-  pub sum : SFits w64 (dot (take i a) (take i b))
-  pub next : SFits w64 (dot (take i a) (take i b) +ℤ nth a i *ℤ nth b i)
-
+-- what fits in turn i
 pub turn-at : (a b : List ℤ) → ((k : ℕ) → Within 3000000000000000000 (nth a k *ℤ nth b k)) → (i : ℕ) → i ≤ 2
     → SFits w64 (nth a i) → SFits w64 (nth b i) → Turn a b i
 turn-at a b f i h p q = record { left = p; right = q; product = fits-within (f i) tt; sum = fits-within sum tt; next = fits-within (within-add sum (f i)) tt }

@@ -1,11 +1,12 @@
 -- Text put into bytes from a place on. The room for it is asked for by each function; these laws need none.
 use mathlib.Core.Path.{_≡_, refl, sym, ap, _∙_}
 use mathlib.Core.List.{List, [], _∷_, _++_}
-use Prim.Native.Nat.{ℕ, suc, _+_, _<_}
+use Prim.Native.Nat.{ℕ, _+_, _<_}
 use native.Mathlib.Numerals.{add-one}
 use native.Mathlib.Omega.{arith}
 use lib.ListN.{length, getD, set, take, length-append}
 use lib.Seq.{sets, length-sets, take-suc, length-take-le}
+use Rattle.integers.specs.Runs.{sets-append}
 
 -- the text stands over what was there, and all else is as before; then the place after it
 pub record Puts (text before : List ℕ) (at : ℕ) (after : List ℕ) (end : ℕ) : Type 0 where
@@ -19,10 +20,6 @@ pub puts-none : (before : List ℕ) (at : ℕ) → Puts [] before at before at
 puts-none before at = record { bytes = refl; place = omega arith }
 
 -- ---- one text after another
-
-sets-append : (l : List ℕ) (i j : ℕ) (text more : List ℕ) → j ≡ i + length text → sets (sets l i text) j more ≡ sets l i (text ++ more)
-sets-append l i j [] more e = let here : j ≡ i = omega arith in ap (λ k. sets l k more) here
-sets-append l i j (x ∷ text) more e = sets-append (set l i x) (suc i) j text more (omega arith)
 
 pub puts-then : {text more before between after : List ℕ} {at mid end : ℕ} → Puts text before at between mid → Puts more between mid after end → Puts (text ++ more) before at after end
 puts-then {text} {more} {before} {at = at} {mid} p q = record {

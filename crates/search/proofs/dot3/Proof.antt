@@ -12,7 +12,8 @@ use mir.Facts.{toZ-ofZ}
 use Rattle.integers.specs.Size.{within-le, fits-within}
 use Rattle.lattices.specs.Vector.{dot}
 use Rattle.rows.specs.Dot.{dot-suc}
-use Rattle.search.specs.Fits.{Turn, sum-within, turn-at}
+use Rattle.rows.specs.Dot.{Turn}
+use Rattle.search.specs.Fits.{sum-within, turn-at}
 use Rattle.search.proofs.dot3.Statement.{statement}
 use Rattle.search.proofs.dot3.Tie as tie
 
