@@ -11,6 +11,7 @@ use lib.ListN.{length, getD, set, length-set}
 use lib.Seq.{getD-set-same, getD-set-other}
 use borrow.Author.Tests.{eq-eqb, ne-eqb}
 use Rattle.keeping.specs.declared.kept.Kept.{Kept}
+use Rattle.keeping.specs.Every.{below-next}
 use Rattle.keeping.specs.Kept.{noKept, sameKept}
 
 -- r is the first place below n of which a test speaks, and n where it speaks of none
@@ -42,11 +43,7 @@ first-like {f} {g} {n} {r} same p = record { within = p .within; before = λ j h
 
 -- one place more is known
 pub before-more : (f : ℕ → Bool) (j : ℕ) → ((i : ℕ) → i < j → f i ≡ false) → f j ≡ false → (i : ℕ) → i < j + 1 → f i ≡ false
-before-more f j p h i l = go (decLt i j)
-  where
-    go : Dec (i < j) → f i ≡ false
-    go (yes m) = p i m
-    go (no m) = let e : i ≡ j = omega arith in ap f e ∙ h
+before-more f = below-next (λ i. f i ≡ false)
 
 pub closed-none : (list : List Kept) (places : List ℕ) → length places ≡ 256 → Closed list 0 places
 closed-none list places long = record { long = long; first = λ k h. absurd (omega arith) }

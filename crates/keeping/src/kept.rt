@@ -1,10 +1,14 @@
 // What is kept of an entry, and whether two entries generate one lattice.
 ghost use mathlib.Core.Path.{_≡_};
-ghost use Prim.Native.Nat.{_≤_};
+ghost use mathlib.Core.Bool.{true};
+ghost use Prim.Native.Nat.{ℕ, _≤_};
+ghost use Rattle.integers.specs.Size.{Within};
+ghost use Rattle.lattices.specs.Vector.{nth};
 ghost use Rattle.integers.specs.All.{All};
 ghost use Rattle.records.specs.Entries.{entryIn, entriesIn};
 ghost use Rattle.catalogues.specs.Form.{EntryFits};
 ghost use Rattle.keeping.specs.Kept.{keptOf, Fair, heldIn, sameKept};
+ghost use Rattle.keeping.specs.Alike.{Scaled, Signed, AlikeTo};
 ghost use Rattle.keeping.specs.Keeping.{Keeps};
 
 // Of an entry: d, m, its reduced vectors, then zeros, and how many passes reduced it.
@@ -72,7 +76,47 @@ fn holds(a: Kept, b: Kept) -> bool
     true
 }
 
-// Whether both are of one lattice: another m or d says no at once.
+// Whether v is s times u.
+fn is_times(u: [i64; 4], s: i64, v: [i64; 4]) -> bool
+    requires { ⌜ Within 1 s ⌝ }
+    requires { ⌜ ((i : ℕ) → Within 20000 (nth u i)) ⌝ }
+    ensures { λ r. ⌜ (r ≡ true → Scaled s u v) ⌝ }
+{
+    for i in 0..4 {
+        if v[i] != s * u[i] {
+            return false;
+        }
+    }
+    true
+}
+
+// Whether v is u or its opposite.
+fn same_or_opposite(u: [i64; 4], v: [i64; 4]) -> bool
+    requires { ⌜ ((i : ℕ) → Within 20000 (nth u i)) ⌝ }
+    ensures { λ r. ⌜ (r ≡ true → Signed u v) ⌝ }
+{
+    is_times(u, 1, v) || is_times(u, -1, v)
+}
+
+// Whether the reduced vectors of b are those of a at the same places, but for signs.
+fn alike(a: Kept, b: Kept) -> bool
+    requires { ⌜ Fair a ⌝ }
+    requires { ⌜ Fair b ⌝ }
+    ensures { λ r. ⌜ (r ≡ true → AlikeTo (a .d) a b) ⌝ }
+{
+    for i in 0..a.d {
+        let of_a = a.vectors[i];
+        let of_b = b.vectors[i];
+        let u = of_a.at;
+        let v = of_b.at;
+        if !same_or_opposite(u, v) {
+            return false;
+        }
+    }
+    true
+}
+
+// Whether both are of one lattice: another m or d says no at once, and vectors that agree but for signs say yes.
 pub fn same(a: Kept, b: Kept) -> bool
     requires { ⌜ Fair a ⌝ }
     requires { ⌜ Fair b ⌝ }
@@ -83,6 +127,9 @@ pub fn same(a: Kept, b: Kept) -> bool
     }
     if a.d != b.d {
         return false;
+    }
+    if alike(a, b) {
+        return true;
     }
     holds(a, b) && holds(b, a)
 }
