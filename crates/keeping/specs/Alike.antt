@@ -44,7 +44,7 @@ scaled-all s u v e f h i = go (decLt i 4)
     go (yes l) = h i l
     go (no l) = List·getD-eq-default v (pos 0) (omega arith) ∙ sym (ap (λ z. s *ℤ z) (List·getD-eq-default u (pos 0) (omega arith)) ∙ *ℤ-zero s)
 
--- the row that the code reads
+-- the rows that the code reads
 pub row-at : {k : Kept} → Fair k → (i : ℕ) → i < 4 → getD (rowsIn k) i [] ≡ getD (k .vectors) i (vectorRow []) .at
 row-at {k} p i h = getD-map (λ r. r .at) (k .vectors) (vectorRow []) [] i (omega (arith, p .four, length-map (k .vectors) (λ r. r .at)))
 
@@ -52,6 +52,7 @@ pub signed-rows : {a b : Kept} → Fair a → Fair b → (i : ℕ) → i < 4 →
     → Signed (getD (rowsIn a) i []) (getD (rowsIn b) i [])
 signed-rows {a} {b} p q i h g = subst (Signed (getD (rowsIn a) i [])) (sym (row-at q i h)) (subst (λ u. Signed u (getD (b .vectors) i (vectorRow []) .at)) (sym (row-at p i h)) g)
 
+-- the same sign leads back
 signed-sym : {u v : Vec} → Signed u v → Signed v u
 signed-sym {u} {v} g = record { sign = g .sign; square = g .square; is = λ i. back (nth v i) (g .sign) (nth u i) (g .square) (g .is i) }
   where
@@ -69,7 +70,8 @@ signed-member bs i h {v} g =
           (≈-trans (≈-⊙ (g .sign) (unit-comb bs i h)) (nth-≈ (g .sign ⊙ getD bs i []) v (λ j. nth-⊙ (g .sign) (getD bs i []) j ∙ sym (g .is j))));
     }
 
-module _ (a b : Kept) (p : Fair a) (q : Fair b) (e : a .d ≡ b .d) (g : AlikeTo (b .d) a b) where
+-- so the lattice of a holds the vectors of b
+module _ (a b : Kept) (p : Fair a) (e : a .d ≡ b .d) (g : AlikeTo (b .d) a b) where
   count-a : length (basisIn a) ≡ a .d
   count-a = length-take-le (a .d) (rowsIn a) (omega (arith, p .four, p .few))
 
@@ -87,4 +89,4 @@ module _ (a b : Kept) (p : Fair a) (q : Fair b) (e : a .d ≡ b .d) (g : AlikeTo
 
 pub alike-same : (a b : Kept) → Fair a → Fair b → a .m ≡ b .m → a .d ≡ b .d → AlikeTo (a .d) a b → true ≡ sameKept a b
 alike-same a b p q f e g =
-    sym (ap₂ _&&_ (held a b p q e (subst (λ n. AlikeTo n a b) e g)) (held b a q p (sym e) (λ i h. signed-sym (g i h)))) ∙ by-held a b f e
+    sym (ap₂ _&&_ (held a b p e (subst (λ n. AlikeTo n a b) e g)) (held b a q (sym e) (λ i h. signed-sym (g i h)))) ∙ by-held a b f e
