@@ -3,7 +3,6 @@
 use libc::STDIN_FILENO;
 use libc::STDOUT_FILENO;
 
-mod decoding;
 mod encoding;
 
 // Writes the refusal of a catalogue.
@@ -86,7 +85,9 @@ pub fn decode() {
         refused(c.refusal, c.place);
         return;
     }
-    decoding::entries(c);
+    let mut text = [0u8; 40000];
+    let length = decoding::put_entries(c, &mut text);
+    write_first(&text, length);
 }
 
 // Writes the catalogue that a text tells, unless something in it is wrong.

@@ -6,9 +6,9 @@ use mir.Facts.{toZ-ofZ}
 use borrow.Author.Needs.{needs}
 use Rattle.integers.specs.Decimal.{signed}
 use Rattle.texts.specs.Puts.{Puts, puts-then}
-use Rattle.listings.specs.Lines.{blank}
-use Rattle.listings.proofs.lines.put_coordinate.Statement.{statement}
-use Rattle.listings.proofs.lines.put_coordinate.Tie as tie
+use Rattle.fields.specs.Blank.{blank}
+use Rattle.fields.proofs.put_coordinate.Statement.{statement}
+use Rattle.fields.proofs.put_coordinate.Tie as tie
 
 put-byte-requires : tie.Need-put-byte-requires
 put-byte-requires c κs = search needs

@@ -1,8 +1,8 @@
 -- The blank, then the digits.
 use borrow.Author.Needs.{needs}
 use Rattle.texts.specs.Puts.{puts-then}
-use Rattle.listings.proofs.lines.put_number.Statement.{statement}
-use Rattle.listings.proofs.lines.put_number.Tie as tie
+use Rattle.fields.proofs.put_number.Statement.{statement}
+use Rattle.fields.proofs.put_number.Tie as tie
 
 put-byte-requires : tie.Need-put-byte-requires
 put-byte-requires c κs = search needs

@@ -1,5 +1,5 @@
 -- The first i coordinates are put.
-use mathlib.Core.Path.{_≡_, ap, _∙_, subst}
+use mathlib.Core.Path.{_≡_, ap, subst}
 use Prim.Native.Nat.{_-_, _≤_}
 use native.Mathlib.Omega.{arith}
 use lib.IntN.{pos}
@@ -9,11 +9,11 @@ use mir.Val.{toZ, ofZ}
 use mir.Facts.{toZ-ofZ}
 use borrow.Author.Needs.{needs}
 use Rattle.integers.specs.Decimal.{signed}
-use Rattle.texts.specs.Puts.{Puts, puts-none, puts-then, puts-length}
+use Rattle.texts.specs.Puts.{Puts, puts-none, puts-length}
 use Rattle.texts.specs.Joined.{joined, joined-room, puts-next, puts-all}
-use Rattle.listings.specs.Lines.{blank, after-joined, fields-length}
-use Rattle.listings.proofs.lines.put_coordinates.Statement.{statement}
-use Rattle.listings.proofs.lines.put_coordinates.Tie as tie
+use Rattle.fields.specs.Blank.{blank}
+use Rattle.fields.proofs.put_coordinates.Statement.{statement}
+use Rattle.fields.proofs.put_coordinates.Tie as tie
 
 abbrev Inv-loop : tie.InvT-loop
 Inv-loop out₀ at coordinates n₀ i₀ i-end out n i = (i ≤ i-end) × Puts (joined (blank signed) (take i coordinates)) out₀ at out n
@@ -47,7 +47,6 @@ put-coordinate-requires c κs =
       long l,
       s .pre,
       l .loop .inv .1 .place,
-      fields-length signed coordinates,
       joined-room (blank signed) coordinates (l .loop .i) (pos 0) (c .before .before .loop-test .taken),
       ap (λ z. length (signed z)) e,
     )
@@ -69,27 +68,11 @@ loop-again c =
     subst (λ z. Puts (blank signed z) (l .loop .out) (l .loop .n) (n .put-coordinate .last .0) (n .put-coordinate .result)) e (n .put-coordinate .ensures) in
     (search needs, puts-next (blank signed) coordinates (l .loop .i) (pos 0) (n .before .before .before .loop-test .taken) (l .loop .inv .1) put)
 
--- all coordinates are put
-all : (c : tie.After-loop Inv-loop μ-loop) → let s = c .before .before .before in Puts (joined (blank signed) (s .args .coordinates .now)) (s .args .out .now) (s .args .at) (c .before .loop .out) (c .before .loop .n)
-all c = puts-all (blank signed) (c .before .before .before .args .coordinates .now) (c .before .loop .i) (omega (arith, c .loop-test .left)) (c .before .loop .inv .1)
-
-put-byte-requires : tie.Need-put-byte-requires Inv-loop μ-loop
-put-byte-requires c κs =
-    let l = c .before .before in
-    let s = l .before .before in
-    omega (arith, long l, s .pre, all (c .before) .place, fields-length signed (s .args .coordinates .now))
-
 same-length : tie.Need-same-length Inv-loop μ-loop
-same-length c =
-    let b = c .before .before in
-    b .put-byte .kept .0 ∙ long (b .before .before .before)
+same-length c = long (c .before)
 
 returns : tie.Need-returns Inv-loop μ-loop
-returns c =
-    let b = c .before .before in
-    let o = b .before .before in
-    let a = o .before .before .before .args in
-    subst (λ text. Puts text (a .out .now) (a .at) (b .put-byte .last .0) (b .put-byte .result)) (after-joined signed (a .coordinates .now)) (puts-then (all o) (b .put-byte .ensures))
+returns c = puts-all (blank signed) (c .before .before .before .args .coordinates .now) (c .before .loop .i) (omega (arith, c .loop-test .left)) (c .before .loop .inv .1)
 
 pub put-coordinates-spec : {M : Type 1} → statement M
 put-coordinates-spec =
@@ -104,6 +87,5 @@ put-coordinates-spec =
     add-i
     loop-less
     loop-again
-    put-byte-requires
     same-length
     returns)
