@@ -28,25 +28,11 @@ fn mistake(line: u64, stop: Kind) {
     }
 }
 
-fn is_semicolon(stop: Kind) -> bool {
-    match stop {
-        Kind::Semicolon => true,
-        _ => false,
-    }
-}
-
-fn is_end(stop: Kind) -> bool {
-    match stop {
-        Kind::End => true,
-        _ => false,
-    }
-}
-
 // Answers `d m ; numbers`, vector by vector.
 fn reduce(s: &[u8], line: u64) {
     let counts = requests::first_part::read_counts(s);
     let first = counts.stop;
-    if !is_semicolon(first) {
+    if !requests::is_semicolon(first) {
         mistake(line, first);
         return;
     }
@@ -54,7 +40,7 @@ fn reduce(s: &[u8], line: u64) {
     let mut numbers = [0i64; 2048];
     let part = requests::read_part(&s[at..], &mut numbers);
     let last = part.stop;
-    if !is_end(last) {
+    if !requests::is_end(last) {
         mistake(line, last);
         return;
     }
@@ -70,7 +56,7 @@ fn reduce(s: &[u8], line: u64) {
 fn nearest(s: &[u8], line: u64) {
     let counts = requests::first_part::read_counts(s);
     let first = counts.stop;
-    if !is_semicolon(first) {
+    if !requests::is_semicolon(first) {
         mistake(line, first);
         return;
     }
@@ -78,7 +64,7 @@ fn nearest(s: &[u8], line: u64) {
     let mut numbers = [0i64; 2048];
     let part = requests::read_part(&s[at..], &mut numbers);
     let second = part.stop;
-    if !is_semicolon(second) {
+    if !requests::is_semicolon(second) {
         mistake(line, second);
         return;
     }
@@ -86,7 +72,7 @@ fn nearest(s: &[u8], line: u64) {
     let mut target = [0i64; 2048];
     let rest = requests::read_part(&s[from..], &mut target);
     let last = rest.stop;
-    if !is_end(last) {
+    if !requests::is_end(last) {
         mistake(line, last);
         return;
     }
