@@ -50,9 +50,10 @@ returns : tie.Need-returns Inv-loop μ-loop
 returns c =
     let b = c .before in
     let l = b .before .before .before in
-    let z = l .before .args .z .now in
-    ( sym (l .loop .inv .1 .1 .0 ∙ any-here beyond z (l .loop .i) (pos 0) (b .before .before .loop-test .taken) (sym (tested b) ∙ c .if1 .taken))
-    , λ e. absurd (true≢false e) )
+    let z = l .before .args .z .now in (
+      sym (l .loop .inv .1 .1 .0 ∙ any-here beyond z (l .loop .i) (pos 0) (b .before .before .loop-test .taken) (sym (tested b) ∙ c .if1 .taken)),
+      λ e. absurd (true≢false e),
+    )
 
 near : (c : tie.Else1 Inv-loop μ-loop) → beyond (nth (c .before .before .before .before .before .args .z .now) (c .before .before .before .before .loop .i)) ≡ false
 near c = sym (tested (c .before)) ∙ c .if1 .left
@@ -94,22 +95,28 @@ loop-again c =
     let i = l .loop .i in
     let here = c .before .before .before .before .before .loop-test .taken in
     let w = c .coordinate-word .result in
-    let word : w ≡ encode (coordinateWord (nth z i)) = c .coordinate-word .ensures ∙ ap (λ x. encode (coordinateWord x)) (same (c .before)) in
-    ( search needs
-    , ( length-set (l .loop .words) i w ∙ l .loop .inv .1 .0
-      , ( l .loop .inv .1 .1 .0 ∙ any-later beyond z i (pos 0) here (near (c .before .before))
-        , ap (λ k. take k (set (l .loop .words) i w)) (add-one i)
-          ∙ take-suc-set (l .loop .words) i w (omega (arith, l .before .pre, here, l .loop .inv .1 .0))
-          ∙ ap₂ (λ ws w. ws ++ (w ∷ [])) (l .loop .inv .1 .1 .1) word
-          ∙ encoded-more z i here ) ) )
+    let word : w ≡ encode (coordinateWord (nth z i)) = c .coordinate-word .ensures ∙ ap (λ x. encode (coordinateWord x)) (same (c .before)) in (
+      search needs,
+      (
+        length-set (l .loop .words) i w ∙ l .loop .inv .1 .0,
+        (
+          l .loop .inv .1 .1 .0 ∙ any-later beyond z i (pos 0) here (near (c .before .before)),
+          ap (λ k. take k (set (l .loop .words) i w)) (add-one i)
+              ∙ take-suc-set (l .loop .words) i w (omega (arith, l .before .pre, here, l .loop .inv .1 .0))
+              ∙ ap₂ (λ ws w. ws ++ (w ∷ [])) (l .loop .inv .1 .1 .1) word
+              ∙ encoded-more z i here,
+        ),
+      ),
+    )
 
 returns-2 : tie.Need-returns-2 Inv-loop μ-loop
 returns-2 c =
     let l = c .before in
     let z = l .before .args .z .now in
-    let end : length z ≡ l .loop .i = omega (arith, l .loop .inv .0, c .loop-test .left) in
-    ( sym (l .loop .inv .1 .1 .0 ∙ any-end beyond z (l .loop .i) (omega arith))
-    , λ e. ap (λ k. take k (l .loop .words)) end ∙ l .loop .inv .1 .1 .1 ∙ ap encoded (take-all (l .loop .i) z (omega arith)) )
+    let end : length z ≡ l .loop .i = omega (arith, l .loop .inv .0, c .loop-test .left) in (
+      sym (l .loop .inv .1 .1 .0 ∙ any-end beyond z (l .loop .i) (omega arith)),
+      λ e. ap (λ k. take k (l .loop .words)) end ∙ l .loop .inv .1 .1 .1 ∙ ap encoded (take-all (l .loop .i) z (omega arith)),
+    )
 
 pub coordinate-words-spec : {M : Type 1} → statement M
 coordinate-words-spec =

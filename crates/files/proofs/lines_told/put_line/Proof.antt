@@ -3,8 +3,8 @@ use mathlib.Core.Path.{_≡_}
 use Prim.Native.Nat.{_≤_, _-_}
 use lib.ListN.{length}
 use borrow.Author.Needs.{needs}
-use Rattle.files.proofs.encoding.put_line.Statement.{statement}
-use Rattle.files.proofs.encoding.put_line.Tie as tie
+use Rattle.files.proofs.lines_told.put_line.Statement.{statement}
+use Rattle.files.proofs.lines_told.put_line.Tie as tie
 
 abbrev Inv-loop : tie.InvT-loop
 Inv-loop out₀ k l n₀ i₀ out n i = (i ≤ 16) × (n ≤ 4610) × (length out ≡ 18440)

@@ -1,23 +1,21 @@
--- The words are read within the array.
+-- The place stays between the start and the end.
 use Prim.Native.Nat.{_≤_, _-_}
+use lib.ListN.{length}
 use borrow.Author.Needs.{needs}
-use Rattle.files.proofs.encoding.any_none.Statement.{statement}
-use Rattle.files.proofs.encoding.any_none.Tie as tie
+use Rattle.files.proofs.lines_told.line_end.Statement.{statement}
+use Rattle.files.proofs.lines_told.line_end.Tie as tie
 
 abbrev Inv-loop : tie.InvT-loop
-Inv-loop n words i₀ i = i ≤ n
+Inv-loop text from i₀ i = (from ≤ i) × (i ≤ length text)
 
 abbrev μ-loop : tie.MeasureT-loop
-μ-loop n words i₀ i = n - i
+μ-loop text from i₀ i = length text - i
 
 loop-holds : tie.Need-loop-holds Inv-loop μ-loop
 loop-holds c = search needs
 
-mul-if1 : tie.Need-mul-if1 Inv-loop μ-loop
-mul-if1 c = search needs
-
-array-read-if1 : tie.Need-array-read-if1 Inv-loop μ-loop
-array-read-if1 c = search needs
+shared-slice-read-if1 : tie.Need-shared-slice-read-if1 Inv-loop μ-loop
+shared-slice-read-if1 c = search needs
 
 returns : tie.Need-returns Inv-loop μ-loop
 returns c = search needs
@@ -34,15 +32,14 @@ loop-again c = search needs
 returns-2 : tie.Need-returns-2 Inv-loop μ-loop
 returns-2 c = search needs
 
-pub any-none-spec : {M : Type 1} → statement M
-any-none-spec =
+pub line-end-spec : {M : Type 1} → statement M
+line-end-spec =
     tie.close
     (tie.spec
     Inv-loop
     μ-loop
     loop-holds
-    mul-if1
-    array-read-if1
+    shared-slice-read-if1
     returns
     add-i
     loop-less

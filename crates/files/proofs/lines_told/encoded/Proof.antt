@@ -3,8 +3,8 @@ use mathlib.Core.Path.{_≡_}
 use Prim.Native.Nat.{_+_, _-_, _≤_}
 use lib.ListN.{length}
 use borrow.Author.Needs.{needs}
-use Rattle.files.proofs.encoding.encoded.Statement.{statement}
-use Rattle.files.proofs.encoding.encoded.Tie as tie
+use Rattle.files.proofs.lines_told.encoded.Statement.{statement}
+use Rattle.files.proofs.lines_told.encoded.Tie as tie
 
 abbrev Inv-loop : tie.InvT-loop
 Inv-loop text out₀ e₀ from₀ line₀ out e from line = (from ≤ length text + 1) × (line ≤ from + 1) × (e .words ≤ 4610) × (e .entries ≤ 4610) × (length out ≡ 18440)
