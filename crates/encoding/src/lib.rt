@@ -64,6 +64,7 @@ pub fn is_none(mistake: Mistake) -> bool
 fn wrong(mistake: Mistake) -> Line
     requires { ⌜ isNone mistake ≡ false ⌝ }
     ensures { λ r. ⌜ told r ≡ none ⌝ }
+    ensures { λ r. ⌜ r .count ≤ 16 ⌝ }
 {
     Line {
         mistake,
@@ -177,6 +178,7 @@ fn see_of(s: &[u8]) -> u32
 // The parts after the head: n coordinates, and a see word or none.
 fn with_parts(s: &[u8], head: u32, n: usize) -> Line
     ensures { λ r. ⌜ told r ≡ headed head (encodedLine (coordinatesFrom n (takenAt 16 (now (s .entry))) (now (s .entry)))) ⌝ }
+    ensures { λ r. ⌜ r .count ≤ 16 ⌝ }
 {
     let mut z = [0i64; 16];
     let part = requests::read_part(s, &mut z);
@@ -219,6 +221,7 @@ fn with_parts(s: &[u8], head: u32, n: usize) -> Line
 // A line that is not blank.
 pub fn read_line(s: &[u8]) -> Line
     ensures { λ r. ⌜ told r ≡ encodedLine (lineFrom (now (s .entry))) ⌝ }
+    ensures { λ r. ⌜ r .count ≤ 16 ⌝ }
 {
     let mut z = [0i64; 3];
     let part = requests::read_part(s, &mut z);

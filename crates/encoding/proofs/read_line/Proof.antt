@@ -65,7 +65,7 @@ wrong-requires c κs = wrong-is c
 returns : tie.Need-returns
 returns c =
     let t = c .before in
-    c .wrong .ensures ∙ sym (ap encodedLine (no-head (t .before .before .before .before .before .before .before .before .before .before .args .s .now) (sym (tested (t .before .before)) ∙ wrong-is t)))
+    (c .wrong .ensures .0 ∙ sym (ap encodedLine (no-head (t .before .before .before .before .before .before .before .before .before .before .args .s .now) (sym (tested (t .before .before)) ∙ wrong-is t))), c .wrong .ensures .1)
 
 heads : (c : tie.Else1) → isHead (takenAt 3 (c .before .before .before .before .before .before .before .before .before .before .args .s .now)) ≡ true
 heads c = sym (tested (c .before .before)) ∙ sym (c .before .is-none .ensures) ∙ not-false (c .before .is-none .result) (c .if1 .left)
@@ -147,11 +147,11 @@ returns-2 c =
     let more = drop (p .length) s in
     let length-is = ap (λ q. q .length) (r .read-part .ensures .0) in
     let n = c2 .count2 .result * c3 .count3 .result in
-    c .with-parts .ensures
+    (c .with-parts .ensures .0
     ∙ ap (λ l. headed (h .head-word .result) (encodedLine (coordinatesFrom n (takenAt 16 l) l))) (to-end (r .read-part .result .length) s)
     ∙ (λ i. headed (word i) (encodedLine (coordinatesFrom (d c2 i * m c3 i) (takenAt 16 (drop (length-is i) s)) (drop (length-is i) s))))
     ∙ head-first (head (at (p .numbers) 0) (at (p .numbers) 1) (at (p .numbers) 2)) (coordinatesFrom (at (p .numbers) 1 * at (p .numbers) 2) (takenAt 16 more) more)
-    ∙ sym (ap encodedLine (with-head s (heads (c1 .before .before))))
+    ∙ sym (ap encodedLine (with-head s (heads (c1 .before .before)))), c .with-parts .ensures .1)
 
 pub read-line-spec : {M : Type 1} → statement M
 read-line-spec =

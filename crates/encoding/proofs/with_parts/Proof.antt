@@ -2,6 +2,7 @@
 use mathlib.Core.Path.{_≡_, refl, sym, ap, _∙_}
 use mathlib.Core.Bool.{true, false}
 use mathlib.Core.List.{[], _∷_, map}
+use Prim.Native.Nat.{_≤_}
 use native.Mathlib.Omega.{arith}
 use lib.ListN.{length, take, drop}
 use lib.Seq.{take-at, length-take-le}
@@ -43,7 +44,7 @@ returns : tie.Need-returns
 returns c =
     let t = c .before .before in
     let a = t .before .before .before .before .before .before .args in
-    c .wrong .ensures ∙ told-none (a .head) (stops-wrong (a .n) (takenAt 16 (a .s .now)) (a .s .now) (sym (stop (t .before)) ∙ not-true (t .before .is-last .result) (t .if1 .taken)))
+    (c .wrong .ensures .0 ∙ told-none (a .head) (stops-wrong (a .n) (takenAt 16 (a .s .now)) (a .s .now) (sym (stop (t .before)) ∙ not-true (t .before .is-last .result) (t .if1 .taken))), c .wrong .ensures .1)
 
 last : (c : tie.Else1) → isLast (takenAt 16 (c .before .before .before .before .before .before .args .s .now) .stop) ≡ true
 last c = sym (stop (c .before)) ∙ not-false (c .before .is-last .result) (c .if1 .left)
@@ -57,6 +58,9 @@ cut c =
     let p = takenAt 16 (c .before .before .before .args .s .now) in
     (λ i. take (counted c i) (c .read-part .ensures .1 .0 i)) ∙ take-at (p .numbers) _ (length (p .numbers)) refl
 
+few : (c : tie.After-read-part) → c .read-part .result .count ≤ 16
+few c = omega (arith, c .read-part .ensures .1 .1 .0, c .read-part .kept .1 .0)
+
 long : (c : tie.After-read-part) → length (take (c .read-part .result .count) (c .read-part .last .1 .0)) ≡ c .read-part .result .count
 long c = ap length (cut c) ∙ sym (counted c)
 
@@ -68,7 +72,7 @@ returns-2 c =
     let t = c .before in
     let r = t .before .before .before .before in
     let a = r .before .before .before .args in
-    c .wrong2 .ensures ∙ told-none (a .head) (other-count (a .n) (takenAt 16 (a .s .now)) (a .s .now) (λ h. t .if2 .taken (counted r ∙ h)))
+    (c .wrong2 .ensures .0 ∙ told-none (a .head) (other-count (a .n) (takenAt 16 (a .s .now)) (a .s .now) (λ h. t .if2 .taken (counted r ∙ h))), c .wrong2 .ensures .1)
 
 all : (c : tie.Else2) → length (takenAt 16 (c .before .before .before .before .before .before .before .args .s .now) .numbers) ≡ c .before .before .before .before .before .before .before .args .n
 all c = sym (counted (c .before .before .before .before)) ∙ c .if2 .left
@@ -80,7 +84,7 @@ slice-aggregate-coordinate-words : tie.Need-slice-aggregate-coordinate-words
 slice-aggregate-coordinate-words c = sym (long (c .before .before .before .before .before))
 
 coordinate-words-requires : tie.Need-coordinate-words-requires
-coordinate-words-requires c κs = omega (arith, long (c .before .before .before .before .before), c .before .before .before .before .before .read-part .ensures .1 .1 .0, c .before .before .before .before .before .read-part .kept .1 .0)
+coordinate-words-requires c κs = omega (arith, long (c .before .before .before .before .before), few (c .before .before .before .before .before))
 
 wrong-requires-3 : tie.Need-wrong-requires-3
 wrong-requires-3 c κs = search needs
@@ -93,7 +97,7 @@ returns-3 c =
     let t = c .before in
     let w = t .before in
     let a = w .before .before .before .before .before .before .before .before .before .args in
-    c .wrong3 .ensures ∙ told-none (a .head) (some-beyond (a .n) (takenAt 16 (a .s .now)) (a .s .now) (all (w .before .before)) (sym (tested w) ∙ t .if3 .taken))
+    (c .wrong3 .ensures .0 ∙ told-none (a .head) (some-beyond (a .n) (takenAt 16 (a .s .now)) (a .s .now) (all (w .before .before)) (sym (tested w) ∙ t .if3 .taken)), c .wrong3 .ensures .1)
 
 near : (c : tie.Else3) → any beyond (takenAt 16 (c .before .before .before .before .before .before .before .before .before .before .args .s .now) .numbers) ≡ false
 near c = sym (tested (c .before)) ∙ c .if3 .left
@@ -116,7 +120,7 @@ returns-4 c =
     let w = e .before .before in
     let a = w .before .before .before .before .before .before .before .before .before .before .args in
     let p = takenAt 16 (a .s .now) in
-    told-some (a .head) (map coordinateWord (p .numbers)) [] (with-none (a .n) p (a .s .now) (all (w .before .before .before)) (near w) (sym (ended e) ∙ c .if4 .taken)) (words w) refl
+    (told-some (a .head) (map coordinateWord (p .numbers)) [] (with-none (a .n) p (a .s .now) (all (w .before .before .before)) (near w) (sym (ended e) ∙ c .if4 .taken)) (words w) refl, few (w .before .before .before .before .before .before .before))
 
 sub-see-of : tie.Need-sub-see-of
 sub-see-of c = search needs
@@ -148,8 +152,8 @@ returns-5 c =
     let a = w .before .before .before .before .before .before .before .before .before .before .args in
     let p = takenAt 16 (a .s .now) in
     let last-part = takenAt 1 (drop (p .length) (a .s .now)) in
-    c .wrong4 .ensures
-    ∙ told-none (a .head) (no-see (a .n) p (a .s .now) (all (w .before .before .before)) (near w) (last (w .before .before .before .before)) (sym (ended (e .before)) ∙ e .if4 .left) (is-none last-part (sym (seen o) ∙ t .if5 .taken)))
+    (c .wrong4 .ensures .0
+    ∙ told-none (a .head) (no-see (a .n) p (a .s .now) (all (w .before .before .before)) (near w) (last (w .before .before .before .before)) (sym (ended (e .before)) ∙ e .if4 .left) (is-none last-part (sym (seen o) ∙ t .if5 .taken))), c .wrong4 .ensures .1)
 
 returns-6 : tie.Need-returns-6
 returns-6 c =
@@ -159,10 +163,10 @@ returns-6 c =
     let a = w .before .before .before .before .before .before .before .before .before .before .args in
     let p = takenAt 16 (a .s .now) in
     let last-part = takenAt 1 (drop (p .length) (a .s .now)) in
-    told-some (a .head) (map coordinateWord (p .numbers)) (see (at (last-part .numbers) 0) ∷ [])
+    (told-some (a .head) (map coordinateWord (p .numbers)) (see (at (last-part .numbers) 0) ∷ [])
     (with-see (a .n) p (a .s .now) (all (w .before .before .before)) (near w) (last (w .before .before .before .before)) (sym (ended (e .before)) ∙ e .if4 .left) (is-some last-part (λ z. c .if5 .left (seen o ∙ z))))
     (words w)
-    (see-told last-part (seen o) (c .if5 .left))
+    (see-told last-part (seen o) (c .if5 .left)), few (w .before .before .before .before .before .before .before))
 
 pub with-parts-spec : {M : Type 1} → statement M
 with-parts-spec =
