@@ -5,7 +5,7 @@ use mathlib.Core.List.{List, [], _∷_, _++_, map, map-append, append-nil, appen
 use mathlib.Core.Option.{Option, none, some, Option·some-ne-none}
 use Prim.Native.Nat.{ℕ, suc, _+_, _≤_}
 use native.Mathlib.Omega.{arith}
-use lib.ListN.{length, take, drop}
+use lib.ListN.{length, take, drop, drop-of-length-le}
 use lib.Seq.{drop-drop}
 use Rattle.catalogues.specs.Word.{Word, end, encode}
 use Rattle.lines.specs.Encoding.{lineFrom, linesOf, isEmpty, ofLine, entriesFrom, joined, ended, encoded}
@@ -136,3 +136,12 @@ by-wrong true ws n p = refl
 by-wrong false ws n {before} {after} {k} p =
     let same : n ≡ n + 0 = omega arith in
     (refl, subst (λ m. Stores (ws ++ (encode (end m) ∷ [])) before 0 after k) same p)
+
+-- after the last line, and the end word
+pub going-ends : {text before : List ℕ} {from : ℕ} {out : List ℕ} {e : Told} {after : List ℕ} {k w : ℕ} → Room before 0 → Going text before from out e → length text ≤ from
+    → w ≡ encode (end (e .entries)) → Stores (w ∷ []) out (e .words) after k → Tells (encodedLine (encoded text)) before after (record { words = k; entries = e .entries; wrong = e .wrong })
+going-ends {text} {before} {from} {out} {e} {after} {k} room g h f p =
+    let all : finish (e .wrong) (g .words) (e .entries) (some []) ≡ encodedLine (encoded text) =
+    ap (λ l. finish (e .wrong) (g .words) (e .entries) (entriesFrom (linesOf l))) (sym (drop-of-length-le text {i = from} h)) ∙ g .told in
+    let stored = stores-then room (g .stored) (subst (λ w. Stores (w ∷ []) out (e .words) after k) f p) in
+    subst (λ o. Tells o before after (record { words = k; entries = e .entries; wrong = e .wrong })) all (by-wrong (e .wrong) (g .words) (e .entries) stored)

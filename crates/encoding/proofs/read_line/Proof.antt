@@ -146,12 +146,14 @@ returns-2 c =
     let word = h .head-word .ensures ∙ (λ i. encode (head (number c1 i) (d c2 i) (m c3 i))) in
     let more = drop (p .length) s in
     let length-is = ap (λ q. q .length) (r .read-part .ensures .0) in
-    let n = c2 .count2 .result * c3 .count3 .result in
-    (c .with-parts .ensures .0
-    ∙ ap (λ l. headed (h .head-word .result) (encodedLine (coordinatesFrom n (takenAt 16 l) l))) (to-end (r .read-part .result .length) s)
-    ∙ (λ i. headed (word i) (encodedLine (coordinatesFrom (d c2 i * m c3 i) (takenAt 16 (drop (length-is i) s)) (drop (length-is i) s))))
-    ∙ head-first (head (at (p .numbers) 0) (at (p .numbers) 1) (at (p .numbers) 2)) (coordinatesFrom (at (p .numbers) 1 * at (p .numbers) 2) (takenAt 16 more) more)
-    ∙ sym (ap encodedLine (with-head s (heads (c1 .before .before)))), c .with-parts .ensures .1)
+    let n = c2 .count2 .result * c3 .count3 .result in (
+      c .with-parts .ensures .0
+          ∙ ap (λ l. headed (h .head-word .result) (encodedLine (coordinatesFrom n (takenAt 16 l) l))) (to-end (r .read-part .result .length) s)
+          ∙ (λ i. headed (word i) (encodedLine (coordinatesFrom (d c2 i * m c3 i) (takenAt 16 (drop (length-is i) s)) (drop (length-is i) s))))
+          ∙ head-first (head (at (p .numbers) 0) (at (p .numbers) 1) (at (p .numbers) 2)) (coordinatesFrom (at (p .numbers) 1 * at (p .numbers) 2) (takenAt 16 more) more)
+          ∙ sym (ap encodedLine (with-head s (heads (c1 .before .before)))),
+      c .with-parts .ensures .1,
+    )
 
 pub read-line-spec : {M : Type 1} → statement M
 read-line-spec =

@@ -151,9 +151,11 @@ returns-5 c =
     let w = e .before .before .before in
     let a = w .before .before .before .before .before .before .before .before .before .before .args in
     let p = takenAt 16 (a .s .now) in
-    let last-part = takenAt 1 (drop (p .length) (a .s .now)) in
-    (c .wrong4 .ensures .0
-    ∙ told-none (a .head) (no-see (a .n) p (a .s .now) (all (w .before .before .before)) (near w) (last (w .before .before .before .before)) (sym (ended (e .before)) ∙ e .if4 .left) (is-none last-part (sym (seen o) ∙ t .if5 .taken))), c .wrong4 .ensures .1)
+    let last-part = takenAt 1 (drop (p .length) (a .s .now)) in (
+      c .wrong4 .ensures .0
+          ∙ told-none (a .head) (no-see (a .n) p (a .s .now) (all (w .before .before .before)) (near w) (last (w .before .before .before .before)) (sym (ended (e .before)) ∙ e .if4 .left) (is-none last-part (sym (seen o) ∙ t .if5 .taken))),
+      c .wrong4 .ensures .1,
+    )
 
 returns-6 : tie.Need-returns-6
 returns-6 c =
@@ -162,11 +164,13 @@ returns-6 c =
     let w = e .before .before .before in
     let a = w .before .before .before .before .before .before .before .before .before .before .args in
     let p = takenAt 16 (a .s .now) in
-    let last-part = takenAt 1 (drop (p .length) (a .s .now)) in
-    (told-some (a .head) (map coordinateWord (p .numbers)) (see (at (last-part .numbers) 0) ∷ [])
-    (with-see (a .n) p (a .s .now) (all (w .before .before .before)) (near w) (last (w .before .before .before .before)) (sym (ended (e .before)) ∙ e .if4 .left) (is-some last-part (λ z. c .if5 .left (seen o ∙ z))))
-    (words w)
-    (see-told last-part (seen o) (c .if5 .left)), few (w .before .before .before .before .before .before .before))
+    let last-part = takenAt 1 (drop (p .length) (a .s .now)) in (
+      told-some (a .head) (map coordinateWord (p .numbers)) (see (at (last-part .numbers) 0) ∷ [])
+          (with-see (a .n) p (a .s .now) (all (w .before .before .before)) (near w) (last (w .before .before .before .before)) (sym (ended (e .before)) ∙ e .if4 .left) (is-some last-part (λ z. c .if5 .left (seen o ∙ z))))
+          (words w)
+          (see-told last-part (seen o) (c .if5 .left)),
+      few (w .before .before .before .before .before .before .before),
+    )
 
 pub with-parts-spec : {M : Type 1} → statement M
 with-parts-spec =
