@@ -3,7 +3,7 @@
 use libc::STDIN_FILENO;
 use libc::STDOUT_FILENO;
 
-mod lines_told;
+mod mistakes;
 
 // Writes the refusal of a catalogue.
 fn refused(number: u64, place: usize) {
@@ -100,8 +100,9 @@ pub fn encode() {
         return;
     }
     let mut out = [0u8; 18440];
-    let e = lines_told::encoded(&text[..n], &mut out);
+    let e = telling::tell(&text[..n], &mut out);
     if e.wrong {
+        mistakes::report_all(&text[..n]);
         return;
     }
     let k = e.words * 4;
