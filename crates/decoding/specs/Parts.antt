@@ -1,12 +1,12 @@
 -- An entry's line as the code puts it: what stands before the coordinates, the coordinates, and what follows them.
-use mathlib.Core.Path.{_≡_, refl, sym, ap, ap₂, _∙_}
+use mathlib.Core.Path.{_≡_, refl, sym, ap, _∙_}
 use mathlib.Core.Bool.{Bool, true, false}
 use mathlib.Core.List.{List, [], _∷_, _++_, map, append-assoc}
 use Prim.Native.Nat.{ℕ, _+_, _*_}
 use lib.ListN.{length, take, length-append}
 use Rattle.integers.specs.Decimal.{decimal, signed}
 use Rattle.catalogues.specs.Catalogue as definition
-use Rattle.catalogues.specs.Catalogue.{See, coordinates}
+use Rattle.catalogues.specs.Catalogue.{coordinates}
 use Rattle.catalogues.specs.Form.{EntryFits}
 use Rattle.folds.specs.Listing.{after}
 use Rattle.records.specs.declared.Entry.{Entry}

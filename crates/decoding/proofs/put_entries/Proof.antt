@@ -1,11 +1,11 @@
 -- The lines of the first k entries are put.
-use mathlib.Core.Path.{_≡_, sym, ap, _∙_, subst}
-use Prim.Native.Nat.{_-_, _≤_, _<_}
+use mathlib.Core.Path.{_≡_, sym, ap, subst}
+use Prim.Native.Nat.{_-_, _<_}
 use native.Mathlib.Omega.{arith}
 use lib.ListN.{length, take}
 use borrow.Author.Needs.{needs}
 use Rattle.catalogues.specs.Form.{EntryFits}
-use Rattle.records.specs.Entries.{entryIn, entriesIn, beyond, entryAt, all-stored, length-entries, inside, at-place, entry-has}
+use Rattle.records.specs.Entries.{entryIn, entriesIn, beyond, all-stored, length-entries, inside, at-place, entry-has}
 use Rattle.lines.specs.Text.{entryText}
 use Rattle.texts.specs.Puts.{Puts, puts-none, puts-length}
 use Rattle.texts.specs.Joined.{joined, joined-room, puts-next, puts-all}

@@ -1,6 +1,5 @@
 -- A negative number fits nowhere.
 use mathlib.Core.Path.{_≡_, sym, ap, _∙_}
-use mathlib.Core.Bool.{true, false}
 use lib.Dec.{leb}
 use mir.Facts.{toZ-ofZ}
 use borrow.Author.Needs.{needs}

@@ -4,7 +4,7 @@ use mathlib.Core.List.{[], _∷_, _++_}
 use Prim.Native.Nat.{_+_, _-_, _≤_}
 use native.Mathlib.Numerals.{add-one}
 use native.Mathlib.Omega.{arith}
-use lib.ListN.{length, getD, take}
+use lib.ListN.{getD, take}
 use lib.Seq.{take-suc, take-all}
 use borrow.Author.Needs.{needs}
 use Rattle.telling.specs.Stores.{Room, Stores, stores-none, stores-room, stores-then}

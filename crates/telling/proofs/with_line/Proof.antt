@@ -8,8 +8,8 @@ use borrow.Author.Needs.{needs}
 use borrow.Author.Tests.{not-true, not-false, eq-eqb, ne-eqb}
 use Rattle.requests.specs.Numbers.{leading}
 use Rattle.requests.specs.Tokens.{isBlank}
-use Rattle.lines.specs.Encoding.{lineFrom, isEmpty}
-use Rattle.encoding.specs.Told.{isNone, encodedLine}
+use Rattle.lines.specs.Encoding.{isEmpty}
+use Rattle.encoding.specs.Told.{isNone}
 use Rattle.telling.specs.Tells.{lineWords, adds-nothing, adds-wrong, adds-entry}
 use Rattle.telling.proofs.with_line.Statement.{statement}
 use Rattle.telling.proofs.with_line.Tie as tie
