@@ -2,29 +2,20 @@
 ghost use Prim.Native.Nat.{_≤_};
 ghost use lib.ListN.{length};
 use encoding::Mistake;
-use libc::STDOUT_FILENO;
-
-fn error(line: u64, what: &[u8]) {
-    io::write_all(STDOUT_FILENO, b"error ");
-    printing::number(line);
-    io::write_all(STDOUT_FILENO, b": ");
-    io::write_all(STDOUT_FILENO, what);
-    printing::newline();
-}
 
 // Writes what a mistake is.
 fn report(line: u64, mistake: Mistake) {
     match mistake {
         Mistake::None => {}
-        Mistake::PartMissing => error(line, b"a part is missing"),
-        Mistake::TooLarge => error(line, b"a number beyond 64 bits"),
-        Mistake::TooMany => error(line, b"too many numbers"),
-        Mistake::NoNumber => error(line, b"something that is no number"),
-        Mistake::NotThree => error(line, b"not number, d and m"),
-        Mistake::NoHead => error(line, b"number, d or m that no head holds"),
-        Mistake::NotAll => error(line, b"not d times m coordinates"),
-        Mistake::Beyond => error(line, b"a coordinate beyond 20000"),
-        Mistake::NoSee => error(line, b"the last part is not the number of an entry"),
+        Mistake::PartMissing => answers::error(line, b"a part is missing"),
+        Mistake::TooLarge => answers::error(line, b"a number beyond 64 bits"),
+        Mistake::TooMany => answers::error(line, b"too many numbers"),
+        Mistake::NoNumber => answers::error(line, b"something that is no number"),
+        Mistake::NotThree => answers::error(line, b"not number, d and m"),
+        Mistake::NoHead => answers::error(line, b"number, d or m that no head holds"),
+        Mistake::NotAll => answers::error(line, b"not d times m coordinates"),
+        Mistake::Beyond => answers::error(line, b"a coordinate beyond 20000"),
+        Mistake::NoSee => answers::error(line, b"the last part is not the number of an entry"),
     }
 }
 

@@ -1,5 +1,4 @@
 // A line answered: a request, or what is wrong with it.
-use libc::STDOUT_FILENO;
 use requests::Kind;
 
 // What the lines ask for.
@@ -8,23 +7,15 @@ pub enum Command {
     Nearest,
 }
 
-pub fn error(line: u64, what: &[u8]) {
-    io::write_all(STDOUT_FILENO, b"error ");
-    printing::number(line);
-    io::write_all(STDOUT_FILENO, b": ");
-    io::write_all(STDOUT_FILENO, what);
-    printing::newline();
-}
-
 // Says what is wrong where a part stops in a way that it may not.
 fn mistake(line: u64, stop: Kind) {
     match stop {
-        Kind::Semicolon => error(line, b"a part too many"),
-        Kind::End => error(line, b"a part is missing"),
-        Kind::TooLarge => error(line, b"a number beyond 64 bits"),
-        Kind::NoCount => error(line, b"d and m are counts"),
-        Kind::TooMany => error(line, b"too many numbers"),
-        _ => error(line, b"something that is no number"),
+        Kind::Semicolon => answers::error(line, b"a part too many"),
+        Kind::End => answers::error(line, b"a part is missing"),
+        Kind::TooLarge => answers::error(line, b"a number beyond 64 bits"),
+        Kind::NoCount => answers::error(line, b"d and m are counts"),
+        Kind::TooMany => answers::error(line, b"too many numbers"),
+        _ => answers::error(line, b"something that is no number"),
     }
 }
 
