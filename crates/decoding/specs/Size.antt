@@ -3,10 +3,10 @@ use mathlib.Core.Path.{_≡_}
 use mathlib.Core.Bool.{false}
 use mathlib.Core.List.{List, [], _∷_, _++_, map}
 use mathlib.Core.Option.{Option, none, some}
-use Prim.Native.Nat.{ℕ, suc, _+_, _*_, _≤_}
+use Prim.Native.Nat.{ℕ, _+_, _*_, _≤_}
 use native.Mathlib.Omega.{arith}
 use lib.Dec.{ltb}
-use lib.IntN.{ℤ, pos, negsuc, natAbs}
+use lib.IntN.{ℤ, natAbs}
 use lib.ListN.{length, length-append}
 use borrow.Author.Tests.{ltb-false}
 use Rattle.integers.specs.All.{All}
@@ -20,11 +20,8 @@ use Rattle.catalogues.specs.ReadEntries.{SeeFits}
 use Rattle.catalogues.specs.ReadBack.{sees-fit}
 use Rattle.catalogues.specs.EntriesAccepted.{few-coordinates, all-near}
 use Rattle.folds.specs.Listing.{after}
+use Rattle.folds.specs.ListingSize.{signed-length}
 use Rattle.lines.specs.Text.{semicolon, seeFields, entryFields, entryText, textOf}
-
-signed-length : (z : ℤ) → natAbs z ≤ mostSize → length (signed z) ≤ 6
-signed-length (pos n) h = omega (arith, decimal-length 5 n (omega arith) (omega arith))
-signed-length (negsuc n) h = omega (arith, decimal-length 5 (suc n) (omega arith) (omega arith))
 
 see-length : (o : Option See) → SeeFits o → length (after (seeFields o)) ≤ 13
 see-length none h = omega arith

@@ -117,7 +117,10 @@ cast-head-word : tie.Need-cast-head-word
 cast-head-word c = omega (arith, number-most (c .before .before .before .before))
 
 head-word-requires : tie.Need-head-word-requires
-head-word-requires c κs = (omega (arith, number-most (c .before .before .before .before)), (omega (arith, d-most (c .before .before)), omega (arith, m-most c)))
+head-word-requires c κs =
+    let d-few = d-most (c .before .before) in
+    let m-few = m-most c in
+    (omega (arith, number-most (c .before .before .before .before)), (omega (arith, d-few, m-few), omega (arith, d-few, m-few)))
 
 sub-with-parts : tie.Need-sub-with-parts
 sub-with-parts c = search needs
