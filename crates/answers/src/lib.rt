@@ -11,6 +11,15 @@ pub fn refused(number: u64, place: u64) {
     printing::newline();
 }
 
+// Writes what is wrong with a line of the input.
+pub fn error(line: u64, what: &[u8]) {
+    io::write_all(STDOUT_FILENO, b"error ");
+    printing::number(line);
+    io::write_all(STDOUT_FILENO, b": ");
+    io::write_all(STDOUT_FILENO, what);
+    printing::newline();
+}
+
 // Writes a line: its name and the first n numbers of r.
 fn line(name: &[u8], r: [i64; 4], n: usize) {
     io::write_all(STDOUT_FILENO, name);

@@ -3,8 +3,7 @@
 use libc::STDIN_FILENO;
 use libc::STDOUT_FILENO;
 
-mod decoding;
-mod encoding;
+mod mistakes;
 
 // Writes the refusal of a catalogue.
 fn refused(number: u64, place: usize) {
@@ -32,11 +31,12 @@ pub fn fold() {
 }
 
 // A number as lookup takes it. What is no entry's number becomes 0, which is none either.
-fn asked(n: usize) -> u32 {
-    if 1048575 < n {
+fn asked(n: i64) -> u32 {
+    let k = requests::first_part::count(n);
+    if 1048575 < k {
         return 0;
     }
-    n as u32
+    k as u32
 }
 
 // Writes the standing number of the entry with this number.
@@ -57,14 +57,14 @@ pub fn lookup(word: &[u8]) {
     let mut numbers = [0i64; 1];
     let p = requests::read_part(word, &mut numbers);
     let stop = p.stop;
-    if p.count != 1 || !encoding::is_end(stop) {
+    if p.count != 1 || !requests::is_end(stop) {
         io::write_all(
             STDOUT_FILENO,
             b"error: lookup wants the number of an entry\n",
         );
         return;
     }
-    look_up(asked(encoding::whole(numbers[0])));
+    look_up(asked(numbers[0]));
 }
 
 // Writes the listing.
@@ -86,7 +86,9 @@ pub fn decode() {
         refused(c.refusal, c.place);
         return;
     }
-    decoding::entries(c);
+    let mut text = [0u8; 40000];
+    let length = decoding::put_entries(c, &mut text);
+    write_first(&text, length);
 }
 
 // Writes the catalogue that a text tells, unless something in it is wrong.
@@ -98,8 +100,9 @@ pub fn encode() {
         return;
     }
     let mut out = [0u8; 18440];
-    let e = encoding::encoded(&text[..n], &mut out);
+    let e = telling::tell(&text[..n], &mut out);
     if e.wrong {
+        mistakes::report_all(&text[..n]);
         return;
     }
     let k = e.words * 4;

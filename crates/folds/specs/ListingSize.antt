@@ -37,7 +37,7 @@ fields-length : (k : ℕ) (fields : List (List ℕ)) → All (λ f. length f ≤
 fields-length k [] h = omega arith
 fields-length k (f ∷ fields) h = omega (arith, length-append f (after fields), h .0, fields-length k fields (h .1))
 
-signed-length : (z : ℤ) → natAbs z ≤ mostSize → length (signed z) ≤ 6
+pub signed-length : (z : ℤ) → natAbs z ≤ mostSize → length (signed z) ≤ 6
 signed-length (pos n) h = omega (arith, decimal-length 5 n (omega arith) (omega arith))
 signed-length (negsuc n) h = omega (arith, decimal-length 5 (suc n) (omega arith) (omega arith))
 

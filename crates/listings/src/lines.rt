@@ -2,28 +2,10 @@
 ghost use mathlib.Core.List.{[], _∷_, map};
 ghost use Prim.Native.Nat.{_+_, _≤_};
 ghost use lib.ListN.{length};
-ghost use Rattle.integers.specs.Decimal.{decimal, signed};
+ghost use Rattle.integers.specs.Decimal.{decimal};
 ghost use Rattle.folds.specs.Listing.{after, line, refusedWord};
 ghost use Rattle.texts.specs.Puts.{Puts};
-ghost use Rattle.listings.specs.Lines.{blank, vectorLine};
-
-// A blank and a number.
-fn put_number(out: &mut [u8], at: usize, n: u64) -> usize
-    requires { ⌜ at + length (blank decimal n) ≤ length (now out) ⌝ }
-    ensures { λ r. ⌜ Puts (blank decimal n) (now (out .entry)) at (now (out .exit)) r ⌝ }
-{
-    let k = texts::put_byte(out, at, b' ');
-    texts::put_decimal(out, k, n)
-}
-
-// A blank and a coordinate.
-fn put_coordinate(out: &mut [u8], at: usize, z: i64) -> usize
-    requires { ⌜ at + length (blank signed z) ≤ length (now out) ⌝ }
-    ensures { λ r. ⌜ Puts (blank signed z) (now (out .entry)) at (now (out .exit)) r ⌝ }
-{
-    let k = texts::put_byte(out, at, b' ');
-    texts::put_signed(out, k, z)
-}
+ghost use Rattle.listings.specs.Lines.{vectorLine};
 
 // Numbers, each behind a blank, and the end of the line.
 fn put_numbers(out: &mut [u8], at: usize, numbers: &[u64]) -> usize
@@ -32,19 +14,7 @@ fn put_numbers(out: &mut [u8], at: usize, numbers: &[u64]) -> usize
 {
     let mut n = at;
     for i in 0..numbers.len() {
-        n = put_number(out, n, numbers[i]);
-    }
-    texts::put_byte(out, n, b'\n')
-}
-
-// Coordinates, each behind a blank, and the end of the line.
-fn put_coordinates(out: &mut [u8], at: usize, coordinates: &[i64]) -> usize
-    requires { ⌜ at + length (after (map signed (now coordinates))) ≤ length (now out) ⌝ }
-    ensures { λ r. ⌜ Puts (after (map signed (now (coordinates .entry)))) (now (out .entry)) at (now (out .exit)) r ⌝ }
-{
-    let mut n = at;
-    for i in 0..coordinates.len() {
-        n = put_coordinate(out, n, coordinates[i]);
+        n = fields::put_number(out, n, numbers[i]);
     }
     texts::put_byte(out, n, b'\n')
 }
@@ -56,7 +26,8 @@ pub(crate) fn put_vector(out: &mut [u8], at: usize, v: [i64; 4], m: usize) -> us
     ensures { λ r. ⌜ Puts (vectorLine m v) (now (out .entry)) at (now (out .exit)) r ⌝ }
 {
     let k = texts::put_byte(out, at, b'v');
-    put_coordinates(out, k, &v[..m])
+    let n = fields::put_coordinates(out, k, &v[..m]);
+    texts::put_byte(out, n, b'\n')
 }
 
 // A refusal and its place.

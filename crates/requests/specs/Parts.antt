@@ -19,6 +19,24 @@ isNumber TooLarge = false
 isNumber TooMany = false
 isNumber NoCount = false
 
+abbrev pub isSemicolon : Kind → Bool
+isSemicolon Number = false
+isSemicolon Semicolon = true
+isSemicolon End = false
+isSemicolon Unexpected = false
+isSemicolon TooLarge = false
+isSemicolon TooMany = false
+isSemicolon NoCount = false
+
+abbrev pub isEnd : Kind → Bool
+isEnd Number = false
+isEnd Semicolon = false
+isEnd End = true
+isEnd Unexpected = false
+isEnd TooLarge = false
+isEnd TooMany = false
+isEnd NoCount = false
+
 -- the numbers of a part, how many bytes they take with the token after them, and that token's kind
 pub record Taken : Type 0 where
   pub numbers : List ℤ

@@ -2,7 +2,7 @@
 ghost use mathlib.Core.Path.{_≡_};
 ghost use Prim.Native.Nat.{_≤_};
 ghost use lib.ListN.{length};
-ghost use Rattle.requests.specs.Parts.{isNumber, takenAt, partOf, filled};
+ghost use Rattle.requests.specs.Parts.{isNumber, isSemicolon, isEnd, takenAt, partOf, filled};
 use tokens::read_token;
 
 pub mod first_part;
@@ -49,6 +49,34 @@ fn is_number(kind: Kind) -> bool
         Kind::Number => true,
         Kind::Semicolon => false,
         Kind::End => false,
+        Kind::Unexpected => false,
+        Kind::TooLarge => false,
+        Kind::TooMany => false,
+        Kind::NoCount => false,
+    }
+}
+
+pub fn is_semicolon(kind: Kind) -> bool
+    ensures { λ r. ⌜ r ≡ isSemicolon kind ⌝ }
+{
+    match kind {
+        Kind::Number => false,
+        Kind::Semicolon => true,
+        Kind::End => false,
+        Kind::Unexpected => false,
+        Kind::TooLarge => false,
+        Kind::TooMany => false,
+        Kind::NoCount => false,
+    }
+}
+
+pub fn is_end(kind: Kind) -> bool
+    ensures { λ r. ⌜ r ≡ isEnd kind ⌝ }
+{
+    match kind {
+        Kind::Number => false,
+        Kind::Semicolon => false,
+        Kind::End => true,
         Kind::Unexpected => false,
         Kind::TooLarge => false,
         Kind::TooMany => false,

@@ -16,7 +16,7 @@ struct Place {
 fn answer(command: Command, buffer: &[u8], p: Place) {
     let n = p.length;
     if n > buffer.len() {
-        replies::error(p.line, b"longer than 4096 bytes");
+        answers::error(p.line, b"longer than 4096 bytes");
         return;
     }
     let s = &buffer[..n];

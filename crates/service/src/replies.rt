@@ -1,5 +1,4 @@
 // A line answered: a request, or what is wrong with it.
-use libc::STDOUT_FILENO;
 use requests::Kind;
 
 // What the lines ask for.
@@ -8,37 +7,15 @@ pub enum Command {
     Nearest,
 }
 
-pub fn error(line: u64, what: &[u8]) {
-    io::write_all(STDOUT_FILENO, b"error ");
-    printing::number(line);
-    io::write_all(STDOUT_FILENO, b": ");
-    io::write_all(STDOUT_FILENO, what);
-    printing::newline();
-}
-
 // Says what is wrong where a part stops in a way that it may not.
 fn mistake(line: u64, stop: Kind) {
     match stop {
-        Kind::Semicolon => error(line, b"a part too many"),
-        Kind::End => error(line, b"a part is missing"),
-        Kind::TooLarge => error(line, b"a number beyond 64 bits"),
-        Kind::NoCount => error(line, b"d and m are counts"),
-        Kind::TooMany => error(line, b"too many numbers"),
-        _ => error(line, b"something that is no number"),
-    }
-}
-
-fn is_semicolon(stop: Kind) -> bool {
-    match stop {
-        Kind::Semicolon => true,
-        _ => false,
-    }
-}
-
-fn is_end(stop: Kind) -> bool {
-    match stop {
-        Kind::End => true,
-        _ => false,
+        Kind::Semicolon => answers::error(line, b"a part too many"),
+        Kind::End => answers::error(line, b"a part is missing"),
+        Kind::TooLarge => answers::error(line, b"a number beyond 64 bits"),
+        Kind::NoCount => answers::error(line, b"d and m are counts"),
+        Kind::TooMany => answers::error(line, b"too many numbers"),
+        _ => answers::error(line, b"something that is no number"),
     }
 }
 
@@ -46,7 +23,7 @@ fn is_end(stop: Kind) -> bool {
 fn reduce(s: &[u8], line: u64) {
     let counts = requests::first_part::read_counts(s);
     let first = counts.stop;
-    if !is_semicolon(first) {
+    if !requests::is_semicolon(first) {
         mistake(line, first);
         return;
     }
@@ -54,7 +31,7 @@ fn reduce(s: &[u8], line: u64) {
     let mut numbers = [0i64; 2048];
     let part = requests::read_part(&s[at..], &mut numbers);
     let last = part.stop;
-    if !is_end(last) {
+    if !requests::is_end(last) {
         mistake(line, last);
         return;
     }
@@ -70,7 +47,7 @@ fn reduce(s: &[u8], line: u64) {
 fn nearest(s: &[u8], line: u64) {
     let counts = requests::first_part::read_counts(s);
     let first = counts.stop;
-    if !is_semicolon(first) {
+    if !requests::is_semicolon(first) {
         mistake(line, first);
         return;
     }
@@ -78,7 +55,7 @@ fn nearest(s: &[u8], line: u64) {
     let mut numbers = [0i64; 2048];
     let part = requests::read_part(&s[at..], &mut numbers);
     let second = part.stop;
-    if !is_semicolon(second) {
+    if !requests::is_semicolon(second) {
         mistake(line, second);
         return;
     }
@@ -86,7 +63,7 @@ fn nearest(s: &[u8], line: u64) {
     let mut target = [0i64; 2048];
     let rest = requests::read_part(&s[from..], &mut target);
     let last = rest.stop;
-    if !is_end(last) {
+    if !requests::is_end(last) {
         mistake(line, last);
         return;
     }

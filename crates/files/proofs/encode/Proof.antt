@@ -27,14 +27,23 @@ returns c = search needs
 array-share-prefix-text : tie.Need-array-share-prefix-text
 array-share-prefix-text c = search needs
 
-slice-aggregate-encoded : tie.Need-slice-aggregate-encoded
-slice-aggregate-encoded c = search needs
+slice-aggregate-tell : tie.Need-slice-aggregate-tell
+slice-aggregate-tell c = search needs
 
-slice-aggregate-encoded-2 : tie.Need-slice-aggregate-encoded-2
-slice-aggregate-encoded-2 c = search needs
+slice-aggregate-tell-2 : tie.Need-slice-aggregate-tell-2
+slice-aggregate-tell-2 c = search needs
 
-encoded-requires : tie.Need-encoded-requires
-encoded-requires c κs = search needs
+tell-requires : tie.Need-tell-requires
+tell-requires c κs = search needs
+
+array-share-prefix-text-2 : tie.Need-array-share-prefix-text-2
+array-share-prefix-text-2 c = search needs
+
+slice-aggregate-report-all : tie.Need-slice-aggregate-report-all
+slice-aggregate-report-all c = search needs
+
+report-all-requires : tie.Need-report-all-requires
+report-all-requires c κs = search needs
 
 returns-2 : tie.Need-returns-2
 returns-2 c = search needs
@@ -77,9 +86,12 @@ encode-spec =
     write-all-requires
     returns
     array-share-prefix-text
-    slice-aggregate-encoded
-    slice-aggregate-encoded-2
-    encoded-requires
+    slice-aggregate-tell
+    slice-aggregate-tell-2
+    tell-requires
+    array-share-prefix-text-2
+    slice-aggregate-report-all
+    report-all-requires
     returns-2
     mul-k
     array-share-prefix-out

@@ -7,7 +7,8 @@ use borrow.Author.Needs.{needs}
 use Rattle.integers.specs.Decimal.{decimal}
 use Rattle.texts.specs.Puts.{Puts, puts-none, puts-then, puts-length}
 use Rattle.texts.specs.Joined.{joined, joined-room, puts-next, puts-all}
-use Rattle.listings.specs.Lines.{blank, after-joined, fields-length}
+use Rattle.fields.specs.Blank.{blank, after-joined}
+use Rattle.listings.specs.Lines.{fields-length}
 use Rattle.listings.proofs.lines.put_numbers.Statement.{statement}
 use Rattle.listings.proofs.lines.put_numbers.Tie as tie
 

@@ -1,10 +1,14 @@
--- The letter, then the coordinates.
-use mathlib.Core.Path.{_≡_, sym}
+-- The letter, the coordinates, the end of the line.
+use mathlib.Core.Path.{_≡_, sym, ap, subst}
+use mathlib.Core.List.{_∷_}
 use native.Mathlib.Omega.{arith}
-use lib.ListN.{length}
+use lib.ListN.{length, take}
 use lib.Seq.{length-take-le}
 use borrow.Author.Needs.{needs}
-use Rattle.texts.specs.Puts.{puts-then}
+use Rattle.integers.specs.Decimal.{signed}
+use Rattle.texts.specs.Puts.{Puts, puts-then}
+use Rattle.fields.specs.Blank.{after-joined}
+use Rattle.listings.specs.Lines.{fields-length}
 use Rattle.listings.proofs.lines.put_vector.Statement.{statement}
 use Rattle.listings.proofs.lines.put_vector.Tie as tie
 
@@ -23,15 +27,37 @@ slice-aggregate-put-coordinates c =
     sym (length-take-le (s .args .m) (s .args .t3) (omega (arith, s .pre .0, wide s)))
 
 put-coordinates-requires : tie.Need-put-coordinates-requires
-put-coordinates-requires c κs = search needs
+put-coordinates-requires c κs =
+    let b = c .before .before .before .before in
+    let s = b .before .before .before in
+    omega (arith, s .pre .1, fields-length signed (take (s .args .m) (s .args .t3)), b .put-byte .ensures .place, b .put-byte .kept .0)
+
+put-byte-requires-2 : tie.Need-put-byte-requires-2
+put-byte-requires-2 c κs =
+    let p = c .before .before .before in
+    let b = p .before .before .before .before .before in
+    let s = b .before .before .before in
+    omega (
+      arith,
+      s .pre .1,
+      fields-length signed (take (s .args .m) (s .args .t3)),
+      b .put-byte .ensures .place,
+      b .put-byte .kept .0,
+      p .put-coordinates .ensures .place,
+      p .put-coordinates .kept .0,
+    )
 
 same-length : tie.Need-same-length
 same-length c = search needs
 
 returns : tie.Need-returns
 returns c =
-    let p = c .before .before in
-    puts-then (p .before .before .before .before .before .put-byte .ensures) (p .put-coordinates .ensures)
+    let n = c .before .before in
+    let p = n .before .before .before .before in
+    let b = p .before .before .before .before .before in
+    let a = b .before .before .before .args in
+    subst (λ text. Puts text (a .out .now) (a .at) (n .put-byte2 .last .0) (n .put-byte2 .result)) (ap (λ text. 118 ∷ text) (after-joined signed (take (a .m) (a .t3))))
+    (puts-then (puts-then (b .put-byte .ensures) (p .put-coordinates .ensures)) (n .put-byte2 .ensures))
 
 pub put-vector-spec : {M : Type 1} → statement M
 put-vector-spec =
@@ -41,5 +67,6 @@ put-vector-spec =
     array-share-prefix-v
     slice-aggregate-put-coordinates
     put-coordinates-requires
+    put-byte-requires-2
     same-length
     returns)

@@ -1,0 +1,3 @@
+-- The text of a catalogue in the parts that the code puts, and how long it is.
+pub mod Parts
+pub mod Size

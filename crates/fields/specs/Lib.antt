@@ -1,0 +1,2 @@
+-- Fields of a line.
+pub mod Blank
