@@ -16,8 +16,8 @@ use Rattle.catalogues.specs.Word.{Word, head, see, encode}
 use Rattle.catalogues.specs.Write.{coordinateWord}
 use Rattle.checks.specs.Any.{beyond}
 use Rattle.requests.specs.declared.Kind.{Kind}
-use Rattle.requests.specs.Parts.{Taken, takenAt}
-use Rattle.lines.specs.Encoding.{isEnd, isSemicolon, fits, at, isSee, seeFrom, lastFrom, before, areCoordinates, coordinatesFrom, isHead, lineFrom}
+use Rattle.requests.specs.Parts.{isEnd, isSemicolon, Taken, takenAt}
+use Rattle.lines.specs.Encoding.{fits, at, isSee, seeFrom, lastFrom, before, areCoordinates, coordinatesFrom, isHead, lineFrom}
 use Rattle.encoding.specs.Told.{encodedLine, headed, isLast, seeTold, seeNumber}
 
 -- ---- what a line tells, as numbers

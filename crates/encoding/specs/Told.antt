@@ -8,8 +8,8 @@ use lib.IntN.{ℤ}
 use lib.ListN.{take}
 use Rattle.catalogues.specs.Word.{Word, see, encode}
 use Rattle.requests.specs.declared.Kind.{Kind}
-use Rattle.requests.specs.Parts.{Taken}
-use Rattle.lines.specs.Encoding.{isEnd, isSemicolon, fits, at, isSee}
+use Rattle.requests.specs.Parts.{isEnd, isSemicolon, Taken}
+use Rattle.lines.specs.Encoding.{fits, at, isSee}
 use Rattle.encoding.specs.declared.Mistake.{Mistake}
 use Rattle.encoding.specs.declared.Mistake.the-variants.{None, PartMissing, TooLarge, TooMany, NoNumber, NotThree, NoHead, NotAll, Beyond, NoSee}
 use Rattle.encoding.specs.declared.Line.{Line}

@@ -1,5 +1,5 @@
 -- The words that a text tells: of each line that is not blank those of an entry, then the end word; none where a line is wrong.
-use mathlib.Core.Bool.{Bool, true, false, cond, not, _&&_}
+use mathlib.Core.Bool.{Bool, false, cond, not, _&&_}
 use mathlib.Core.List.{List, [], _∷_, _++_, map}
 use mathlib.Core.Option.{Option, none, some}
 use Prim.Native.Nat.{ℕ, _*_}
@@ -11,30 +11,11 @@ use Rattle.lattices.specs.Refusal.{any, mostSize}
 use Rattle.catalogues.specs.Word.{Word, head, see, end}
 use Rattle.catalogues.specs.Write.{coordinateWord}
 use Rattle.requests.specs.declared.Kind.{Kind}
-use Rattle.requests.specs.declared.Kind.the-variants.{Number, Semicolon, End, Unexpected, TooLarge, TooMany, NoCount}
 use Rattle.requests.specs.Numbers.{leading}
 use Rattle.requests.specs.Tokens.{isBlank}
-use Rattle.requests.specs.Parts.{Taken, takenAt}
+use Rattle.requests.specs.Parts.{isSemicolon, isEnd, Taken, takenAt}
 
 -- ---- a line
-
-abbrev pub isEnd : Kind → Bool
-isEnd Number = false
-isEnd Semicolon = false
-isEnd End = true
-isEnd Unexpected = false
-isEnd TooLarge = false
-isEnd TooMany = false
-isEnd NoCount = false
-
-abbrev pub isSemicolon : Kind → Bool
-isSemicolon Number = false
-isSemicolon Semicolon = true
-isSemicolon End = false
-isSemicolon Unexpected = false
-isSemicolon TooLarge = false
-isSemicolon TooMany = false
-isSemicolon NoCount = false
 
 -- from 0 to the most that a field holds
 abbrev pub fits : ℕ → ℤ → Bool

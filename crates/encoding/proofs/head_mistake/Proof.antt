@@ -5,7 +5,8 @@ use lib.Dec.{eqb}
 use mir.Facts.{toZ-ofZ}
 use borrow.Author.Needs.{needs}
 use borrow.Author.Tests.{not-true, not-false, eq-eqb, ne-eqb}
-use Rattle.lines.specs.Encoding.{isSemicolon, fits}
+use Rattle.requests.specs.Parts.{isSemicolon}
+use Rattle.lines.specs.Encoding.{fits}
 use Rattle.encoding.proofs.head_mistake.Statement.{statement}
 use Rattle.encoding.proofs.head_mistake.Tie as tie
 

@@ -13,8 +13,8 @@ use borrow.Author.Tests.{not-true, not-false, eq-eqb, ne-eqb}
 use Rattle.lattices.specs.Vector.{nth}
 use Rattle.catalogues.specs.Word.{see, encode}
 use Rattle.requests.specs.Counts.{countOf}
-use Rattle.requests.specs.Parts.{takenAt}
-use Rattle.lines.specs.Encoding.{isEnd, fits, at}
+use Rattle.requests.specs.Parts.{isEnd, takenAt}
+use Rattle.lines.specs.Encoding.{fits, at}
 use Rattle.encoding.specs.Fields.{fits-size, fits-most, put-at}
 use Rattle.encoding.specs.Parts.{see-none, see-some}
 use Rattle.encoding.proofs.see_of.Statement.{statement}

@@ -13,8 +13,8 @@ use Rattle.catalogues.specs.Word.{see}
 use Rattle.catalogues.specs.Write.{coordinateWord}
 use Rattle.catalogues.specs.ReadVectors.{encoded}
 use Rattle.checks.specs.Any.{beyond}
-use Rattle.requests.specs.Parts.{takenAt}
-use Rattle.lines.specs.Encoding.{isEnd, at}
+use Rattle.requests.specs.Parts.{isEnd, takenAt}
+use Rattle.lines.specs.Encoding.{at}
 use Rattle.encoding.specs.Told.{isLast, seeNumber}
 use Rattle.encoding.specs.Fields.{to-end}
 use Rattle.encoding.specs.Parts.{told-none, told-some, stops-wrong, other-count, some-beyond, with-none, no-see, with-see, is-none, is-some, see-told}
