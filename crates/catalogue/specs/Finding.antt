@@ -4,14 +4,14 @@ use mathlib.Core.Logic.{_≢_}
 use mathlib.Core.List.{List}
 use mathlib.Core.Option.{Option}
 use Prim.Native.Nat.{ℕ}
-use Rattle.catalogues.specs.Catalogue.{Outcome, refused, accepted}
-use Rattle.catalogues.specs.Read.{read}
-use Rattle.folds.specs.Fold.{closedList, lookup}
-use Rattle.folds.specs.Services.{Lookup, nowhere, lookedUp, lookedIn, lookupOf}
-use Rattle.records.specs.declared.Catalogue.{Catalogue}
-use Rattle.records.specs.Catalogues.{catalogueOf}
-use Rattle.records.specs.Entries.{entriesIn}
-use Rattle.records.specs.Again.{read-as}
+use Rattle.catalogue_rules.specs.Catalogue.{Outcome, refused, accepted}
+use Rattle.catalogue_rules.specs.Read.{read}
+use Rattle.fold_rules.specs.Fold.{closedList, lookup}
+use Rattle.fold_rules.specs.Services.{Lookup, nowhere, lookedUp, lookedIn, lookupOf}
+use Rattle.catalogue_records.specs.declared.Catalogue.{Catalogue}
+use Rattle.catalogue_records.specs.Catalogues.{catalogueOf}
+use Rattle.catalogue_records.specs.Entries.{entriesIn}
+use Rattle.catalogue_records.specs.Again.{read-as}
 use Rattle.catalogue.specs.declared.Found.{Found}
 
 -- the definition's answer in the struct

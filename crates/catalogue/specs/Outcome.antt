@@ -3,20 +3,20 @@ use mathlib.Core.Path.{_≡_, refl, sym, ap, _∙_, subst}
 use mathlib.Core.Logic.{_≢_}
 use mathlib.Core.List.{List}
 use Prim.Native.Nat.{ℕ, _≤_}
-use Rattle.catalogues.specs.Catalogue as definition
-use Rattle.catalogues.specs.Catalogue.{Outcome, refused, accepted}
-use Rattle.catalogues.specs.Read.{read, checked}
-use Rattle.catalogues.specs.Form.{WellFormed}
-use Rattle.catalogues.specs.Output.{untouched, filledWith, lentRows, output}
-use Rattle.folds.specs.Fold.{closedList, printedIn, folded}
-use Rattle.folds.specs.Services.{foldedOutcome, foldOf}
-use Rattle.folds.specs.FoldedForm.{prints-form, folded-written}
-use Rattle.records.specs.declared.Catalogue.{Catalogue}
-use Rattle.records.specs.Catalogues.{catalogueOf}
-use Rattle.records.specs.Entries.{entriesIn, entries-back}
-use Rattle.records.specs.Again.{read-as}
-use Rattle.keeping.specs.Keeping.{Ready}
-use Rattle.folding.specs.Folding.{foldedOf}
+use Rattle.catalogue_rules.specs.Catalogue as definition
+use Rattle.catalogue_rules.specs.Catalogue.{Outcome, refused, accepted}
+use Rattle.catalogue_rules.specs.Read.{read, checked}
+use Rattle.catalogue_rules.specs.Form.{WellFormed}
+use Rattle.catalogue_rules.specs.Output.{untouched, filledWith, lentRows, output}
+use Rattle.fold_rules.specs.Fold.{closedList, printedIn, folded}
+use Rattle.fold_rules.specs.Services.{foldedOutcome, foldOf}
+use Rattle.fold_rules.specs.FoldedForm.{prints-form, folded-written}
+use Rattle.catalogue_records.specs.declared.Catalogue.{Catalogue}
+use Rattle.catalogue_records.specs.Catalogues.{catalogueOf}
+use Rattle.catalogue_records.specs.Entries.{entriesIn, entries-back}
+use Rattle.catalogue_records.specs.Again.{read-as}
+use Rattle.catalogue_standing.specs.ReducedEntries.{Ready}
+use Rattle.catalogue_fold.specs.Folding.{foldedOf}
 
 stays : (o : Outcome) (out : List ℕ) → catalogueOf o .refusal ≢ 0 → untouched (catalogueOf o .refusal) (catalogueOf o .place) out ≡ output (foldedOutcome o) out
 stays (refused n p) out h = refl

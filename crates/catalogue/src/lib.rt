@@ -1,9 +1,9 @@
 // The services on catalogues: reading, writing out, fold and lookup.
 ghost use mathlib.Core.Path.{_≡_};
-ghost use Rattle.catalogues.specs.Read.{read};
-ghost use Rattle.catalogues.specs.Output.{output};
-ghost use Rattle.records.specs.Catalogues.{catalogueOf, writtenOf};
-ghost use Rattle.folds.specs.Services.{foldOf, lookupOf};
+ghost use Rattle.catalogue_rules.specs.Read.{read};
+ghost use Rattle.catalogue_rules.specs.Output.{output};
+ghost use Rattle.catalogue_records.specs.Catalogues.{catalogueOf, writtenOf};
+ghost use Rattle.fold_rules.specs.Services.{foldOf, lookupOf};
 ghost use Rattle.catalogue.specs.Finding.{foundOf};
 
 // What lookup says: a refusal and its place, or the standing number.
@@ -14,26 +14,26 @@ pub struct Found {
 }
 
 // Reads a catalogue.
-pub fn read(bytes: &[u8]) -> records::Catalogue
+pub fn read(bytes: &[u8]) -> catalogue_records::Catalogue
     ensures { λ r. ⌜ r ≡ catalogueOf (read (now (bytes .entry))) ⌝ }
 {
-    reader::read(bytes)
+    catalogue_reader::read(bytes)
 }
 
 // Reads a catalogue and writes its entries, unfolded, to the lent output.
-pub fn write_out(bytes: &[u8], out: &mut [u8]) -> records::Written
+pub fn write_out(bytes: &[u8], out: &mut [u8]) -> catalogue_records::Written
     ensures { λ r. ⌜ r ≡ writtenOf (output (read (now (bytes .entry))) (now (out .entry))) ⌝ }
     ensures { λ _. ⌜ now (out .exit) ≡ output (read (now (bytes .entry))) (now (out .entry)) .lent ⌝ }
 {
     let c = read(bytes);
     if c.refusal != 0 {
-        return records::Written {
+        return catalogue_records::Written {
             refusal: c.refusal,
             place: c.place,
             length: 0,
         };
     }
-    writer::write_entries(c, out)
+    catalogue_writer::write_entries(c, out)
 }
 
 // The standing number of the entry with this number; the catalogue's own refusals first, then 17 where no entry has it.
@@ -48,10 +48,10 @@ pub fn lookup(bytes: &[u8], number: u32) -> Found
             standing: 0,
         };
     }
-    let list = keeping::kept::keep_all(c);
-    let standing = keeping::closing::closed(list, c.count);
-    let numbers = records::numbers(c);
-    let k = keeping::closing::place_of(&numbers, c.count, number);
+    let list = catalogue_standing::reduced_entry::reduce_all(c);
+    let standing = catalogue_standing::standing_places::closed(list, c.count);
+    let numbers = catalogue_records::numbers(c);
+    let k = catalogue_standing::standing_places::place_of(&numbers, c.count, number);
     if k == c.count {
         return Found {
             refusal: 17,
@@ -68,20 +68,20 @@ pub fn lookup(bytes: &[u8], number: u32) -> Found
 }
 
 // The folded catalogue, written to the lent output.
-pub fn fold(bytes: &[u8], out: &mut [u8]) -> records::Written
+pub fn fold(bytes: &[u8], out: &mut [u8]) -> catalogue_records::Written
     ensures { λ r. ⌜ r ≡ writtenOf (foldOf (now (bytes .entry)) (now (out .entry))) ⌝ }
     ensures { λ _. ⌜ now (out .exit) ≡ foldOf (now (bytes .entry)) (now (out .entry)) .lent ⌝ }
 {
     let c = read(bytes);
     if c.refusal != 0 {
-        return records::Written {
+        return catalogue_records::Written {
             refusal: c.refusal,
             place: c.place,
             length: 0,
         };
     }
-    let list = keeping::kept::keep_all(c);
-    let standing = keeping::closing::closed(list, c.count);
-    let f = folding::folded(c, list, &standing);
-    writer::write_entries(f, out)
+    let list = catalogue_standing::reduced_entry::reduce_all(c);
+    let standing = catalogue_standing::standing_places::closed(list, c.count);
+    let f = catalogue_fold::folded(c, list, &standing);
+    catalogue_writer::write_entries(f, out)
 }

@@ -5,14 +5,14 @@ mod shown;
 // The words as bytes.
 fn run(name: &[u8], words: &[u32]) {
     let mut bytes = [0u8; 18440];
-    let n = forms::store(words, &mut bytes);
+    let n = sample_catalogues::store(words, &mut bytes);
     shown::outcome(name, &bytes[..n]);
 }
 
 // Entries alike, as many as are counted.
 fn many(name: &[u8], count: u32, shape: u32, rest: &[u32]) {
     let mut words = [0u32; 4609];
-    let n = forms::alike(&mut words, count, shape, rest);
+    let n = sample_catalogues::alike(&mut words, count, shape, rest);
     run(name, &words[..n]);
 }
 

@@ -5,7 +5,7 @@ use libc::STDOUT_FILENO;
 // Writes a blank and n.
 fn field(n: u64) {
     io::write_all(STDOUT_FILENO, b" ");
-    printing::number(n);
+    cli_output::number(n);
 }
 
 // Writes the refusal and its place.
@@ -13,13 +13,13 @@ fn refused(number: u64, place: usize) {
     io::write_all(STDOUT_FILENO, b"refused");
     field(number);
     field(place as u64);
-    printing::newline();
+    cli_output::newline();
 }
 
 // Writes a blank and z.
 fn coordinate(z: i64) {
     io::write_all(STDOUT_FILENO, b" ");
-    printing::signed(z);
+    cli_output::signed(z);
 }
 
 // Writes the coordinates at all sixteen places.
@@ -27,11 +27,11 @@ fn vectors(coordinates: [i64; 16]) {
     for i in 0..16 {
         coordinate(coordinates[i]);
     }
-    printing::newline();
+    cli_output::newline();
 }
 
 // Writes an entry: number, d, m and place, the see word's number and place, the coordinates.
-fn entry(e: records::Entry) {
+fn entry(e: catalogue_records::Entry) {
     io::write_all(STDOUT_FILENO, b"entry");
     field(e.number as u64);
     field(e.d as u64);
@@ -42,14 +42,14 @@ fn entry(e: records::Entry) {
         field(e.see as u64);
         field(e.at as u64);
     }
-    printing::newline();
+    cli_output::newline();
     io::write_all(STDOUT_FILENO, b"v");
     let coordinates = e.coordinates;
     vectors(coordinates);
 }
 
 // Writes the first entries.
-fn entries(c: records::Catalogue) {
+fn entries(c: catalogue_records::Catalogue) {
     for k in 0..5 {
         if k < c.count {
             let e = c.entries[k];
@@ -84,11 +84,11 @@ fn copied(bytes: &[u8], room: &mut [u8]) {
     } else {
         io::write_all(STDOUT_FILENO, b"written");
         field(w.length as u64);
-        printing::newline();
+        cli_output::newline();
     }
     io::write_all(STDOUT_FILENO, b"out");
     field(digest(room));
-    printing::newline();
+    cli_output::newline();
 }
 
 // Lends this many bytes.
@@ -103,7 +103,7 @@ fn lend(bytes: &[u8], n: usize) {
 // just long enough, and with one byte less.
 pub(crate) fn outcome(name: &[u8], bytes: &[u8]) {
     io::write_all(STDOUT_FILENO, name);
-    printing::newline();
+    cli_output::newline();
     let c = catalogue::read(bytes);
     if c.refusal != 0 {
         refused(c.refusal, c.place);
@@ -112,7 +112,7 @@ pub(crate) fn outcome(name: &[u8], bytes: &[u8]) {
     }
     io::write_all(STDOUT_FILENO, b"read");
     field(c.count as u64);
-    printing::newline();
+    cli_output::newline();
     entries(c);
     let n = bytes.len();
     if 0 < n && n <= 18436 {

@@ -12,10 +12,10 @@ use Rattle.lattices.specs.Greedy.{Row, vectors, reduction}
 use Rattle.lattices.specs.Refusal.{Input, basis, firstOf, vectorChecks}
 use Rattle.lattices.specs.Answer as Definition
 use Rattle.lattices.specs.Answer.{padded, table, rowsOfV, reductionGiven, noReduction, reductionOf}
-use Rattle.reductions.specs.Accepted.{accepted}
-use Rattle.reductions.specs.Demand.{accepted-reduction}
-use Rattle.rows.specs.declared.Work.{Work}
-use Rattle.rows.specs.Rows.{workOf, vectorRow, tableRow, transposed}
+use Rattle.greedy_reduction.specs.Accepted.{accepted}
+use Rattle.greedy_reduction.specs.Demand.{accepted-reduction}
+use Rattle.row_operations.specs.declared.Work.{Work}
+use Rattle.row_operations.specs.Rows.{workOf, vectorRow, tableRow, transposed}
 use Rattle.engine.specs.declared.Reduction.{Reduction}
 use Rattle.engine.specs.State.{rowsIn, greedyRows, greedyPasses, reduced}
 use Rattle.engine.specs.Fine.{Fine, fine-fewer, fine-greedy}

@@ -13,17 +13,17 @@ use Rattle.lattices.specs.Greedy.{Row, units, start}
 use Rattle.lattices.specs.Refusal.{Input, basis, firstOf, vectorChecks}
 use Rattle.lattices.specs.Answer.{padded, table}
 use Rattle.lattices.specs.AnswerLaws.{length-vectorsOf}
-use Rattle.volumes.specs.Sizes.{Short}
-use Rattle.checks.specs.Padded.{isDependent-padded, fit-vectorsOf}
-use Rattle.reductions.specs.Moves.{Moves, none, length-vectors}
+use Rattle.exterior_algebra.specs.Sizes.{Short}
+use Rattle.input_checks.specs.Padded.{isDependent-padded, fit-vectorsOf}
+use Rattle.greedy_reduction.specs.Moves.{Moves, none, length-vectors}
 use Rattle.integers.specs.All.{All, all-append}
-use Rattle.reductions.specs.Lengths.{NoLonger}
-use Rattle.reductions.specs.Start.{Sized, Coordinates, length-units, start-vectors}
-use Rattle.reductions.specs.Padding.{padded-coordinates, padded-N}
-use Rattle.reductions.specs.Accepted.{Accepted, accepted, passed}
-use Rattle.reductions.specs.Promise.{basis-of}
-use Rattle.reductions.specs.Sizes.{Basis, first-rows}
-use Rattle.rows.specs.Rows.{rowsOf}
+use Rattle.greedy_reduction.specs.Lengths.{NoLonger}
+use Rattle.greedy_reduction.specs.Start.{Sized, Coordinates, length-units, start-vectors}
+use Rattle.greedy_reduction.specs.Padding.{padded-coordinates, padded-N}
+use Rattle.greedy_reduction.specs.Accepted.{Accepted, accepted, passed}
+use Rattle.greedy_reduction.specs.Promise.{basis-of}
+use Rattle.greedy_reduction.specs.Sizes.{Basis, first-rows}
+use Rattle.row_operations.specs.Rows.{rowsOf}
 use Rattle.engine.specs.Fine.{Fine}
 use Rattle.engine.specs.Pass.{rowsOf-append}
 

@@ -9,8 +9,8 @@ use lib.ListN.{take, drop, take-append-drop}
 use Rattle.lattices.specs.Vector.{N}
 use Rattle.lattices.specs.Greedy.{Row}
 use Rattle.integers.specs.All.{all-left}
-use Rattle.reductions.specs.Lengths.{NoLonger}
-use Rattle.reductions.specs.Passes.{passes-most}
+use Rattle.greedy_reduction.specs.Lengths.{NoLonger}
+use Rattle.greedy_reduction.specs.Passes.{passes-most}
 use Rattle.engine.specs.State.{greedyPasses}
 use Rattle.engine.specs.Fine.{Fine, fine-length, fine-short}
 

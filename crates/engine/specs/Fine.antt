@@ -11,14 +11,14 @@ use lib.Seq.{take-append-le, drop-append-le, length-take-le}
 use Rattle.lattices.specs.Vector.{Vec, N}
 use Rattle.lattices.specs.Volume.{squaredVolume}
 use Rattle.lattices.specs.Greedy.{Row, vectors, order, greedy}
-use Rattle.minima.specs.Reduced.{Reduced}
-use Rattle.reductions.specs.Moves.{Moves, after, exchange, order-perm, moves-append, moves-length, greedy-moves, vectors-append}
+use Rattle.successive_minima.specs.Reduced.{Reduced}
+use Rattle.greedy_reduction.specs.Moves.{Moves, after, exchange, order-perm, moves-append, moves-length, greedy-moves, vectors-append}
 use Rattle.integers.specs.All.{All, all-append, all-left, all-right}
-use Rattle.reductions.specs.Lengths.{NoLonger}
-use Rattle.reductions.specs.Start.{Sized, moves-sized}
-use Rattle.reductions.specs.Kept.{positive-left}
-use Rattle.reductions.specs.Output.{greedy-reduced}
-use Rattle.reductions.specs.Sizes.{Basis, first-rows, way-short, way-volume}
+use Rattle.greedy_reduction.specs.Lengths.{NoLonger}
+use Rattle.greedy_reduction.specs.Start.{Sized, moves-sized}
+use Rattle.greedy_reduction.specs.Kept.{positive-left}
+use Rattle.greedy_reduction.specs.Output.{greedy-reduced}
+use Rattle.greedy_reduction.specs.Sizes.{Basis, first-rows, way-short, way-volume}
 
 -- n of the rows may be reduced
 pub record Fine (n : ℕ) (rows : List Row) : Type 0 where

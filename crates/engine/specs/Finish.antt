@@ -14,13 +14,13 @@ use Rattle.lattices.specs.Refusal.{Input, basis, firstOf, vectorChecks}
 use Rattle.lattices.specs.Answer.{padded, table, rowOfV, rowsOfV}
 use Rattle.lattices.specs.AnswerLaws.{length-padded, nth-padded, table-rows}
 use Rattle.integers.specs.All.{All, map-append, map-replicate}
-use Rattle.reductions.specs.Moves.{length-vectors}
-use Rattle.reductions.specs.Start.{Sized, Coordinates, sized-start, sized-vectors, length-units}
-use Rattle.reductions.specs.Exactness.{reduction-length, reduction-sized}
-use Rattle.reductions.specs.Padding.{pad, pad-counted, greedy-padded, padded-N}
-use Rattle.reductions.specs.Accepted.{Accepted, accepted}
-use Rattle.minima.specs.Reduced.{Reduced}
-use Rattle.rows.specs.Rows.{transposed}
+use Rattle.greedy_reduction.specs.Moves.{length-vectors}
+use Rattle.greedy_reduction.specs.Start.{Sized, Coordinates, sized-start, sized-vectors, length-units}
+use Rattle.greedy_reduction.specs.Exactness.{reduction-length, reduction-sized}
+use Rattle.greedy_reduction.specs.Padding.{pad, pad-counted, greedy-padded, padded-N}
+use Rattle.greedy_reduction.specs.Accepted.{Accepted, accepted}
+use Rattle.successive_minima.specs.Reduced.{Reduced}
+use Rattle.row_operations.specs.Rows.{transposed}
 use Rattle.engine.specs.State.{greedyRows, greedyPasses}
 use Rattle.engine.specs.Fine.{fine-reduced}
 use Rattle.engine.specs.Begin.{table-is, zeroRow, length-start, first, first-is, first-fine, unused, four-rows, bs-count, wide-count, ins-count}

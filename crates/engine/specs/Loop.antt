@@ -8,9 +8,9 @@ use lib.ListN.{length, getD, length-map}
 use lib.Signed.{ltZ}
 use Rattle.lattices.specs.Vector.{N}
 use Rattle.lattices.specs.Greedy.{Row}
-use Rattle.rows.specs.declared.Work.{Work}
-use Rattle.rows.specs.Rows.{Four, rowsOf, workOf, rowsOf-tables, four-rows}
-use Rattle.rows.specs.Order.{Small, vector-of}
+use Rattle.row_operations.specs.declared.Work.{Work}
+use Rattle.row_operations.specs.Rows.{Four, rowsOf, workOf, rowsOf-tables, four-rows}
+use Rattle.row_operations.specs.Order.{Small, vector-of}
 use Rattle.engine.specs.State.{rowsIn, orderRows, passRows, greedyPasses, ordered, passed, reduced}
 use Rattle.engine.specs.Fine.{Fine}
 use Rattle.engine.specs.Room.{small-rows}

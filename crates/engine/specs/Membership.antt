@@ -8,10 +8,10 @@ use Rattle.lattices.specs.Vector.{Vec, In}
 use Rattle.lattices.specs.Greedy.{vectors}
 use Rattle.lattices.specs.Refusal.{Input, basis, firstOf, vectorChecks}
 use Rattle.lattices.specs.Answer.{padded, reductionOf}
-use Rattle.reductions.specs.Demand.{accepted-reduction}
-use Rattle.minima.specs.Members.{isMember}
-use Rattle.reductions.specs.Membership.{member-padded, member-exactly as reduced-exactly}
-use Rattle.reductions.specs.Promise.{basis-of}
+use Rattle.greedy_reduction.specs.Demand.{accepted-reduction}
+use Rattle.successive_minima.specs.Members.{isMember}
+use Rattle.greedy_reduction.specs.Membership.{member-padded, member-exactly as reduced-exactly}
+use Rattle.greedy_reduction.specs.Promise.{basis-of}
 use Rattle.engine.specs.Finish.{R, accept, outs-full, outs-rows}
 
 module _ (i : Input) (e : firstOf vectorChecks i ≡ 0) where

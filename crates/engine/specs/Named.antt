@@ -19,15 +19,15 @@ use Rattle.lattices.specs.Refusal.{Input, basis, firstOf, vectorChecks, targetC
 use Rattle.lattices.specs.Answer as Definition
 use Rattle.lattices.specs.Answer.{padded, table, noNearest, nearestGiven, nearestOf, noReduction, reductionGiven, reductionOf}
 use Rattle.lattices.specs.AnswerLaws.{length-padded, padded-≈}
-use Rattle.minima.specs.Digits.{Bounded}
-use Rattle.minima.specs.Reduced.{Reduced}
-use Rattle.rows.specs.Minus.{room}
-use Rattle.minima.specs.NearestLaws.{nearest-count}
-use Rattle.reductions.specs.Exactness.{comb-full}
-use Rattle.reductions.specs.Padding.{padded-N, comb-padded, padded-minus, nearest-padded}
-use Rattle.reductions.specs.Accepted.{targeted}
-use Rattle.reductions.specs.Demand.{accepted-nearest, first-passed}
-use Rattle.layers.specs.Near.{Near}
+use Rattle.successive_minima.specs.Digits.{Bounded}
+use Rattle.successive_minima.specs.Reduced.{Reduced}
+use Rattle.row_operations.specs.Minus.{room}
+use Rattle.successive_minima.specs.NearestLaws.{nearest-count}
+use Rattle.greedy_reduction.specs.Exactness.{comb-full}
+use Rattle.greedy_reduction.specs.Padding.{padded-N, comb-padded, padded-minus, nearest-padded}
+use Rattle.greedy_reduction.specs.Accepted.{targeted}
+use Rattle.greedy_reduction.specs.Demand.{accepted-nearest, first-passed}
+use Rattle.nearest_of_four.specs.Near.{Near}
 use Rattle.engine.specs.declared.NearestVector.{NearestVector}
 use Rattle.engine.specs.Fine.{fine-greedy}
 use Rattle.engine.specs.Room.{short-rows}

@@ -9,7 +9,7 @@ use lib.Seq.{split-at, length-take-le, take-append-seam, getD-append-seam, set-a
 use Rattle.integers.specs.All.{map-append}
 use Rattle.lattices.specs.Vector.{_⊕_, _⊙_, _⊖_, comb}
 use Rattle.lattices.specs.Greedy.{Row, less, credited, pass}
-use Rattle.rows.specs.Rows.{rowsOf, gained, rowsOf-parts, credited-columns}
+use Rattle.row_operations.specs.Rows.{rowsOf, gained, rowsOf-parts, credited-columns}
 use Rattle.engine.specs.State.{blank}
 
 pub rowsOf-append : (bs us vs cs ws xs : List (List ℤ)) → length us ≡ length bs → length vs ≡ length bs → rowsOf (bs ++ cs) (us ++ ws) (vs ++ xs) ≡ rowsOf bs us vs ++ rowsOf cs ws xs

@@ -8,8 +8,8 @@ use lib.Signed.{ltZ}
 use lib.ListN.{getD, take, take-append-drop}
 use Rattle.lattices.specs.Vector.{N}
 use Rattle.lattices.specs.Greedy.{greedy, shorter, total}
-use Rattle.rows.specs.declared.Work.{Work}
-use Rattle.rows.specs.Rows.{workOf}
+use Rattle.row_operations.specs.declared.Work.{Work}
+use Rattle.row_operations.specs.Rows.{workOf}
 use Rattle.engine.specs.State.{rowsIn, blank, orderRows, greedyRows, ordered, passed, reduced}
 use Rattle.engine.specs.Fine.{Fine, fine-fewer, fine-order}
 use Rattle.engine.specs.Room.{Ready}

@@ -15,11 +15,11 @@ use Rattle.lattices.specs.Nearest.{nearest}
 use Rattle.lattices.specs.Greedy.{Row, vectors}
 use Rattle.lattices.specs.Answer.{padded}
 use Rattle.lattices.specs.AnswerLaws.{nth-padded, take-padded}
-use Rattle.minima.specs.Reduced.{Reduced}
-use Rattle.minima.specs.NearestLaws.{nearest-count}
-use Rattle.reductions.specs.Moves.{Moves, length-vectors}
-use Rattle.reductions.specs.Sizes.{first-rows, coordinate, short-of, u-room, v-room, vector-room, x-size}
-use Rattle.rows.specs.Minus.{room}
+use Rattle.successive_minima.specs.Reduced.{Reduced}
+use Rattle.successive_minima.specs.NearestLaws.{nearest-count}
+use Rattle.greedy_reduction.specs.Moves.{Moves, length-vectors}
+use Rattle.greedy_reduction.specs.Sizes.{first-rows, coordinate, short-of, u-room, v-room, vector-room, x-size}
+use Rattle.row_operations.specs.Minus.{room}
 use Rattle.engine.specs.State.{blank}
 use Rattle.engine.specs.Fine.{Fine, fine-length, fine-short, fine-fewer}
 

@@ -3,9 +3,9 @@ use mathlib.Core.List.{List, _++_, map}
 use Prim.Native.Nat.{ℕ, suc, _+_}
 use lib.ListN.{take, drop, getD}
 use Rattle.lattices.specs.Greedy.{Row, order, pass, joined, greedy}
-use Rattle.rows.specs.declared.Work.{Work}
-use Rattle.rows.specs.Rows.{rowsOf, workOf}
-pub use Rattle.rows.specs.Order.{blank}
+use Rattle.row_operations.specs.declared.Work.{Work}
+use Rattle.row_operations.specs.Rows.{rowsOf, workOf}
+pub use Rattle.row_operations.specs.Order.{blank}
 
 -- the four rows of a work
 abbrev pub rowsIn : Work → List Row

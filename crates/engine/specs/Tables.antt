@@ -12,10 +12,10 @@ use Rattle.lattices.specs.Vector.{nth}
 use Rattle.lattices.specs.Nearest.{nearest}
 use Rattle.lattices.specs.Greedy.{Row}
 use Rattle.lattices.specs.Answer.{padded}
-use Rattle.minima.specs.Reduced.{Reduced}
-use Rattle.rows.specs.Rows.{Four, Tables, rowsOf, rowsOf-tables}
-use Rattle.rows.specs.Minus.{room}
-use Rattle.search.specs.Searchable.{Searchable}
+use Rattle.successive_minima.specs.Reduced.{Reduced}
+use Rattle.row_operations.specs.Rows.{Four, Tables, rowsOf, rowsOf-tables}
+use Rattle.row_operations.specs.Minus.{room}
+use Rattle.nearest_of_three.specs.Searchable.{Searchable}
 use Rattle.engine.specs.State.{passRows}
 use Rattle.engine.specs.Room as Room
 use Rattle.integers.specs.All.{take-map}

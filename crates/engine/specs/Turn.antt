@@ -13,12 +13,12 @@ use lib.Seq.{take-append-seam, drop-append-seam, getD-append-seam}
 use Rattle.lattices.specs.Vector.{N}
 use Rattle.lattices.specs.Permutation.{perm-length}
 use Rattle.lattices.specs.Greedy.{Row, Pass, vectors, order, lastOf, before, pass, round, shorter, joined, total, greedy}
-use Rattle.minima.specs.Reduced.{Reduced}
-use Rattle.reductions.specs.Moves.{Moves, order-perm, before-last, length-before, moves-length, ordered-moves, greedy-moves}
-use Rattle.reductions.specs.Lengths.{total-nonneg}
-use Rattle.reductions.specs.Fuel.{stop, again, greedy-steps, falls, size-falls}
-use Rattle.rows.specs.declared.Work.{Work}
-use Rattle.rows.specs.Rows.{workOf, rowsOf-workOf}
+use Rattle.successive_minima.specs.Reduced.{Reduced}
+use Rattle.greedy_reduction.specs.Moves.{Moves, order-perm, before-last, length-before, moves-length, ordered-moves, greedy-moves}
+use Rattle.greedy_reduction.specs.Lengths.{total-nonneg}
+use Rattle.greedy_reduction.specs.Fuel.{stop, again, greedy-steps, falls, size-falls}
+use Rattle.row_operations.specs.declared.Work.{Work}
+use Rattle.row_operations.specs.Rows.{workOf, rowsOf-workOf}
 use Rattle.engine.specs.State.{rowsIn, blank, orderRows, passRows, greedyRows, greedyPasses, ordered, passed, reduced}
 use Rattle.engine.specs.Fine.{Fine, fine-length, fine-moves, fine-order, fine-greedy, fine-fewer, fine-reduced}
 use Rattle.engine.specs.Room.{Ready}

@@ -6,10 +6,10 @@ use lib.IntN.{ℤ}
 use lib.ListN.{length, getD, length-map}
 use Rattle.integers.specs.Size.{Within}
 use Rattle.lattices.specs.Vector.{nth}
-use Rattle.rows.specs.declared.VectorRow.{VectorRow}
-use Rattle.rows.specs.declared.TableRow.{TableRow}
-use Rattle.rows.specs.declared.Work.{Work}
-use Rattle.rows.specs.Rows.{Tables, workOf, vectorRow, tableRow, rowsOf-tables, workOf-rowsOf}
+use Rattle.row_operations.specs.declared.VectorRow.{VectorRow}
+use Rattle.row_operations.specs.declared.TableRow.{TableRow}
+use Rattle.row_operations.specs.declared.Work.{Work}
+use Rattle.row_operations.specs.Rows.{Tables, workOf, vectorRow, tableRow, rowsOf-tables, workOf-rowsOf}
 use Rattle.engine.specs.State.{rowsIn}
 use Rattle.engine.specs.Fine.{Fine}
 use Rattle.engine.specs.Room.{small-rows}

@@ -5,15 +5,15 @@ ghost use mathlib.Core.List.{[]};
 ghost use lib.ListN.{getD, take};
 ghost use lib.Signed.{ltZ};
 ghost use Rattle.lattices.specs.Vector.{N};
-ghost use Rattle.rows.specs.Rows.{Four, rowsOf, workOf};
-ghost use Rattle.rows.specs.Order.{Small};
+ghost use Rattle.row_operations.specs.Rows.{Four, rowsOf, workOf};
+ghost use Rattle.row_operations.specs.Order.{Small};
 ghost use Rattle.engine.specs.State.{rowsIn, passRows, greedyPasses, reduced};
 ghost use Rattle.engine.specs.Fine.{Fine};
 ghost use Rattle.engine.specs.Room.{Ready};
 ghost use Rattle.engine.specs.Answer.{packed, finished};
-ghost use Rattle.minima.specs.Digits.{Bounded};
-ghost use Rattle.layers.specs.Near.{Near};
-ghost use Rattle.minima.specs.Members.{isMember};
+ghost use Rattle.successive_minima.specs.Digits.{Bounded};
+ghost use Rattle.nearest_of_four.specs.Near.{Near};
+ghost use Rattle.successive_minima.specs.Members.{isMember};
 ghost use Rattle.lattices.specs.Answer.{noReduction, reductionOf, noNearest, nearestOf};
 ghost use Rattle.engine.specs.Named.{packedNearest, named};
 
@@ -26,10 +26,10 @@ fn pass(b: &mut [[i64; 4]; 4], u: &mut [[i64; 4]; 4], v: &mut [[i64; 4]; 4], k: 
     ensures { λ _. ⌜ rowsOf (now (b .exit)) (now (u .exit)) (now (v .exit)) ≡ passRows k (rowsOf (now (b .entry)) (now (u .entry)) (now (v .entry))) ⌝ }
 {
     let last = b[k];
-    let x = search::search(b, k, last);
-    rows::minus_rows(b, k, x);
-    rows::minus_rows(u, k, x);
-    rows::credit_rows(v, k, x);
+    let x = nearest_of_three::search(b, k, last);
+    row_operations::minus_rows(b, k, x);
+    row_operations::minus_rows(u, k, x);
+    row_operations::credit_rows(v, k, x);
 }
 
 // Step 6: is row k shorter than the row before it?
@@ -40,7 +40,7 @@ fn shorter(b: &[[i64; 4]; 4], k: usize) -> bool
 {
     let last = b[k];
     let other = b[k - 1];
-    rows::dot(last, last) < rows::dot(other, other)
+    row_operations::dot(last, last) < row_operations::dot(other, other)
 }
 
 // Steps 1 to 6 for the first n rows, on one vector fewer at each call of itself. `before` counts the passes made so far.
@@ -50,7 +50,7 @@ fn reduce_first(
     vs: [[i64; 4]; 4],
     n: usize,
     before: u64,
-) -> rows::Work
+) -> row_operations::Work
     requires { ⌜ n ≤ 4 ⌝ }
     requires { ⌜ Fine n (rowsOf vectors us vs) ⌝ }
     requires { ⌜ before + greedyPasses n (rowsOf vectors us vs) ≤ 1000000000000 ⌝ }
@@ -61,25 +61,25 @@ fn reduce_first(
     let mut v = vs;
     let mut passes = before;
     if n < 2 {
-        return rows::packed(&b, &u, &v, passes);
+        return row_operations::packed(&b, &u, &v, passes);
     }
     loop {
-        rows::order(&mut b, &mut u, &mut v, n);
+        row_operations::order(&mut b, &mut u, &mut v, n);
         // one vector is given back
         if 2 < n {
             let f = reduce_first(b, u, v, n - 1, passes);
             let first = f.vectors;
             let first_u = f.u;
             let first_v = f.v;
-            rows::take_vectors(&mut b, first);
-            rows::take_table(&mut u, first_u);
-            rows::take_table(&mut v, first_v);
+            row_operations::take_vectors(&mut b, first);
+            row_operations::take_table(&mut u, first_u);
+            row_operations::take_table(&mut v, first_v);
             passes = f.passes;
         }
         pass(&mut b, &mut u, &mut v, n - 1);
         passes += 1;
         if !shorter(&b, n - 1) {
-            break rows::packed(&b, &u, &v, passes);
+            break row_operations::packed(&b, &u, &v, passes);
         }
     }
 }
@@ -88,9 +88,9 @@ fn reduce_first(
 pub struct Reduction {
     pub refusal: u64,
     pub place: u64,
-    pub vectors: [rows::VectorRow; 4],
-    pub u: [rows::TableRow; 4],
-    pub v: [rows::TableRow; 4],
+    pub vectors: [row_operations::VectorRow; 4],
+    pub u: [row_operations::TableRow; 4],
+    pub v: [row_operations::TableRow; 4],
     pub squares: [i64; 4],
     pub passes: u64,
 }
@@ -102,31 +102,31 @@ fn refused(n: u64) -> Reduction
     Reduction {
         refusal: n,
         place: 0,
-        vectors: [rows::VectorRow { at: [0; 4] }; 4],
-        u: [rows::TableRow { at: [0; 4] }; 4],
-        v: [rows::TableRow { at: [0; 4] }; 4],
+        vectors: [row_operations::VectorRow { at: [0; 4] }; 4],
+        u: [row_operations::TableRow { at: [0; 4] }; 4],
+        v: [row_operations::TableRow { at: [0; 4] }; 4],
         squares: [0; 4],
         passes: 0,
     }
 }
 
 // The answer from the finished work: V is written out by rows.
-fn finished(w: rows::Work) -> Reduction
+fn finished(w: row_operations::Work) -> Reduction
     requires { ⌜ Fine 0 (rowsIn w) ⌝ }
     ensures { λ r. ⌜ r ≡ finished w ⌝ }
 {
     let vectors = w.vectors;
     let u = w.u;
     let vs = w.v;
-    let b = rows::vectors_of(vectors);
-    let v = rows::tables_of(vs);
+    let b = row_operations::vectors_of(vectors);
+    let v = row_operations::tables_of(vs);
     Reduction {
         refusal: 0,
         place: 0,
         vectors,
         u,
-        v: rows::table_rows(rows::transposed(v)),
-        squares: rows::squared_lengths(b),
+        v: row_operations::table_rows(row_operations::transposed(v)),
+        squares: row_operations::squared_lengths(b),
         passes: w.passes,
     }
 }
@@ -135,12 +135,12 @@ fn finished(w: rows::Work) -> Reduction
 pub fn reduce(numbers: &[i64], d: usize, m: usize) -> Reduction
     ensures { λ r. ⌜ r ≡ packed (reductionOf (record { numbers = now (numbers .entry); d = d; m = m; target = [] })) ⌝ }
 {
-    let number = checks::refusal(numbers, d, m);
+    let number = input_checks::refusal(numbers, d, m);
     if number != 0 {
         return refused(number);
     }
-    let b = checks::basis(numbers, d, m);
-    let e = rows::unit_table(d);
+    let b = input_checks::basis(numbers, d, m);
+    let e = row_operations::unit_table(d);
     finished(reduce_first(b, e, e, d, 0))
 }
 
@@ -176,9 +176,9 @@ fn named(t: [i64; 4], x: [i64; 4], rest: [i64; 4]) -> NearestVector
     NearestVector {
         refusal: 0,
         place: 0,
-        vector: rows::minus_multiple(t, 1, rest),
+        vector: row_operations::minus_multiple(t, 1, rest),
         coefficients: x,
-        square: rows::dot(rest, rest),
+        square: row_operations::dot(rest, rest),
     }
 }
 
@@ -190,14 +190,14 @@ pub fn nearest(numbers: &[i64], d: usize, m: usize, target: &[i64]) -> NearestVe
     if r.refusal != 0 {
         return refused_nearest(r.refusal);
     }
-    let n = checks::target_refusal(target, m);
+    let n = input_checks::target_refusal(target, m);
     if n != 0 {
         return refused_nearest(n);
     }
     let vectors = r.vectors;
-    let b = rows::vectors_of(vectors);
-    let t = checks::vector(target, 0, m);
-    let c = layers::closest(b, d, t);
+    let b = row_operations::vectors_of(vectors);
+    let t = input_checks::vector(target, 0, m);
+    let c = nearest_of_four::closest(b, d, t);
     let x = c.list;
     let rest = c.rest;
     named(t, x, rest)
@@ -209,5 +209,5 @@ pub fn member(b: [[i64; 4]; 4], d: usize, v: [i64; 4]) -> bool
     requires { ⌜ Near d b v ⌝ }
     ensures { λ r. ⌜ r ≡ isMember (take d b) v ⌝ }
 {
-    layers::member(b, d, v)
+    nearest_of_four::member(b, d, v)
 }

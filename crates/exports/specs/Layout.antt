@@ -6,8 +6,8 @@ use lib.IntN.{ℤ, pos}
 use lib.Dec.{leb}
 use lib.ListN.{length, drop}
 use Rattle.lattices.specs.Answer.{Reduction, Nearest}
-use Rattle.catalogues.specs.Output.{Output}
-use Rattle.folds.specs.Services.{Lookup}
+use Rattle.catalogue_rules.specs.Output.{Output}
+use Rattle.fold_rules.specs.Services.{Lookup}
 
 -- the rows of a table one after another
 abbrev pub flat : List (List ℤ) → List ℤ

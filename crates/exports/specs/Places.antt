@@ -11,11 +11,11 @@ use Rattle.integers.specs.All.{All, all-append}
 use Rattle.lattices.specs.Vector.{Vec}
 use Rattle.lattices.specs.Volume.{isDependent}
 use Rattle.lattices.specs.Refusal.{any}
-use Rattle.catalogues.specs.Word.{Word, head, coordinate, see, end, other, decode, wordsOf}
-use Rattle.catalogues.specs.WordLaws.{length-words}
-use Rattle.catalogues.specs.Catalogue.{Head, See, Entry, Outcome, refused, accepted}
-use Rattle.catalogues.specs.Read.{State, outside, inside, after, closed, Step, next, stop, isNumbered, withEntry, headRows, atHead, coordinateOf, withCoordinate, coordinateRows, atCoordinate, endRows, atEnd, step, atLast, readWords, firstPlace, dependentAt, lostAt, afterWords, fileRows, read}
-use Rattle.catalogues.specs.Moves.{checked-case}
+use Rattle.catalogue_rules.specs.Word.{Word, head, coordinate, see, end, other, decode, wordsOf}
+use Rattle.catalogue_rules.specs.WordLaws.{length-words}
+use Rattle.catalogue_rules.specs.Catalogue.{Head, See, Entry, Outcome, refused, accepted}
+use Rattle.catalogue_rules.specs.Read.{State, outside, inside, after, closed, Step, next, stop, isNumbered, withEntry, headRows, atHead, coordinateOf, withCoordinate, coordinateRows, atCoordinate, endRows, atEnd, step, atLast, readWords, firstPlace, dependentAt, lostAt, afterWords, fileRows, read}
+use Rattle.catalogue_rules.specs.Moves.{checked-case}
 
 -- places up to b
 module _ (b : ℕ) where

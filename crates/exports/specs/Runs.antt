@@ -9,7 +9,7 @@ use lib.ListN.{length, set, drop, getD}
 use borrow.Author.Tests.{le-leb, lt-leb}
 use lib.Seq.{sets, sets-eq}
 use Rattle.integers.specs.Runs.{sets-append}
-use Rattle.rows.specs.Rows.{four}
+use Rattle.row_operations.specs.Rows.{four}
 use Rattle.exports.specs.Layout.{flat, written}
 
 -- the second run begins where the first ends

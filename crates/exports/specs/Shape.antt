@@ -13,7 +13,7 @@ use Rattle.lattices.specs.Refusal.{Input, Check, basis, firstOf, vectorChecks}
 use Rattle.lattices.specs.Answer.{Reduction, padded, table, rowsOfV, reductionGiven, noReduction, reductionOf}
 use Rattle.lattices.specs.AnswerLaws.{length-padded}
 use Rattle.lattices.specs.Greedy.{Row, vectors, reduction}
-use Rattle.reductions.specs.Accepted.{accepted}
+use Rattle.greedy_reduction.specs.Accepted.{accepted}
 use Rattle.engine.specs.Begin.{first-fine}
 use Rattle.engine.specs.Few.{few-passes}
 use Rattle.engine.specs.Finish.{last-passes}

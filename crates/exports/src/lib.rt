@@ -6,9 +6,9 @@ ghost use lib.Dec.{leb};
 ghost use lib.ListN.{length};
 ghost use lib.Seq.{sets};
 ghost use Rattle.lattices.specs.Answer.{reductionOf, nearestOf};
-ghost use Rattle.catalogues.specs.Read.{read};
-ghost use Rattle.catalogues.specs.Output.{output};
-ghost use Rattle.folds.specs.Services.{foldOf, lookupOf};
+ghost use Rattle.catalogue_rules.specs.Read.{read};
+ghost use Rattle.catalogue_rules.specs.Output.{output};
+ghost use Rattle.fold_rules.specs.Services.{foldOf, lookupOf};
 ghost use Rattle.exports.specs.Layout.{flat, head, layout, layoutNearest, layoutOutput, layoutLookup, written, beside};
 
 // How many numbers a reduction's answer takes.
@@ -73,9 +73,9 @@ pub extern "C" fn raghymtos_reduce(numbers: &[i64], d: usize, m: usize, out: &mu
     let squares = a.squares;
     put_head(out, a.refusal, a.place, a.passes as i64);
     put_row(out, 3, squares);
-    put_rows(out, 7, rows::vectors_of(vectors));
-    put_rows(out, 23, rows::tables_of(u));
-    put_rows(out, 39, rows::tables_of(v));
+    put_rows(out, 7, row_operations::vectors_of(vectors));
+    put_rows(out, 23, row_operations::tables_of(u));
+    put_rows(out, 39, row_operations::tables_of(v));
     true
 }
 

@@ -4,7 +4,7 @@ use libc::STDOUT_FILENO;
 // Writes a blank and n.
 fn field(n: u64) {
     io::write_all(STDOUT_FILENO, b" ");
-    printing::number(n);
+    cli_output::number(n);
 }
 
 // Writes a blank and a byte as a number.
@@ -17,20 +17,20 @@ fn show(bytes: &[u8]) {
     for i in 0..bytes.len() {
         byte(bytes[i]);
     }
-    printing::newline();
+    cli_output::newline();
 }
 
 // Writes the name of a catalogue, what folding says, and the output afterwards.
 fn folded(name: &[u8], bytes: &[u8]) {
     io::write_all(STDOUT_FILENO, name);
-    printing::newline();
+    cli_output::newline();
     let mut room = [170u8; 64];
     let w = catalogue::fold(bytes, &mut room);
     io::write_all(STDOUT_FILENO, b"fold");
     field(w.refusal);
     field(w.place as u64);
     field(w.length as u64);
-    printing::newline();
+    cli_output::newline();
     show(&room);
 }
 
@@ -42,13 +42,13 @@ fn found(bytes: &[u8], number: u32) {
     field(f.refusal);
     field(f.place as u64);
     field(f.standing as u64);
-    printing::newline();
+    cli_output::newline();
 }
 
 // Writes the listing.
 fn listed(bytes: &[u8]) {
     let mut text = [0u8; 40000];
-    let w = listings::list(bytes, &mut text);
+    let w = catalogue_listing::list(bytes, &mut text);
     let n = w.length;
     io::write_all(STDOUT_FILENO, &text[..n]);
 }
@@ -99,9 +99,9 @@ fn refused() {
 // As many entries as a catalogue can have, all of different lattices.
 fn many() {
     let mut words = [0u32; 1024];
-    let n = forms::multiples(&mut words, 256);
+    let n = sample_catalogues::multiples(&mut words, 256);
     let mut bytes = [0u8; 4096];
-    let k = forms::store(&words[..n], &mut bytes);
+    let k = sample_catalogues::store(&words[..n], &mut bytes);
     folded(b"256 entries", &bytes[..k]);
     found(&bytes[..k], 256);
     listed(&bytes[..k]);
@@ -110,13 +110,13 @@ fn many() {
 // An output of one byte less than any listing takes is refused and stays.
 fn short() {
     let mut text = [170u8; 39999];
-    let w = listings::list(b"\x00\x00\x00\x40", &mut text);
+    let w = catalogue_listing::list(b"\x00\x00\x00\x40", &mut text);
     io::write_all(STDOUT_FILENO, b"39999 bytes");
     field(w.refusal);
     field(w.place as u64);
     field(w.length as u64);
     byte(text[0]);
-    printing::newline();
+    cli_output::newline();
 }
 
 fn main() {

@@ -5,8 +5,8 @@ use libc::STDOUT_FILENO;
 // Writes the name of an input, then the answer to its reduction.
 fn reduced(name: &[u8], numbers: &[i64], d: usize, m: usize) {
     io::write_all(STDOUT_FILENO, name);
-    printing::newline();
-    answers::reduction(engine::reduce(numbers, d, m), d, m);
+    cli_output::newline();
+    cli_answers::reduction(engine::reduce(numbers, d, m), d, m);
 }
 
 // P1 to P8: what reduction gives.
@@ -50,8 +50,8 @@ fn counts() {
 // Writes the name of an input, then the answer to the search for the vector nearest to the target.
 fn near(name: &[u8], numbers: &[i64], d: usize, m: usize, target: &[i64]) {
     io::write_all(STDOUT_FILENO, name);
-    printing::newline();
-    answers::nearest(engine::nearest(numbers, d, m, target), d, m);
+    cli_output::newline();
+    cli_answers::nearest(engine::nearest(numbers, d, m, target), d, m);
 }
 
 // P9 and P10, and cases where a hasty search ends elsewhere.

@@ -4,5 +4,5 @@ fn main() {
     let n = os::arg(1, &mut word);
     let mut number = [0u8; 24];
     let k = os::arg(2, &mut number);
-    commands::run(&word[..n], &number[..k]);
+    cli_commands::run(&word[..n], &number[..k]);
 }

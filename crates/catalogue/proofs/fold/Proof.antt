@@ -1,7 +1,7 @@
 -- The catalogue's own refusals first; the list is closed, then folded, then written.
 use mathlib.Core.Path.{ap, _∙_}
-use Rattle.records.specs.Catalogues.{writtenOf}
-use Rattle.keeping.specs.Keeping.{Ready, ready, keeps-fair}
+use Rattle.catalogue_records.specs.Catalogues.{writtenOf}
+use Rattle.catalogue_standing.specs.ReducedEntries.{Ready, ready, keeps-fair}
 use Rattle.catalogue.specs.Outcome.{not-folded, few-folded, formed-folded, fold-written}
 use borrow.Author.Needs.{needs}
 use Rattle.catalogue.proofs.fold.Statement.{statement}
@@ -20,17 +20,17 @@ returns c =
 prepared : (c : tie.Else1) → Ready (c .before .before .read .result)
 prepared c = let r = c .before .before in ready (r .before .before .before .args .bytes .now) (r .read .ensures) (c .if1 .left)
 
-keep-all-requires : tie.Need-keep-all-requires
-keep-all-requires c κs = (prepared c .few, prepared c .formed .entered .fits)
+reduce-all-requires : tie.Need-reduce-all-requires
+reduce-all-requires c κs = (prepared c .few, prepared c .formed .entered .fits)
 
 closed-requires : tie.Need-closed-requires
-closed-requires c κs = let r = prepared (c .before) in (r .few, keeps-fair _ r (c .keep-all .ensures))
+closed-requires c κs = let r = prepared (c .before) in (r .few, keeps-fair _ r (c .reduce-all .ensures))
 
 slice-aggregate-folded : tie.Need-slice-aggregate-folded
 slice-aggregate-folded c = search needs
 
 folded-requires : tie.Need-folded-requires
-folded-requires c κs = (prepared (c .before .before .before), (c .before .before .keep-all .ensures, c .before .closed .ensures))
+folded-requires c κs = (prepared (c .before .before .before), (c .before .before .reduce-all .ensures, c .before .closed .ensures))
 
 write-entries-requires : tie.Need-write-entries-requires
 write-entries-requires c κs =
@@ -57,7 +57,7 @@ fold-spec =
     (tie.spec
     read-requires
     returns
-    keep-all-requires
+    reduce-all-requires
     closed-requires
     slice-aggregate-folded
     folded-requires

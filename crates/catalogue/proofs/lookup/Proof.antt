@@ -6,13 +6,13 @@ use native.Mathlib.Omega.{arith}
 use lib.Dec.{eqb}
 use lib.ListN.{length, getD}
 use borrow.Author.Needs.{needs}
-use Rattle.catalogues.specs.Catalogue.{Entry}
-use Rattle.records.specs.Entries.{entryIn, entriesIn, beyond}
-use Rattle.keeping.specs.Places.{First}
-use Rattle.keeping.specs.Standing.{Held, Numbers, place-below}
-use Rattle.keeping.specs.Keeping.{Ready, ready, ready-length, ready-numbers, keeps-fair, keeps-held}
+use Rattle.catalogue_rules.specs.Catalogue.{Entry}
+use Rattle.catalogue_records.specs.Entries.{entryIn, entriesIn, beyond}
+use Rattle.catalogue_standing.specs.Places.{First}
+use Rattle.catalogue_standing.specs.Standing.{Held, Numbers, place-below}
+use Rattle.catalogue_standing.specs.ReducedEntries.{Ready, ready, ready-length, ready-numbers, keeps-fair, keeps-held}
 use Rattle.catalogue.specs.Finding.{looked-refused, looked-up}
-use Rattle.keeping.specs.Looking.{lookup-found, lookup-lost}
+use Rattle.catalogue_standing.specs.Looking.{lookup-found, lookup-lost}
 use Rattle.catalogue.proofs.lookup.Statement.{statement}
 use Rattle.catalogue.proofs.lookup.Tie as tie
 
@@ -27,11 +27,11 @@ returns c =
 prepared : (c : tie.Else1) → Ready (c .before .before .read .result)
 prepared c = let r = c .before .before in ready (r .before .before .args .bytes .now) (r .read .ensures) (c .if1 .left)
 
-keep-all-requires : tie.Need-keep-all-requires
-keep-all-requires c κs = (prepared c .few, prepared c .formed .entered .fits)
+reduce-all-requires : tie.Need-reduce-all-requires
+reduce-all-requires c κs = (prepared c .few, prepared c .formed .entered .fits)
 
 closed-requires : tie.Need-closed-requires
-closed-requires c κs = let r = prepared (c .before) in (r .few, keeps-fair _ r (c .keep-all .ensures))
+closed-requires c κs = let r = prepared (c .before) in (r .few, keeps-fair _ r (c .reduce-all .ensures))
 
 numbers-requires : tie.Need-numbers-requires
 numbers-requires c κs = search needs
@@ -52,8 +52,8 @@ else1 c = c .before .before .before .before .before
 abbrev entries : tie.After-place-of → List Entry
 entries c = entriesIn (else1 c .before .before .read .result)
 
-held : (c : tie.After-place-of) → Held (entries c) (entryIn beyond) (c .before .before .before .before .keep-all .result) (c .before .before .before .closed .result)
-held c = keeps-held _ (prepared (else1 c)) (c .before .before .before .before .keep-all .ensures) (c .before .before .before .closed .ensures)
+held : (c : tie.After-place-of) → Held (entries c) (entryIn beyond) (c .before .before .before .before .reduce-all .result) (c .before .before .before .closed .result)
+held c = keeps-held _ (prepared (else1 c)) (c .before .before .before .before .reduce-all .ensures) (c .before .before .before .closed .ensures)
 
 named : (c : tie.After-place-of) → Numbers (entries c) (entryIn beyond) (c .before .before .numbers .result)
 named c = ready-numbers _ (prepared (else1 c)) (c .before .before .numbers .ensures)
@@ -102,7 +102,7 @@ lookup-spec =
     (tie.spec
     read-requires
     returns
-    keep-all-requires
+    reduce-all-requires
     closed-requires
     numbers-requires
     slice-aggregate-place-of

@@ -1,8 +1,8 @@
 -- The catalogue's own refusals first.
 use mathlib.Core.Path.{ap, _∙_}
-use Rattle.catalogues.specs.Output.{output}
-use Rattle.records.specs.Catalogues.{writtenOf}
-use Rattle.records.specs.Again.{not-written, few-read, formed, read-as}
+use Rattle.catalogue_rules.specs.Output.{output}
+use Rattle.catalogue_records.specs.Catalogues.{writtenOf}
+use Rattle.catalogue_records.specs.Again.{not-written, few-read, formed, read-as}
 use borrow.Author.Needs.{needs}
 use Rattle.catalogue.proofs.write_out.Statement.{statement}
 use Rattle.catalogue.proofs.write_out.Tie as tie

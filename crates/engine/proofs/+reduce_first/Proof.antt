@@ -7,7 +7,7 @@ use borrow.Author.Needs.{needs}
 use borrow.Author.Tests.{not-true, not-false}
 use borrow.Fn.Kinds.{In}
 use borrow.Fn.PlainCycle.{Measures, is, falls, and}
-use Rattle.rows.specs.Rows.{Four, rowsOf}
+use Rattle.row_operations.specs.Rows.{Four, rowsOf}
 use Rattle.engine.specs.State.{rowsIn, ordered, passed, reduced}
 use Rattle.engine.specs.Fine.{Fine}
 use Rattle.engine.specs.Room.{Ready}
@@ -21,10 +21,10 @@ use Rattle.engine.proofs.reduce_first.Kinds as kinds
 use Rattle.engine.proofs.+reduce_first.Lts-reduce_first as lts
 use Rattle.engine.proofs.pass.Reads as pass-reads
 use Rattle.engine.proofs.shorter.Reads as shorter-reads
-use Rattle.rows.proofs.order.Reads as order-reads
-use Rattle.rows.proofs.packed.Reads as packed-reads
-use Rattle.rows.proofs.take_table.Reads as take-table-reads
-use Rattle.rows.proofs.take_vectors.Reads as take-vectors-reads
+use Rattle.row_operations.proofs.order.Reads as order-reads
+use Rattle.row_operations.proofs.packed.Reads as packed-reads
+use Rattle.row_operations.proofs.take_table.Reads as take-table-reads
+use Rattle.row_operations.proofs.take_vectors.Reads as take-vectors-reads
 use Rattle.engine.proofs.+reduce_first.{statement}
 use Rattle.engine.proofs.+reduce_first.Tie.{close}
 

@@ -4,7 +4,7 @@ use Prim.Native.Nat.{ℕ}
 use lib.ListN.{getD}
 use Rattle.integers.specs.Size.{Within}
 use Rattle.lattices.specs.Vector.{nth}
-use Rattle.rows.specs.Rows.{transposed}
+use Rattle.row_operations.specs.Rows.{transposed}
 use Rattle.engine.specs.Whole.{Whole, whole-of, small}
 use Rattle.engine.specs.Answer.{finished}
 use borrow.Author.Needs.{needs}

@@ -10,9 +10,9 @@ use Rattle.lattices.specs.VectorLaws.{_≈_}
 use Rattle.lattices.specs.Nearest.{nearest}
 use Rattle.lattices.specs.Answer.{padded}
 use Rattle.lattices.specs.Refusal.{Input, firstOf, vectorChecks, targetChecks}
-use Rattle.reductions.specs.Accepted.{accepted, targeted}
-use Rattle.reductions.specs.Demand.{accepted-reduction, first-refused, first-passed}
-use Rattle.layers.specs.Near.{Near, coordinates, left-bounded}
+use Rattle.greedy_reduction.specs.Accepted.{accepted, targeted}
+use Rattle.greedy_reduction.specs.Demand.{accepted-reduction, first-refused, first-passed}
+use Rattle.nearest_of_four.specs.Near.{Near, coordinates, left-bounded}
 use Rattle.engine.specs.Answer.{vectors-back}
 use Rattle.engine.specs.Named.{named, array, target, target-read, near, nearest-answer, refused-nearest-with, refusal-is}
 use Rattle.engine.proofs.nearest.Statement.{statement}

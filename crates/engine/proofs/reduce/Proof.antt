@@ -3,9 +3,9 @@ use mathlib.Core.Path.{_≡_, sym, ap, ap₂, _∙_, subst}
 use mathlib.Core.List.{[]}
 use Prim.Native.Nat.{_+_, _≤_}
 use denote.Ref.{now}
-use Rattle.rows.specs.Rows.{rowsOf, workOf}
+use Rattle.row_operations.specs.Rows.{rowsOf, workOf}
 use Rattle.lattices.specs.Refusal.{Input, firstOf, vectorChecks}
-use Rattle.reductions.specs.Accepted.{Accepted, accepted}
+use Rattle.greedy_reduction.specs.Accepted.{Accepted, accepted}
 use Rattle.engine.specs.State.{rowsIn, greedyPasses, reduced}
 use Rattle.engine.specs.Fine.{Fine}
 use Rattle.engine.specs.Begin.{first, first-fine}

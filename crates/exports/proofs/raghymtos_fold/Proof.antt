@@ -10,8 +10,8 @@ use mir.Val.{toZ}
 use mir.Facts.{toZ-pos}
 use denote.Ref.{now}
 use borrow.Author.Tests.{le-leb, lt-leb}
-use Rattle.catalogues.specs.Output.{Output}
-use Rattle.folds.specs.Services.{foldOf}
+use Rattle.catalogue_rules.specs.Output.{Output}
+use Rattle.fold_rules.specs.Services.{foldOf}
 use Rattle.exports.specs.Layout.{head, layoutOutput}
 use Rattle.exports.specs.Runs.{written-short}
 use Rattle.exports.specs.CatalogueShape.{fold-few, head-stored, beside-short, beside-long}

@@ -10,7 +10,7 @@ use mir.Val.{toZ}
 use mir.Facts.{toZ-pos}
 use denote.Ref.{now}
 use borrow.Author.Tests.{le-leb, lt-leb}
-use Rattle.folds.specs.Services.{Lookup, lookupOf}
+use Rattle.fold_rules.specs.Services.{Lookup, lookupOf}
 use Rattle.exports.specs.Layout.{head, layoutLookup}
 use Rattle.exports.specs.Runs.{written-short}
 use Rattle.exports.specs.CatalogueShape.{lookup-few, head-stored}

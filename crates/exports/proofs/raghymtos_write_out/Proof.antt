@@ -10,8 +10,8 @@ use mir.Val.{toZ}
 use mir.Facts.{toZ-pos}
 use denote.Ref.{now}
 use borrow.Author.Tests.{le-leb, lt-leb}
-use Rattle.catalogues.specs.Read.{read}
-use Rattle.catalogues.specs.Output.{Output, output}
+use Rattle.catalogue_rules.specs.Read.{read}
+use Rattle.catalogue_rules.specs.Output.{Output, output}
 use Rattle.exports.specs.Layout.{head, layoutOutput}
 use Rattle.exports.specs.Runs.{written-short}
 use Rattle.exports.specs.CatalogueShape.{write-few, head-stored, beside-short, beside-long}

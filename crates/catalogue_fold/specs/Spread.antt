@@ -1,0 +1,110 @@
+-- Rows written one after the other into an array of coordinates.
+use mathlib.Core.Path.{_≡_, refl, sym, ap, ap₂, _∙_}
+use mathlib.Core.List.{List, [], _∷_, _++_, map, append-nil}
+use Prim.Native.Nat.{ℕ, zero, suc, _+_, _*_, _≤_, _<_}
+use native.Mathlib.Numerals.{add-one}
+use native.Mathlib.Omega.{arith}
+use lib.IntN.{ℤ, pos}
+use lib.ListN.{length, getD, set, take, length-append, length-set}
+use lib.Seq.{append-snoc, take-suc, length-take-le}
+use Rattle.lattices.specs.Vector.{Vec}
+use Rattle.lattices.specs.Greedy.{vectors}
+use Rattle.lattices.specs.RefusalLaws.{one-to}
+use Rattle.lattices.specs.Answer.{padded, table}
+use Rattle.lattices.specs.AnswerLaws.{length-padded, take-padded}
+use Rattle.greedy_reduction.specs.Start.{Coordinates}
+use Rattle.engine.specs.Finish.{R}
+use Rattle.catalogue_rules.specs.Catalogue.{Entry, coordinates, inputOf}
+use Rattle.catalogue_rules.specs.RoundTrip.{coordinates-snoc}
+use Rattle.catalogue_rules.specs.EntriesAccepted.{is-basis}
+use Rattle.fold_rules.specs.Fold.{reducedOf}
+use Rattle.fold_rules.specs.SameLattice.{Sound, entry-full}
+use Rattle.catalogue_records.specs.Filled.{filled, filled-next, map-snoc}
+use Rattle.catalogue_standing.specs.declared.reduced_entry.ReducedEntry.{ReducedEntry}
+use Rattle.catalogue_standing.specs.ReducedEntry.{reducedEntry, rowsIn, basisIn, basis-are, rows-table, length-table}
+
+-- the numbers of a list, from place n on
+abbrev pub putAll : List ℤ → ℕ → List ℤ → List ℤ
+putAll out n [] = out
+putAll out n (x ∷ l) = putAll (set out n x) (suc n) l
+
+pub length-put : (out : List ℤ) (n : ℕ) (l : List ℤ) → length (putAll out n l) ≡ length out
+length-put out n [] = refl
+length-put out n (x ∷ l) = length-put (set out n x) (suc n) l ∙ length-set out n x
+
+put-snoc : (out : List ℤ) (n : ℕ) (l : List ℤ) (x : ℤ) → set (putAll out n l) (n + length l) x ≡ putAll out n (l ++ (x ∷ []))
+put-snoc out n [] x = ap (λ k. set out k x) (omega arith)
+put-snoc out n (y ∷ l) x =
+    let e : n + suc (length l) ≡ suc n + length l = omega arith in
+    ap (λ k. set (putAll (set out n y) (suc n) l) k x) e ∙ put-snoc (set out n y) (suc n) l x
+
+pub put-more : (out : List ℤ) (n : ℕ) (v : List ℤ) (j : ℕ) → j < length v → set (putAll out n (take j v)) (n + j) (getD v j (pos 0)) ≡ putAll out n (take (j + 1) v)
+put-more out n v j h =
+    ap (λ k. set (putAll out n (take j v)) (n + k) (getD v j (pos 0))) (sym (length-take-le j v (omega arith)))
+    ∙ put-snoc out n (take j v) (getD v j (pos 0))
+    ∙ ap (putAll out n) (sym (take-suc v j (pos 0) h) ∙ ap (λ k. take k v) (sym (add-one j)))
+
+-- an array that is filled up to there is filled further
+pub put-filled : (z : ℤ) (n : ℕ) (l v : List ℤ) → length l + length v ≤ n → putAll (filled z n l) (length l) v ≡ filled z n (l ++ v)
+put-filled z n l [] h = ap (filled z n) (sym (append-nil l))
+put-filled z n l (x ∷ v) h =
+    let long : suc (length l) ≡ length (l ++ (x ∷ [])) = sym (length-append l (x ∷ []) ∙ add-one (length l)) in
+    ap₂ (λ out k. putAll out k v) (filled-next z n l x (omega arith)) long
+    ∙ put-filled z n (l ++ (x ∷ [])) v (omega (arith, long))
+    ∙ ap (filled z n) (append-snoc l x v)
+
+-- ---- what is kept: rows of four numbers
+
+pub record Full (k : ReducedEntry) : Type 0 where
+  pub few : k .d ≤ 4
+  pub narrow : k .m ≤ 4
+  pub rows : (i : ℕ) → i < k .d → length (getD (rowsIn k) i []) ≡ 4
+  pub count : k .d ≤ length (rowsIn k)
+
+-- the first i rows, cut to m numbers
+abbrev pub cut : ℕ → List Vec → ℕ → List ℤ
+cut m rows i = coordinates (map (take m) (take i rows))
+
+module _ (m : ℕ) (rows : List Vec) where
+  pub cut-more : (i : ℕ) → i < length rows → cut m rows (i + 1) ≡ cut m rows i ++ take m (getD rows i [])
+  cut-more i h =
+      ap (λ l. coordinates (map (take m) l)) (ap (λ k. take k rows) (add-one i) ∙ take-suc rows i [] h)
+      ∙ ap coordinates (sym (map-snoc (take m) (take i rows) (getD rows i [])))
+      ∙ coordinates-snoc (map (take m) (take i rows)) (take m (getD rows i []))
+
+  pub length-cut : (i : ℕ) → i ≤ length rows → ((j : ℕ) → j < i → m ≤ length (getD rows j [])) → length (cut m rows i) ≡ i * m
+  length-cut zero h w = omega arith
+  length-cut (suc i) h w =
+      let e : suc i ≡ i + 1 = omega arith in
+      ap (λ k. length (cut m rows k)) e
+      ∙ ap length (cut-more i (omega arith))
+      ∙ length-append (cut m rows i) (take m (getD rows i []))
+      ∙ omega (arith, length-cut i (omega arith) (λ j l. w j (omega arith)), length-take-le m (getD rows i []) (w i (omega arith)))
+
+-- of an entry: its reduced vectors
+back : (m : ℕ) → m ≤ 4 → (vs : List Vec) → Coordinates m vs → map (take m) (map (padded 4) vs) ≡ vs
+back m h [] c = refl
+back m h (v ∷ vs) c = ap₂ _∷_ (take-padded m 4 v (c .0) h) (back m h vs (c .1))
+
+pub kept-vectors : (e : Entry) → Sound e → map (take (e .head .m)) (basisIn (reducedEntry e)) ≡ reducedOf e
+kept-vectors e s = ap (map (take (e .head .m))) (basis-are e s) ∙ back (e .head .m) (one-to 4 (e .head .m) (s .fits .head .m) .1) (reducedOf e) (entry-full e s)
+
+-- and its rows are full
+length-row : (h w : ℕ) (rows : List Vec) (i : ℕ) → i < h → length (getD (table h w rows) i []) ≡ w
+length-row zero w rows i l = absurd (omega arith)
+length-row (suc h) w [] zero l = length-padded w []
+length-row (suc h) w [] (suc i) l = length-row h w [] i (omega arith)
+length-row (suc h) w (r ∷ rows) zero l = length-padded w r
+length-row (suc h) w (r ∷ rows) (suc i) l = length-row h w rows i (omega arith)
+
+pub kept-full : (e : Entry) → Sound e → Full (reducedEntry e)
+kept-full e s =
+    let few : e .head .d ≤ 4 = one-to 4 (e .head .d) (s .fits .head .d) .1 in
+    let vs = vectors (R (inputOf e) (is-basis e (s .fits) (s .independent))) in
+    let same = rows-table e s in
+    record {
+      few = few;
+      narrow = one-to 4 (e .head .m) (s .fits .head .m) .1;
+      rows = λ i h. ap (λ l. length (getD l i [])) same ∙ length-row 4 4 vs i (omega arith);
+      count = omega (arith, ap length same ∙ length-table 4 4 vs);
+    }

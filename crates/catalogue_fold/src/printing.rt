@@ -1,0 +1,102 @@
+// What the fold prints of a standing entry: its reduced vectors, and where its see word leads.
+ghost use mathlib.Core.Path.{_≡_};
+ghost use mathlib.Core.Bool.{false};
+ghost use mathlib.Core.List.{map};
+ghost use Prim.Native.Nat.{ℕ, _+_, _≤_, _<_};
+ghost use lib.IntN.{pos};
+ghost use lib.ListN.{length, getD, take};
+ghost use Rattle.catalogue_rules.specs.Catalogue.{coordinates};
+ghost use Rattle.catalogue_records.specs.Filled.{filled};
+ghost use Rattle.catalogue_standing.specs.ReducedEntry.{basisIn};
+ghost use Rattle.catalogue_fold.specs.Spread.{putAll, Full};
+ghost use Rattle.catalogue_fold.specs.Printing.{Led, printedAs};
+use catalogue_standing::standing_places::place_of;
+use catalogue_standing::reduced_entry::ReducedEntry;
+
+// The first m coordinates of a vector, from place n on.
+fn put_row(out: &mut [i64], n: usize, v: [i64; 4], m: usize)
+    requires { ⌜ m ≤ 4 ⌝ }
+    requires { ⌜ n + m ≤ length (now out) ⌝ }
+    requires { ⌜ length (now out) ≤ 16 ⌝ }
+    ensures { λ _. ⌜ now (out .exit) ≡ putAll (now (out .entry)) n (take m v) ⌝ }
+{
+    for j in 0..m {
+        out[n + j] = v[j];
+    }
+}
+
+// The coordinates of the reduced vectors, vector by vector, then zeros.
+fn spread(k: ReducedEntry) -> [i64; 16]
+    requires { ⌜ Full k ⌝ }
+    ensures { λ r. ⌜ r ≡ filled (pos 0) 16 (coordinates (map (take (k .m)) (basisIn k))) ⌝ }
+{
+    let of_k = k.vectors;
+    let rows = row_operations::vectors_of(of_k);
+    let mut out = [0i64; 16];
+    for i in 0..k.d {
+        let v = rows[i];
+        put_row(&mut out, i * k.m, v, k.m);
+    }
+    out
+}
+
+// Where a see word leads: whether there is a word to print, the number it names and where the word stood.
+pub struct Way {
+    pub sees: bool,
+    pub number: u32,
+    pub at: usize,
+}
+
+// No word.
+fn nowhere() -> Way
+    ensures { λ r. ⌜ r ≡ record { sees = false; number = 0; at = 0 } ⌝ }
+{
+    Way {
+        sees: false,
+        number: 0,
+        at: 0,
+    }
+}
+
+// The way of the see word of an entry: to the standing number of the entry named, and nowhere when that is its own.
+pub fn way_of(e: catalogue_records::Entry, own: u32, numbers: &[u32], standing: &[usize], count: usize) -> Way
+    requires { ⌜ (count ≤ length (now numbers)) × (count ≤ length (now standing)) ⌝ }
+    requires { ⌜ count ≤ 256 ⌝ }
+    requires { ⌜ ((k : ℕ) → k < count → getD (now standing) k 0 ≤ k) ⌝ }
+    ensures { λ r. ⌜ Led e own (now (numbers .entry)) (now (standing .entry)) count r ⌝ }
+{
+    if !e.sees {
+        return nowhere();
+    }
+    let k = place_of(numbers, count, e.see);
+    if k == count {
+        return nowhere();
+    }
+    let s = standing[k];
+    let there = numbers[s];
+    if there == own {
+        return nowhere();
+    }
+    Way {
+        sees: true,
+        number: there,
+        at: e.at,
+    }
+}
+
+// A standing entry as it is printed.
+pub fn printed(e: catalogue_records::Entry, k: ReducedEntry, w: Way) -> catalogue_records::Entry
+    requires { ⌜ Full k ⌝ }
+    ensures { λ r. ⌜ r ≡ printedAs e k w ⌝ }
+{
+    catalogue_records::Entry {
+        number: e.number,
+        d: e.d,
+        m: e.m,
+        place: e.place,
+        sees: w.sees,
+        see: w.number,
+        at: w.at,
+        coordinates: spread(k),
+    }
+}

@@ -1,0 +1,72 @@
+-- One case for each word.
+use mathlib.Core.Path.{sym, ap, _∙_}
+use Rattle.catalogue_reader.specs.Words.{wordIn}
+use Rattle.catalogue_reader.specs.Readings.{insideRead}
+use borrow.Author.Needs.{needs}
+use Rattle.catalogue_reader.proofs.reading.Reading.inside.Statement.{statement}
+use Rattle.catalogue_reader.proofs.reading.Reading.inside.Tie as tie
+
+enum-told : tie.Need-enum-told
+enum-told c = search needs
+
+stop-requires : tie.Need-stop-requires
+stop-requires c κs = search needs
+
+enum-known-w : tie.Need-enum-known-w
+enum-known-w c = search needs
+
+at-coordinate-requires : tie.Need-at-coordinate-requires
+at-coordinate-requires c κs = search needs
+
+enum-told-2 : tie.Need-enum-told-2
+enum-told-2 c = search needs
+
+stop-requires-2 : tie.Need-stop-requires-2
+stop-requires-2 c κs = search needs
+
+enum-told-3 : tie.Need-enum-told-3
+enum-told-3 c = search needs
+
+stop-requires-3 : tie.Need-stop-requires-3
+stop-requires-3 c κs = search needs
+
+enum-told-4 : tie.Need-enum-told-4
+enum-told-4 c = search needs
+
+stop-requires-4 : tie.Need-stop-requires-4
+stop-requires-4 c κs = search needs
+
+returns : tie.Need-returns
+returns c = c .stop .ensures ∙ sym (ap (λ w. insideRead (c .before .before .before .args .self) (wordIn w)) (c .before .enum-told .given .1))
+
+returns-2 : tie.Need-returns-2
+returns-2 c = c .at-coordinate .ensures ∙ sym (ap (λ w. insideRead (c .before .before .before .before .args .self) (wordIn w)) (c .before .before .w .given .1))
+
+returns-3 : tie.Need-returns-3
+returns-3 c = c .stop2 .ensures ∙ sym (ap (λ w. insideRead (c .before .before .before .args .self) (wordIn w)) (c .before .enum-told2 .given .1))
+
+returns-4 : tie.Need-returns-4
+returns-4 c = c .stop3 .ensures ∙ sym (ap (λ w. insideRead (c .before .before .before .args .self) (wordIn w)) (c .before .enum-told3 .given .1))
+
+returns-5 : tie.Need-returns-5
+returns-5 c = c .stop4 .ensures ∙ sym (ap (λ w. insideRead (c .before .before .before .args .self) (wordIn w)) (c .before .enum-told4 .given .1))
+
+pub inside-spec : {M : Type 1} → statement M
+inside-spec =
+    tie.close
+    (tie.spec
+    enum-told
+    stop-requires
+    enum-known-w
+    at-coordinate-requires
+    enum-told-2
+    stop-requires-2
+    enum-told-3
+    stop-requires-3
+    enum-told-4
+    stop-requires-4
+    returns
+    returns-2
+    returns-3
+    returns-4
+    returns-5)

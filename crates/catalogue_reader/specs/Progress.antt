@@ -1,0 +1,182 @@
+-- Reading word by word: after i words the code's state shows a state of the definition, and a turn of the loop keeps it.
+use mathlib.Core.Path.{_≡_, refl, sym, ap, ap₂, _∙_, subst}
+use mathlib.Core.Logic.{_≢_}
+use mathlib.Core.Bool.{true, false, cond, true≢false}
+use mathlib.Core.List.{List, []}
+use Prim.Native.Nat.{ℕ, suc, _+_, _≤_, _<_}
+use native.Mathlib.Numerals.{add-one}
+use native.Mathlib.Omega.{arith}
+use lib.ListN.{length, getD, set, drop, drop-of-length-le}
+use lib.Seq.{drop-cons}
+use borrow.Author.Tests.{lt-ltb, le-ltb}
+use Rattle.catalogue_rules.specs.Word.{Word, decode}
+use Rattle.catalogue_rules.specs.WordLaws.{InRange, decode-range}
+use Rattle.catalogue_rules.specs.Catalogue.{Outcome, refused}
+use Rattle.catalogue_rules.specs.Read.{State, outside, inside, after, closed, Step, next, stop, step, atLast, readWords}
+use Rattle.catalogue_rules.specs.Moves.{Moves, by-head, by-coordinate, by-see, by-end, Going, moved}
+use Rattle.catalogue_rules.specs.WellFormed.{Known, known-moves, nothing-read}
+use Rattle.catalogue_records.specs.declared.Entry.{Entry}
+use Rattle.catalogue_reader.specs.declared.reading.Reading.{Reading}
+use Rattle.catalogue_records.specs.Filled.{filled}
+use Rattle.catalogue_records.specs.Catalogues.{noCatalogue, stored, holding, catalogueOf}
+use Rattle.catalogue_reader.specs.Readings.{isClosed, stopped, stepRead, Ready}
+use Rattle.catalogue_reader.specs.States.{readingOf, stepOf, numbersOf, step-shown}
+use Rattle.catalogue_reader.specs.Room.{Due, due-moves, fine, ready}
+use Rattle.catalogue_reader.specs.Store.{wholeIn, put, store-moves, Space, noted, numbers-moves}
+
+-- a state with room, from which the words from i on have the outcome of all words
+pub record Onward (words : List ℕ) (i : ℕ) (s : State) : Type 0 where
+  pub known : Known s
+  pub due : Due s
+  pub rest : readWords s i (drop i words) ≡ readWords (outside []) 0 words
+
+-- what the code holds after i words shows such a state
+pub record Reached (words : List ℕ) (i : ℕ) (entries : List Entry) (numbers : List ℕ) (s : Reading) : Type 0 where
+  pub state : State
+  pub onward : Onward words i state
+  pub shown : s ≡ readingOf state
+  pub stores : entries ≡ stored (wholeIn state)
+  pub notes : numbers ≡ filled 0 256 (numbersOf state)
+
+pub at-start : (words : List ℕ) → Reached words 0 (stored []) (filled 0 256 []) (stopped 0)
+at-start words = record {
+  state = outside [];
+  onward = record { known = nothing-read; due = tt; rest = refl };
+  shown = refl;
+  stores = refl;
+  notes = refl;
+}
+
+-- ---- a turn
+
+goes-on : (s : State) → readingOf s .refusal ≡ 0
+goes-on (outside es) = refl
+goes-on (inside es h vs v) = refl
+goes-on (after es h vs) = refl
+goes-on (closed es) = refl
+
+whole-count : (s : State) → readingOf s .count ≡ length (wholeIn s)
+whole-count (outside es) = refl
+whole-count (inside es h vs v) = refl
+whole-count (after es h vs) = refl
+whole-count (closed es) = refl
+
+few : (s : State) → Known s → length (wholeIn s) ≤ 256
+few (outside es) k = k .few
+few (inside es h vs v) k = k .0 .entered .few
+few (after es h vs) k = k .0 .entered .few
+few (closed es) k = k .few
+
+-- a head has room for its number
+head-few : {s t : State} {i : ℕ} {w : Word} → Moves s i w t → Known t → Space (length (wholeIn t)) w
+head-few (by-head h b p) k = k .0 .few
+head-few (by-coordinate es h vs v l p) k = tt
+head-few (by-see es h vs s) k = tt
+head-few (by-end b) k = tt
+
+-- the outcome after a step
+abbrev after-step : ℕ → List ℕ → Step → Outcome
+after-step i words r = elim r [ next t ↦ readWords t (suc i) words | stop n ↦ refused n i ]
+
+-- a step that goes on
+pub record Moved (words : List ℕ) (i : ℕ) (s : State) (w : Word) (t : Reading) : Type 0 where
+  pub state : State
+  pub moves : Moves s i w state
+  pub onward : Onward words (suc i) state
+  pub shown : t ≡ readingOf state
+
+module _ (words : List ℕ) (i : ℕ) {entries : List Entry} {numbers : List ℕ} {s : Reading} (r : Reached words i entries numbers s) where
+  pub reached-ready : Ready numbers s
+  reached-ready = subst (λ l. Ready l s) (sym (r .notes)) (subst (Ready (filled 0 256 (numbersOf (r .state)))) (sym (r .shown)) (ready (r .state) (r .onward .known) (r .onward .due)))
+
+  module _ (here : i < length words) {t : Reading} {w : Word} (word : w ≡ decode (getD words i 0)) (read : t ≡ stepRead numbers s i w) where
+    turned : t ≡ stepOf (step (r .state) i w)
+    turned = read ∙ ap₂ (λ l x. stepRead l x i w) (r .notes) (r .shown) ∙ step-shown (r .state) i w (fine (r .state) (r .onward .known) (r .onward .due))
+
+    outcome : after-step i (drop (suc i) words) (step (r .state) i w) ≡ readWords (outside []) 0 words
+    unfolding readWords
+    outcome = ap (λ x. after-step i (drop (suc i) words) (step (r .state) i x)) word ∙ sym (ap (readWords (r .state) i) (drop-cons words i 0 here)) ∙ r .onward .rest
+
+    pub refuses : t .refusal ≢ 0 → refused (t .refusal) i ≡ readWords (outside []) 0 words
+    refuses stops = go (step (r .state) i w) turned outcome
+      where
+        go : (x : Step) → t ≡ stepOf x → after-step i (drop (suc i) words) x ≡ readWords (outside []) 0 words → refused (t .refusal) i ≡ readWords (outside []) 0 words
+        go (next u) e o = absurd (stops (ap (λ t. t .refusal) e ∙ goes-on u))
+        go (stop n) e o = ap (λ t. refused (t .refusal) i) e ∙ o
+
+    pub moves-on : t .refusal ≡ 0 → Moved words i (r .state) w t
+    moves-on goes = go (step (r .state) i w) turned outcome (moved (r .state) i w)
+      where
+        go : (x : Step) → t ≡ stepOf x → after-step i (drop (suc i) words) x ≡ readWords (outside []) 0 words → Going (Moves (r .state) i w) x → Moved words i (r .state) w t
+        go (next u) e o m = record {
+          state = u;
+          moves = m;
+          onward = record { known = known-moves m (subst InRange (sym word) (decode-range _)) (r .onward .known); due = due-moves m (r .onward .known) (r .onward .due); rest = o };
+          shown = e;
+        }
+        go (stop n) e o m = absurd (m (sym (ap (λ t. t .refusal) e) ∙ goes))
+
+    -- what the turn has stored and noted
+    pub keeps : (goes : t .refusal ≡ 0) {l : List Entry} {ns : List ℕ} → l ≡ put entries s t → ns ≡ noted numbers (t .count) w → Reached words (i + 1) l ns t
+    keeps goes {l} {ns} e f =
+        let m = moves-on goes in
+        subst (λ k. Reached words k l ns t) (sym (add-one i)) (record {
+          state = m .state;
+          onward = m .onward;
+          shown = m .shown;
+          stores =
+              e
+              ∙ ap₂ (λ x y. put entries x y) (r .shown) (m .shown)
+              ∙ ap (λ l. put l (readingOf (r .state)) (readingOf (m .state))) (r .stores)
+              ∙ store-moves (m .moves) (fine (r .state) (r .onward .known) (r .onward .due));
+          notes =
+              f
+              ∙ ap₂ (λ l n. noted l n w) (r .notes) (ap (λ x. x .count) (m .shown) ∙ whole-count (m .state))
+              ∙ numbers-moves (m .moves);
+        })
+
+    -- there is room for one entry more, and for a head's number
+    pub counted : t .refusal ≡ 0 → t .count ≤ 256
+    counted goes =
+        let m = moves-on goes in
+        omega (arith, ap (λ x. x .count) (m .shown), whole-count (m .state), few (m .state) (m .onward .known))
+
+    pub counted-head : t .refusal ≡ 0 → Space (t .count) w
+    counted-head goes =
+        let m = moves-on goes in
+        subst (λ n. Space n w) (sym (ap (λ x. x .count) (m .shown) ∙ whole-count (m .state))) (head-few (m .moves) (m .onward .known))
+
+-- what is stored, as the code decides it
+pub stores-one : (l : List Entry) (s t : Reading) → s .count < t .count → set l (s .count) (t .last) ≡ put l s t
+stores-one l s t h = sym (ap (λ b. cond b (set l (s .count) (t .last)) l) (lt-ltb _ _ h))
+
+pub stores-none : (l : List Entry) (s t : Reading) → t .count ≤ s .count → l ≡ put l s t
+stores-none l s t h = sym (ap (λ b. cond b (set l (s .count) (t .last)) l) (le-ltb _ _ h))
+
+-- ---- the end
+
+module _ (words : List ℕ) (i : ℕ) {entries : List Entry} {numbers : List ℕ} {s : Reading} (r : Reached words i entries numbers s) (over : length words ≤ i) where
+  last : atLast (r .state) i ≡ readWords (outside []) 0 words
+  unfolding readWords
+  last = sym (ap (readWords (r .state) i) (drop-of-length-le words over)) ∙ r .onward .rest
+
+  pub missing : isClosed (s .phase) ≡ false → noCatalogue 10 i ≡ catalogueOf (readWords (outside []) 0 words)
+  missing e = go (r .state) (sym (ap (λ x. isClosed (x .phase)) (r .shown)) ∙ e) ∙ ap catalogueOf last
+    where
+      go : (x : State) → isClosed (readingOf x .phase) ≡ false → noCatalogue 10 i ≡ catalogueOf (atLast x i)
+      go (outside es) h = refl
+      go (inside es h vs v) e = refl
+      go (after es h vs) e = refl
+      go (closed es) h = absurd (true≢false h)
+
+  pub complete : isClosed (s .phase) ≡ true → holding (s .count) entries ≡ catalogueOf (readWords (outside []) 0 words)
+  complete e =
+      ap₂ holding (ap (λ x. x .count) (r .shown)) (r .stores)
+      ∙ go (r .state) (sym (ap (λ x. isClosed (x .phase)) (r .shown)) ∙ e)
+      ∙ ap catalogueOf last
+    where
+      go : (x : State) → isClosed (readingOf x .phase) ≡ true → holding (readingOf x .count) (stored (wholeIn x)) ≡ catalogueOf (atLast x i)
+      go (outside es) h = absurd (true≢false (sym h))
+      go (inside es h vs v) e = absurd (true≢false (sym e))
+      go (after es h vs) e = absurd (true≢false (sym e))
+      go (closed es) h = refl

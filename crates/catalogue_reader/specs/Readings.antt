@@ -1,0 +1,108 @@
+-- What each word does to the stored state of reading, row by row as in the definition's `step`.
+use mathlib.Core.Bool.{Bool, true, false, not, _||_}
+use mathlib.Core.List.{List, [], _∷_}
+use Prim.Native.Nat.{ℕ, _+_, _≤_, _<_}
+use lib.Dec.{leb, ltb, eqb}
+use lib.ListN.{length, take}
+use Rattle.lattices.specs.Refusal.{any, oneTo, tooLong}
+use Rattle.catalogue_rules.specs.Word.{Word, head, coordinate, see, end, other}
+use Rattle.catalogue_rules.specs.Read.{checked, coordinateOf}
+use Rattle.catalogue_reader.specs.declared.reading.Phase.{Phase}
+use Rattle.catalogue_reader.specs.declared.reading.Phase.the-variants.{Outside, Inside, After, Closed}
+use Rattle.catalogue_records.specs.declared.Entry.{Entry}
+use Rattle.catalogue_reader.specs.declared.parts.Part.{Part}
+use Rattle.catalogue_reader.specs.declared.reading.Reading.{Reading}
+use Rattle.catalogue_records.specs.Stored.{noEntry}
+use Rattle.catalogue_reader.specs.Parts.{noPart, started, putCoordinate, putVector, whole}
+
+abbrev pub isNumber : ℕ → ℕ → Bool
+isNumber n k = eqb k n
+
+abbrev pub going : Phase → ℕ → Part → Entry → Reading
+going phase count part last = record { refusal = 0; phase = phase; count = count; part = part; last = last }
+
+-- a refusal: all else is empty
+abbrev pub stopped : ℕ → Reading
+stopped n = record { refusal = n; phase = Outside; count = 0; part = noPart; last = noEntry }
+
+abbrev pub headRead : List ℕ → Reading → ℕ → ℕ → ℕ → ℕ → Reading
+headRead numbers s number d m i =
+    checked stopped
+    ((leb 256 (s .count), 15)
+    ∷ (not (oneTo 4 d), 1)
+    ∷ (not (oneTo 4 m), 2)
+    ∷ (eqb number 0 || any (isNumber number) (take (s .count) numbers), 11)
+    ∷ [])
+    (going Inside (s .count) (started number d m i) (s .last))
+
+-- the phase after a whole vector
+abbrev pub vectorPhase : Bool → Phase
+vectorPhase true = After
+vectorPhase false = Inside
+
+abbrev pub vectorRead : Reading → Part → Reading
+vectorRead s p =
+    checked stopped ((tooLong (p .vector), 4) ∷ [])
+    (going (vectorPhase (eqb (putVector p .row) (putVector p .d))) (s .count) (putVector p) (s .last))
+
+abbrev pub columnRead : Bool → Reading → Part → Reading
+columnRead true s p = vectorRead s p
+columnRead false s p = going Inside (s .count) p (s .last)
+
+abbrev pub coordinateRead : Reading → ℕ → Reading
+coordinateRead s l =
+    let p = putCoordinate (s .part) (coordinateOf l) in
+    checked stopped ((ltb 40000 l, 4) ∷ []) (columnRead (eqb (p .column) (p .m)) s p)
+
+abbrev pub entryRead : Reading → Bool → ℕ → ℕ → Reading
+entryRead s sees number at = going Outside (s .count + 1) noPart (whole (s .part) sees number at)
+
+abbrev pub endRead : Reading → ℕ → Reading
+endRead s count = checked stopped ((not (eqb count (s .count)), 13) ∷ []) (going Closed (s .count) noPart (s .last))
+
+abbrev pub outsideRead : List ℕ → Reading → ℕ → Word → Reading
+outsideRead numbers s i (head number d m) = headRead numbers s number d m i
+outsideRead numbers s i (coordinate l) = stopped 10
+outsideRead numbers s i (see number) = stopped 10
+outsideRead numbers s i (end count) = endRead s count
+outsideRead numbers s i (other k l) = stopped 10
+
+abbrev pub insideRead : Reading → Word → Reading
+insideRead s (head number d m) = stopped 10
+insideRead s (coordinate l) = coordinateRead s l
+insideRead s (see number) = stopped 10
+insideRead s (end count) = stopped 10
+insideRead s (other k l) = stopped 10
+
+abbrev pub afterRead : List ℕ → Reading → ℕ → Word → Reading
+afterRead numbers s i (head number d m) = headRead numbers (entryRead s false 0 0) number d m i
+afterRead numbers s i (coordinate l) = stopped 10
+afterRead numbers s i (see number) = entryRead s true number i
+afterRead numbers s i (end count) = endRead (entryRead s false 0 0) count
+afterRead numbers s i (other k l) = stopped 10
+
+-- the word at index i, by what may come next
+abbrev pub phaseRead : Phase → List ℕ → Reading → ℕ → Word → Reading
+phaseRead Outside numbers s i w = outsideRead numbers s i w
+phaseRead Inside numbers s i w = insideRead s w
+phaseRead After numbers s i w = afterRead numbers s i w
+phaseRead Closed numbers s i w = stopped 14
+
+abbrev pub stepRead : List ℕ → Reading → ℕ → Word → Reading
+stepRead numbers s i w = phaseRead (s .phase) numbers s i w
+
+-- there is room for what may come next
+abbrev pub RoomIn : Phase → List ℕ → Reading → Type 0
+RoomIn Outside numbers s = s .count ≤ length numbers
+RoomIn Inside numbers s = (s .part .row < 4) × ((s .part .column < 4) × (s .part .filled < 16))
+RoomIn After numbers s = (s .count < 256) × (s .count < length numbers)
+RoomIn Closed numbers s = Unit {0}
+
+pub record Ready (numbers : List ℕ) (s : Reading) : Type 0 where
+  pub room : RoomIn (s .phase) numbers s
+
+abbrev pub isClosed : Phase → Bool
+isClosed Outside = false
+isClosed Inside = false
+isClosed After = false
+isClosed Closed = true

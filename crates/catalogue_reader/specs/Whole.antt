@@ -1,0 +1,101 @@
+-- A whole file: what the code finds row by row is what the definition reads.
+use mathlib.Core.Path.{_≡_, refl, sym, ap, ap₂, _∙_, subst}
+use mathlib.Core.Logic.{_≢_}
+use mathlib.Core.Bool.{Bool, not}
+use mathlib.Core.List.{List, [], _∷_}
+use mathlib.Core.Option.{Option, none, some}
+use Prim.Native.Nat.{ℕ, _%_, _≤_, _<_}
+use native.Mathlib.Omega.{arith}
+use lib.Dec.{ltb}
+use lib.ListN.{length}
+use borrow.Author.Tests.{eq-eqb, ne-eqb, lt-ltb, le-ltb}
+use Rattle.integers.specs.All.{All}
+use Rattle.catalogue_rules.specs.Word.{wordsOf}
+use Rattle.catalogue_rules.specs.Catalogue as definition
+use Rattle.catalogue_rules.specs.Catalogue.{Outcome, refused, accepted}
+use Rattle.catalogue_rules.specs.Read.{outside, checked, firstPlace, dependentAt, lostAt, readWords, afterWords, read}
+use Rattle.catalogue_rules.specs.Form.{EntryFits, Entered}
+use Rattle.catalogue_rules.specs.Moves.{WhenAccepted}
+use Rattle.catalogue_records.specs.declared.Catalogue.{Catalogue}
+use Rattle.catalogue_records.specs.Catalogues.{noCatalogue, catalogueOf, unless}
+use Rattle.catalogue_records.specs.Entries.{entriesIn, entries-back}
+
+-- the words' outcome
+abbrev pub words : List ℕ → Outcome
+words bytes = readWords (outside []) 0 (wordsOf bytes)
+
+-- ---- the rows after reading, on what was read
+
+-- both rows as the code hands catalogues on
+abbrev pub ended : Catalogue → Catalogue
+ended c = unless 5 (firstPlace dependentAt (entriesIn c)) (unless 12 (firstPlace (lostAt (entriesIn c)) (entriesIn c)) c)
+
+few : (o : Outcome) → WhenAccepted Entered o → catalogueOf o .count ≤ 256
+few (refused n p) k = omega arith
+few (accepted es) k = k .few
+
+fit : (o : Outcome) → WhenAccepted Entered o → All EntryFits (entriesIn (catalogueOf o))
+fit (refused n p) k = tt
+fit (accepted es) k = subst (All EntryFits) (sym (entries-back es (k .few) (k .fits))) (k .fits)
+
+stays : (o : Outcome) → catalogueOf o .refusal ≢ 0 → catalogueOf o ≡ catalogueOf (afterWords o)
+stays (refused n p) h = refl
+stays (accepted es) h = absurd (h refl)
+
+ends : (o : Outcome) → WhenAccepted Entered o → catalogueOf o .refusal ≡ 0 → catalogueOf (afterWords o) ≡ ended (catalogueOf o)
+ends (refused n p) k e = absurd (k e)
+ends (accepted es) k e =
+    rows (firstPlace dependentAt es) (firstPlace (lostAt es) es)
+    ∙ ap (λ fs. unless 5 (firstPlace dependentAt fs) (unless 12 (firstPlace (lostAt fs) fs) (catalogueOf (accepted es)))) (sym (entries-back es (k .few) (k .fits)))
+  where
+    rows : (a b : Option ℕ) → catalogueOf (elim a [ some p ↦ refused 5 p | none ↦ elim b [ some p ↦ refused 12 p | none ↦ accepted es ] ]) ≡ unless 5 a (unless 12 b (catalogueOf (accepted es)))
+    rows (some p) b = refl
+    rows none (some p) = refl
+    rows none none = refl
+
+module _ (o : Outcome) (k : WhenAccepted Entered o) {c : Catalogue} (is : c ≡ catalogueOf o) where
+  pub few-entries : c .count ≤ 256
+  few-entries = subst (λ c. c .count ≤ 256) (sym is) (few o k)
+
+  pub entries-fit : All EntryFits (entriesIn c)
+  entries-fit = subst (λ c. All EntryFits (entriesIn c)) (sym is) (fit o k)
+
+  pub stays-refused : c .refusal ≢ 0 → c ≡ catalogueOf (afterWords o)
+  stays-refused h = is ∙ stays o (λ e. h (ap (λ c. c .refusal) is ∙ e))
+
+  pub after-words : c .refusal ≡ 0 → ended c ≡ catalogueOf (afterWords o)
+  after-words e = ap ended is ∙ sym (ends o k (sym (ap (λ c. c .refusal) is) ∙ e))
+
+-- 5, and 12 when there is no 5
+module _ (c : Catalogue) (e : c .refusal ≡ 0) {d : Catalogue} (is : d ≡ unless 5 (firstPlace dependentAt (entriesIn c)) c) where
+  pub ended-5 : d .refusal ≢ 0 → d ≡ ended c
+  ended-5 h = go (firstPlace dependentAt (entriesIn c)) is
+    where
+      go : (a : Option ℕ) → d ≡ unless 5 a c → d ≡ unless 5 a (unless 12 (firstPlace (lostAt (entriesIn c)) (entriesIn c)) c)
+      go (some p) is = is
+      go none is = absurd (h (ap (λ c. c .refusal) is ∙ e))
+
+  pub ended-12 : {r : Catalogue} → d .refusal ≡ 0 → r ≡ unless 12 (firstPlace (lostAt (entriesIn c)) (entriesIn c)) c → r ≡ ended c
+  ended-12 {r} h last = go (firstPlace dependentAt (entriesIn c)) is
+    where
+      go : (a : Option ℕ) → d ≡ unless 5 a c → r ≡ unless 5 a (unless 12 (firstPlace (lostAt (entriesIn c)) (entriesIn c)) c)
+      go (some p) is = absurd (let z : 5 ≡ 0 = sym (ap (λ c. c .refusal) is) ∙ h in omega arith)
+      go none is = last
+
+-- ---- the row "whole file", then the words
+
+module _ (bytes : List ℕ) where
+  by-rows : Bool → Bool → Catalogue
+  by-rows a b = catalogueOf (checked (λ n. refused n 0) ((not a, 8) ∷ (b, 9) ∷ []) (afterWords (words bytes)))
+
+  pub refused-8 : length bytes % 4 ≢ 0 → noCatalogue 8 0 ≡ catalogueOf (read bytes)
+  unfolding by-rows read
+  refused-8 h = sym (ap (λ a. by-rows a (ltb 18436 (length bytes))) (ne-eqb _ 0 h))
+
+  pub refused-9 : length bytes % 4 ≡ 0 → 18436 < length bytes → noCatalogue 9 0 ≡ catalogueOf (read bytes)
+  unfolding by-rows read
+  refused-9 e h = sym (ap₂ by-rows (eq-eqb _ 0 e) (lt-ltb _ _ h))
+
+  pub by-words : length bytes % 4 ≡ 0 → length bytes ≤ 18436 → catalogueOf (afterWords (words bytes)) ≡ catalogueOf (read bytes)
+  unfolding by-rows read
+  by-words e h = sym (ap₂ by-rows (eq-eqb _ 0 e) (le-ltb _ _ h))

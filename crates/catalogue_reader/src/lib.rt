@@ -1,0 +1,164 @@
+// A catalogue read out of bytes: the row "whole file", the words one after the other, and the rows "after reading".
+ghost use mathlib.Core.Path.{_≡_};
+ghost use mathlib.Core.List.{[]};
+ghost use mathlib.Core.Bool.{_&&_, not};
+ghost use Prim.Native.Nat.{_≤_};
+ghost use lib.ListN.{length, take};
+ghost use Rattle.integers.specs.All.{All};
+ghost use Rattle.lattices.specs.Volume.{isDependent};
+ghost use Rattle.lattices.specs.Refusal.{any};
+ghost use Rattle.catalogue_rules.specs.Word.{wordsOf};
+ghost use Rattle.catalogue_rules.specs.Read.{read, outside, readWords, firstPlace, dependentAt, lostAt};
+ghost use Rattle.catalogue_records.specs.Catalogues.{catalogueOf, unless};
+ghost use Rattle.catalogue_reader.specs.Readings.{isClosed, isNumber};
+ghost use Rattle.catalogue_reader.specs.Words.{wordIn};
+ghost use Rattle.catalogue_reader.specs.Store.{noted, Space};
+ghost use Rattle.catalogue_rules.specs.Form.{EntryFits};
+ghost use Rattle.catalogue_records.specs.Entries.{entryIn, entriesIn};
+use reading::Phase;
+use reading::Reading;
+use reading::numbered;
+use catalogue_records::Catalogue;
+use catalogue_records::Entry;
+use words::Word;
+use words::decode;
+use words::word_at;
+
+mod parts;
+mod reading;
+mod words;
+
+// Whether nothing may follow.
+fn closed(phase: Phase) -> bool
+    ensures { λ r. ⌜ r ≡ isClosed phase ⌝ }
+{
+    match phase {
+        Phase::Outside => false,
+        Phase::Inside => false,
+        Phase::After => false,
+        Phase::Closed => true,
+    }
+}
+
+// A head's number is noted after those of the entries before it.
+fn note(numbers: &mut [u32; 256], count: usize, w: Word)
+    requires { ⌜ Space count (wordIn w) ⌝ }
+    ensures { λ _. ⌜ now (numbers .exit) ≡ noted (now (numbers .entry)) count (wordIn w) ⌝ }
+{
+    match w {
+        Word::Head { number, d: _, m: _ } => {
+            numbers[count] = number;
+        }
+        Word::Coordinate(_) => {}
+        Word::See(_) => {}
+        Word::End(_) => {}
+        Word::Other { kind: _, load: _ } => {}
+    }
+}
+
+// The entries of the words, or the refusal of the first word that cannot stand. Entries and numbers of heads are stored in place.
+fn read_words(bytes: &[u8]) -> Catalogue
+    ensures { λ r. ⌜ r ≡ catalogueOf (readWords (outside []) 0 (wordsOf (now (bytes .entry)))) ⌝ }
+{
+    let none = Entry::empty();
+    let mut entries = [none; Catalogue::MOST_ENTRIES];
+    let mut numbers = [0u32; Catalogue::MOST_ENTRIES];
+    let mut s = Reading::start();
+    let n = bytes.len() / 4;
+    for i in 0..n {
+        let w = decode(word_at(bytes, i));
+        let t = s.step(&numbers, i, w);
+        if t.refusal != 0 {
+            return Catalogue::refused(t.refusal, i);
+        }
+        let k = s.count;
+        let c = t.count;
+        if k < c {
+            let e = t.last;
+            entries[k] = e;
+        }
+        note(&mut numbers, c, w);
+        s = t;
+    }
+    let phase = s.phase;
+    if !closed(phase) {
+        return Catalogue::refused(10, n);
+    }
+    Catalogue {
+        refusal: 0,
+        place: 0,
+        count: s.count,
+        entries: entries,
+    }
+}
+
+// Whether the vectors of an entry are dependent.
+fn dependent(e: Entry) -> bool
+    requires { ⌜ EntryFits (entryIn e) ⌝ }
+    ensures { λ r. ⌜ r ≡ isDependent (e .m) (entryIn e .vectors) ⌝ }
+{
+    let coordinates = e.coordinates;
+    let n = e.d * e.m;
+    let b = input_checks::basis(&coordinates[..n], e.d, e.m);
+    input_checks::dependent(b, e.d)
+}
+
+// Row "after reading", 5: at the head of the first dependent entry.
+fn independent(c: Catalogue) -> Catalogue
+    requires { ⌜ c .count ≤ 256 ⌝ }
+    requires { ⌜ All EntryFits (entriesIn c) ⌝ }
+    ensures { λ r. ⌜ r ≡ unless 5 (firstPlace dependentAt (entriesIn c)) c ⌝ }
+{
+    for k in 0..c.count {
+        let e = c.entries[k];
+        if dependent(e) {
+            return Catalogue::refused(5, e.place);
+        }
+    }
+    c
+}
+
+// Whether an entry has a see word that names none of the first count numbers.
+fn lost(e: Entry, numbers: &[u32], count: usize) -> bool
+    requires { ⌜ count ≤ length (now numbers) ⌝ }
+    ensures { λ r. ⌜ r ≡ (e .sees && not (any (isNumber (e .see)) (take count (now (numbers .entry))))) ⌝ }
+{
+    e.sees && !numbered(numbers, count, e.see)
+}
+
+// Row "after reading", 12: at the first see word that names no entry.
+fn found(c: Catalogue) -> Catalogue
+    requires { ⌜ c .count ≤ 256 ⌝ }
+    ensures { λ r. ⌜ r ≡ unless 12 (firstPlace (lostAt (entriesIn c)) (entriesIn c)) c ⌝ }
+{
+    let numbers = catalogue_records::numbers(c);
+    for k in 0..c.count {
+        let e = c.entries[k];
+        if lost(e, &numbers, c.count) {
+            return Catalogue::refused(12, e.at);
+        }
+    }
+    c
+}
+
+// Reads a catalogue.
+pub fn read(bytes: &[u8]) -> Catalogue
+    ensures { λ r. ⌜ r ≡ catalogueOf (read (now (bytes .entry))) ⌝ }
+{
+    if bytes.len() % 4 != 0 {
+        return Catalogue::refused(8, 0);
+    }
+    if Catalogue::MOST_BYTES < bytes.len() {
+        return Catalogue::refused(9, 0);
+    }
+    let c = read_words(bytes);
+    if c.refusal != 0 {
+        return c;
+    }
+    let bases = independent(c);
+    let links = found(c);
+    if bases.refusal != 0 {
+        return bases;
+    }
+    links
+}

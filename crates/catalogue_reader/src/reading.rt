@@ -1,0 +1,231 @@
+// A step of reading: what each word does to the state, row by row of the table of refusals.
+ghost use mathlib.Core.Path.{_≡_};
+ghost use mathlib.Core.Bool.{_||_};
+ghost use Prim.Native.Nat.{_≤_, _<_};
+ghost use lib.Dec.{eqb};
+ghost use lib.ListN.{length, take};
+ghost use Rattle.lattices.specs.Refusal.{any};
+ghost use Rattle.catalogue_reader.specs.Words.{wordIn};
+ghost use Rattle.catalogue_reader.specs.Readings.{isNumber, going, stopped, headRead, vectorRead, coordinateRead, entryRead, endRead, outsideRead, insideRead, afterRead, Ready, stepRead};
+use super::parts::Part;
+use super::words::Word;
+use catalogue_records::Catalogue;
+use catalogue_records::Entry;
+
+// What may come next: a head or the end; a coordinate; a see word, a head or the end; nothing.
+pub(crate) enum Phase {
+    Outside,
+    Inside,
+    After,
+    Closed,
+}
+
+// Where reading stands: a refusal, or what may come next, how many entries are whole, the entry being read, and the last whole one.
+pub(crate) struct Reading {
+    pub refusal: u64,
+    pub phase: Phase,
+    pub count: usize,
+    pub part: Part,
+    pub last: Entry,
+}
+
+// Whether one of the first count numbers is n.
+pub(crate) fn numbered(numbers: &[u32], count: usize, n: u32) -> bool
+    requires { ⌜ count ≤ length (now numbers) ⌝ }
+    ensures { λ r. ⌜ r ≡ any (isNumber n) (take count (now (numbers .entry))) ⌝ }
+{
+    for k in 0..count {
+        if numbers[k] == n {
+            return true;
+        }
+    }
+    false
+}
+
+// Whether a head may not have the number n: it is zero, or one of the first count numbers.
+fn not_free(numbers: &[u32], count: usize, n: u32) -> bool
+    requires { ⌜ count ≤ length (now numbers) ⌝ }
+    ensures { λ r. ⌜ r ≡ (eqb n 0 || any (isNumber n) (take count (now (numbers .entry)))) ⌝ }
+{
+    n == 0 || numbered(numbers, count, n)
+}
+
+impl Reading {
+    // A refusal: all else is empty.
+    fn stop(refusal: u64) -> Reading
+        ensures { λ r. ⌜ r ≡ stopped refusal ⌝ }
+    {
+        Reading {
+            refusal: refusal,
+            phase: Phase::Outside,
+            count: 0,
+            part: Part::empty(),
+            last: Entry::empty(),
+        }
+    }
+
+    // Nothing is read.
+    pub(crate) fn start() -> Reading
+        ensures { λ r. ⌜ r ≡ stopped 0 ⌝ }
+    {
+        Reading::stop(0)
+    }
+
+    // The same entries, another part.
+    fn going(self, phase: Phase, part: Part) -> Reading
+        ensures { λ r. ⌜ r ≡ going phase (self .count) part (self .last) ⌝ }
+    {
+        let last = self.last;
+        Reading {
+            refusal: 0,
+            phase: phase,
+            count: self.count,
+            part: part,
+            last: last,
+        }
+    }
+
+    // Row "head", after the entries that are whole; numbers are theirs.
+    fn at_head(self, numbers: &[u32], number: u32, d: usize, m: usize, i: usize) -> Reading
+        requires { ⌜ self .count ≤ length (now numbers) ⌝ }
+        ensures { λ r. ⌜ r ≡ headRead (now (numbers .entry)) self number d m i ⌝ }
+    {
+        if Catalogue::MOST_ENTRIES <= self.count {
+            return Reading::stop(15);
+        }
+        if !input_checks::one_to(4, d) {
+            return Reading::stop(1);
+        }
+        if !input_checks::one_to(4, m) {
+            return Reading::stop(2);
+        }
+        if not_free(numbers, self.count, number) {
+            return Reading::stop(11);
+        }
+        self.going(Phase::Inside, Part::start(number, d, m, i))
+    }
+
+    // Row "coordinate" at a vector's last coordinate, the part up to it being given.
+    fn at_vector(self, part: Part) -> Reading
+        requires { ⌜ part .row < 4 ⌝ }
+        ensures { λ r. ⌜ r ≡ vectorRead self part ⌝ }
+    {
+        let v = part.vector;
+        if input_checks::long(v) {
+            return Reading::stop(4);
+        }
+        let p = part.with_vector();
+        if p.row == p.d {
+            return self.going(Phase::After, p);
+        }
+        self.going(Phase::Inside, p)
+    }
+
+    // Row "coordinate".
+    fn at_coordinate(self, load: u32) -> Reading
+        requires { ⌜ self .part .row < 4 ⌝ }
+        requires { ⌜ self .part .column < 4 ⌝ }
+        requires { ⌜ self .part .filled < 16 ⌝ }
+        ensures { λ r. ⌜ r ≡ coordinateRead self load ⌝ }
+    {
+        if Catalogue::MOST_LOAD < load {
+            return Reading::stop(4);
+        }
+        let part = self.part;
+        let p = part.with_coordinate(load as i64 - 20000);
+        if p.column == p.m {
+            return self.at_vector(p);
+        }
+        self.going(Phase::Inside, p)
+    }
+
+    // The entry is whole.
+    fn with_entry(self, sees: bool, see: u32, at: usize) -> Reading
+        requires { ⌜ self .count < 256 ⌝ }
+        ensures { λ r. ⌜ r ≡ entryRead self sees see at ⌝ }
+    {
+        let part = self.part;
+        let e = part.entry(sees, see, at);
+        Reading {
+            refusal: 0,
+            phase: Phase::Outside,
+            count: self.count + 1,
+            part: Part::empty(),
+            last: e,
+        }
+    }
+
+    // Row "end", its first condition.
+    fn at_end(self, count: u32) -> Reading
+        ensures { λ r. ⌜ r ≡ endRead self count ⌝ }
+    {
+        if count as usize != self.count {
+            return Reading::stop(13);
+        }
+        self.going(Phase::Closed, Part::empty())
+    }
+
+    // A word between entries.
+    fn outside(self, numbers: &[u32], i: usize, w: Word) -> Reading
+        requires { ⌜ self .count ≤ length (now numbers) ⌝ }
+        ensures { λ r. ⌜ r ≡ outsideRead (now (numbers .entry)) self i (wordIn w) ⌝ }
+    {
+        match w {
+            Word::Head { number, d, m } => self.at_head(numbers, number, d, m, i),
+            Word::Coordinate(_) => Reading::stop(10),
+            Word::See(_) => Reading::stop(10),
+            Word::End(count) => self.at_end(count),
+            Word::Other { kind: _, load: _ } => Reading::stop(10),
+        }
+    }
+
+    // A word within an entry.
+    fn inside(self, w: Word) -> Reading
+        requires { ⌜ self .part .row < 4 ⌝ }
+        requires { ⌜ self .part .column < 4 ⌝ }
+        requires { ⌜ self .part .filled < 16 ⌝ }
+        ensures { λ r. ⌜ r ≡ insideRead self (wordIn w) ⌝ }
+    {
+        match w {
+            Word::Head {
+                number: _,
+                d: _,
+                m: _,
+            } => Reading::stop(10),
+            Word::Coordinate(load) => self.at_coordinate(load),
+            Word::See(_) => Reading::stop(10),
+            Word::End(_) => Reading::stop(10),
+            Word::Other { kind: _, load: _ } => Reading::stop(10),
+        }
+    }
+
+    // A word after an entry's last coordinate: the entry is whole, with or without a see word.
+    fn after(self, numbers: &[u32], i: usize, w: Word) -> Reading
+        requires { ⌜ self .count < 256 ⌝ }
+        requires { ⌜ self .count < length (now numbers) ⌝ }
+        ensures { λ r. ⌜ r ≡ afterRead (now (numbers .entry)) self i (wordIn w) ⌝ }
+    {
+        match w {
+            Word::Head { number, d, m } => self.with_entry(false, 0, 0)
+                .at_head(numbers, number, d, m, i),
+            Word::Coordinate(_) => Reading::stop(10),
+            Word::See(number) => self.with_entry(true, number, i),
+            Word::End(count) => self.with_entry(false, 0, 0).at_end(count),
+            Word::Other { kind: _, load: _ } => Reading::stop(10),
+        }
+    }
+
+    // The word at index i.
+    pub(crate) fn step(self, numbers: &[u32], i: usize, w: Word) -> Reading
+        requires { ⌜ Ready (now numbers) self ⌝ }
+        ensures { λ r. ⌜ r ≡ stepRead (now (numbers .entry)) self i (wordIn w) ⌝ }
+    {
+        let phase = self.phase;
+        match phase {
+            Phase::Outside => self.outside(numbers, i, w),
+            Phase::Inside => self.inside(w),
+            Phase::After => self.after(numbers, i, w),
+            Phase::Closed => Reading::stop(14),
+        }
+    }
+}

@@ -1,0 +1,38 @@
+-- An entry of the definition as the code stores it.
+use mathlib.Core.Bool.{Bool, true, false}
+use mathlib.Core.Option.{Option, none, some}
+use Prim.Native.Nat.{ℕ}
+use lib.IntN.{pos}
+use lib.ListN.{replicate}
+use Rattle.catalogue_rules.specs.Catalogue as definition
+use Rattle.catalogue_rules.specs.Catalogue.{See, coordinates}
+use Rattle.catalogue_records.specs.declared.Entry.{Entry}
+use Rattle.catalogue_records.specs.Filled.{filled}
+
+abbrev pub noEntry : Entry
+noEntry = record { number = 0; d = 0; m = 0; place = 0; sees = false; see = 0; at = 0; coordinates = replicate 16 (pos 0) }
+
+-- a see word or none: whether there is one, its number and its place
+abbrev pub sees : Option See → Bool
+sees none = false
+sees (some s) = true
+
+abbrev pub seeNumber : Option See → ℕ
+seeNumber none = 0
+seeNumber (some s) = s .number
+
+abbrev pub seePlace : Option See → ℕ
+seePlace none = 0
+seePlace (some s) = s .place
+
+abbrev pub entryOf : definition.Entry → Entry
+entryOf e = record {
+  number = e .head .number;
+  d = e .head .d;
+  m = e .head .m;
+  place = e .head .place;
+  sees = sees (e .see);
+  see = seeNumber (e .see);
+  at = seePlace (e .see);
+  coordinates = filled (pos 0) 16 (coordinates (e .vectors));
+}

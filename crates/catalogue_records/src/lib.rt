@@ -1,0 +1,88 @@
+// What is stored of a catalogue: entries, the outcome of reading, and what a writing says.
+ghost use mathlib.Core.Path.{_≡_};
+ghost use mathlib.Core.List.{map};
+ghost use Rattle.catalogue_records.specs.Stored.{noEntry};
+ghost use Rattle.catalogue_records.specs.Catalogues.{noCatalogue};
+
+// An entry: its head and the place of the head; whether it has a see word, its number and where it stands; d times m coordinates, then zeros.
+pub struct Entry {
+    pub number: u32,
+    pub d: usize,
+    pub m: usize,
+    pub place: usize,
+    pub sees: bool,
+    pub see: u32,
+    pub at: usize,
+    pub coordinates: [i64; 16],
+}
+
+// The outcome of reading: a refusal and its place, or the entries.
+pub struct Catalogue {
+    pub refusal: u64,
+    pub place: usize,
+    pub count: usize,
+    pub entries: [Entry; 256],
+}
+
+// What a writing says: a refusal and its place, or how many bytes were written.
+pub struct Written {
+    pub refusal: u64,
+    pub place: usize,
+    pub length: usize,
+}
+
+impl Catalogue {
+    pub const MOST_ENTRIES: usize = 256;
+
+    pub const MOST_BYTES: usize = 18436;
+
+    pub const MOST_LOAD: u32 = 40000;
+
+    // No entry; without a refusal for 0.
+    pub fn refused(refusal: u64, place: usize) -> Catalogue
+        ensures { λ r. ⌜ r ≡ noCatalogue refusal place ⌝ }
+    {
+        let none = Entry::empty();
+        Catalogue {
+            refusal: refusal,
+            place: place,
+            count: 0,
+            entries: [none; Self::MOST_ENTRIES],
+        }
+    }
+
+    pub fn empty() -> Catalogue
+        ensures { λ r. ⌜ r ≡ noCatalogue 0 0 ⌝ }
+    {
+        Self::refused(0, 0)
+    }
+}
+
+impl Entry {
+    pub fn empty() -> Entry
+        ensures { λ r. ⌜ r ≡ noEntry ⌝ }
+    {
+        Entry {
+            number: 0,
+            d: 0,
+            m: 0,
+            place: 0,
+            sees: false,
+            see: 0,
+            at: 0,
+            coordinates: [0; 16],
+        }
+    }
+}
+
+// The numbers of the stored entries.
+pub fn numbers(c: Catalogue) -> [u32; 256]
+    ensures { λ r. ⌜ r ≡ map (λ e. e .number) (c .entries) ⌝ }
+{
+    let mut numbers = [0u32; 256];
+    for k in 0..256 {
+        let e = c.entries[k];
+        numbers[k] = e.number;
+    }
+    numbers
+}

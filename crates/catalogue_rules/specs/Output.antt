@@ -1,0 +1,33 @@
+-- Writing to a lent output (document 01, row "output, folded or not").
+use mathlib.Core.Bool.{Bool}
+use mathlib.Core.List.{List, [], _∷_, _++_}
+use Prim.Native.Nat.{ℕ}
+use lib.Dec.{ltb}
+use lib.ListN.{length, drop}
+use Rattle.catalogue_rules.specs.Catalogue.{Outcome, refused, accepted}
+use Rattle.catalogue_rules.specs.Read.{checked}
+use Rattle.catalogue_rules.specs.Write.{write}
+
+-- a refusal and its place, how many bytes were written, and the output afterwards
+pub record Output : Type 0 where
+  pub refusal : ℕ
+  pub place : ℕ
+  pub written : ℕ
+  pub lent : List ℕ
+
+-- on refusal all bytes stay
+abbrev pub untouched : ℕ → ℕ → List ℕ → Output
+untouched refusal place out = record { refusal = refusal; place = place; written = 0; lent = out }
+
+-- "On success a writing fills its own length and the rest of the output keeps its bytes."
+abbrev pub filledWith : List ℕ → List ℕ → Output
+filledWith bytes out = record { refusal = 0; place = 0; written = length bytes; lent = bytes ++ drop (length bytes) out }
+
+-- "16 lent output shorter than what is to be written", at place 0
+abbrev pub lentRows : List ℕ → List ℕ → List (Bool × ℕ)
+lentRows bytes out = (ltb (length out) (length bytes), 16) ∷ []
+
+-- the entries of an outcome, or its refusal first
+abbrev pub output : Outcome → List ℕ → Output
+output (refused n p) out = untouched n p out
+output (accepted es) out = checked (λ n. untouched n 0 out) (lentRows (write es) out) (filledWith (write es) out)

@@ -1,0 +1,147 @@
+-- Reading any list of bytes: the rows "whole file" to "after reading" of document 01 ("Refused, by place of checking").
+-- A state says what may come next; a step takes a state and a word to the next state or to a refusal at that word.
+use mathlib.Core.Bool.{Bool, true, false, not, _&&_, _||_}
+use mathlib.Core.List.{List, [], _∷_, _++_}
+use mathlib.Core.Option.{Option, none, some}
+use Prim.Native.Nat.{ℕ, suc, _%_}
+use lib.Dec.{leb, ltb, eqb}
+use lib.IntN.{ℤ, pos, _-ℤ_}
+use lib.ListN.{length}
+use lib.Signed.{ltZ}
+use Rattle.lattices.specs.Vector.{Vec, N}
+use Rattle.lattices.specs.Volume.{isDependent}
+use Rattle.lattices.specs.Refusal.{any, oneTo, mostVectors, mostCoordinates, mostSquare, mostSize}
+use Rattle.catalogue_rules.specs.Word.{Word, head, coordinate, see, end, other, decode, wordsOf}
+use Rattle.catalogue_rules.specs.Catalogue.{Head, See, Entry, Outcome, refused, accepted, mostEntries, mostBytes, mostLoad}
+
+-- what has been read, by what may come next
+pub data State : Type 0 where
+  -- a head or the end
+  outside : List Entry → State
+  -- a coordinate: the entries before, the entry's head and whole vectors, the vector being read
+  inside : List Entry → Head → List Vec → Vec → State
+  -- a see word, a head or the end
+  after : List Entry → Head → List Vec → State
+  -- nothing
+  closed : List Entry → State
+
+pub data Step : Type 0 where
+  next : State → Step
+  stop : (number : ℕ) → Step
+
+-- rows of the table, each a condition and a number: "the first that applies is given, and none otherwise"
+abbrev pub checked : {A : Type 0} → (ℕ → A) → List (Bool × ℕ) → A → A
+checked refuse [] a = a
+checked refuse (r ∷ rows) a = elim (r .0) [ true ↦ refuse (r .1) | false ↦ checked refuse rows a ]
+
+abbrev pub isNumbered : ℕ → Entry → Bool
+isNumbered n e = eqb (e .head .number) n
+
+-- the entries with one more, its see word given or not
+abbrev pub withEntry : List Entry → Head → List Vec → Option See → List Entry
+withEntry es h vs s = es ++ (record { head = h; vectors = vs; see = s } ∷ [])
+
+-- row "head"
+abbrev pub headRows : List Entry → Head → List (Bool × ℕ)
+headRows es h =
+    (leb mostEntries (length es), 15)
+    ∷ (not (oneTo mostVectors (h .d)), 1)
+    ∷ (not (oneTo mostCoordinates (h .m)), 2)
+    ∷ (eqb (h .number) 0 || any (isNumbered (h .number)) es, 11)
+    ∷ []
+
+abbrev pub atHead : List Entry → Head → Step
+atHead es h = checked stop (headRows es h) (next (inside es h [] []))
+
+-- "coordinate plus 20,000"
+abbrev pub coordinateOf : ℕ → ℤ
+coordinateOf l = pos l -ℤ pos mostSize
+
+-- d vectors, then the entry is whole
+abbrev pub withVector : List Entry → Head → List Vec → State
+withVector es h vs = elim (eqb (length vs) (h .d)) [ true ↦ after es h vs | false ↦ inside es h vs [] ]
+
+-- m coordinates, then the vector is whole
+abbrev pub withCoordinate : List Entry → Head → List Vec → Vec → State
+withCoordinate es h vs v = elim (eqb (length v) (h .m)) [ true ↦ withVector es h (vs ++ (v ∷ [])) | false ↦ inside es h vs v ]
+
+-- row "coordinate", for a vector up to this coordinate
+abbrev pub coordinateRows : Head → Vec → ℕ → List (Bool × ℕ)
+coordinateRows h v l = (ltb mostLoad l || (eqb (length v) (h .m) && ltZ (pos mostSquare) (N v)), 4) ∷ []
+
+abbrev pub atCoordinate : List Entry → Head → List Vec → Vec → ℕ → Step
+atCoordinate es h vs v l =
+    let u = v ++ (coordinateOf l ∷ []) in
+    checked stop (coordinateRows h u l) (next (withCoordinate es h vs u))
+
+-- row "end", its first condition
+abbrev pub endRows : List Entry → ℕ → List (Bool × ℕ)
+endRows es count = (not (eqb count (length es)), 13) ∷ []
+
+abbrev pub atEnd : List Entry → ℕ → Step
+atEnd es count = checked stop (endRows es count) (next (closed es))
+
+-- the word at index i; 10 for "a kind that cannot stand here", 14 for "words follow"
+unfoldable pub step : State → ℕ → Word → Step
+step (outside es) i (head number d m) = atHead es (record { number = number; d = d; m = m; place = i })
+step (outside es) i (coordinate l) = stop 10
+step (outside es) i (see number) = stop 10
+step (outside es) i (end count) = atEnd es count
+step (outside es) i (other k l) = stop 10
+step (inside es h vs v) i (head number d m) = stop 10
+step (inside es h vs v) i (coordinate l) = atCoordinate es h vs v l
+step (inside es h vs v) i (see number) = stop 10
+step (inside es h vs v) i (end count) = stop 10
+step (inside es h vs v) i (other k l) = stop 10
+step (after es h vs) i (head number d m) = atHead (withEntry es h vs none) (record { number = number; d = d; m = m; place = i })
+step (after es h vs) i (coordinate l) = stop 10
+step (after es h vs) i (see number) = next (outside (withEntry es h vs (some (record { number = number; place = i }))))
+step (after es h vs) i (end count) = atEnd (withEntry es h vs none) count
+step (after es h vs) i (other k l) = stop 10
+step (closed es) i w = stop 14
+
+-- no word is left: 10 for "no word where one is due", at the number of words
+abbrev pub atLast : State → ℕ → Outcome
+atLast (outside es) i = refused 10 i
+atLast (inside es h vs v) i = refused 10 i
+atLast (after es h vs) i = refused 10 i
+atLast (closed es) i = accepted es
+
+-- the words from index i on
+unfoldable pub readWords : State → ℕ → List ℕ → Outcome
+readWords s i [] = atLast s i
+readWords s i (w ∷ words) = elim (step s i (decode w)) [ next t ↦ readWords t (suc i) words | stop n ↦ refused n i ]
+
+-- row "after reading": the first place of which a test speaks, entry by entry
+abbrev pub firstPlace : (Entry → Option ℕ) → List Entry → Option ℕ
+firstPlace f [] = none
+firstPlace f (e ∷ es) = elim (f e) [ some p ↦ some p | none ↦ firstPlace f es ]
+
+-- 5 stands at the head
+abbrev pub dependentAt : Entry → Option ℕ
+dependentAt e = elim (isDependent (e .head .m) (e .vectors)) [ true ↦ some (e .head .place) | false ↦ none ]
+
+-- 12 stands at the see word
+abbrev pub lostAt : List Entry → Entry → Option ℕ
+lostAt es e = elim (e .see) [
+  | none ↦ none
+  | some s ↦ elim (any (isNumbered (s .number)) es) [ true ↦ none | false ↦ some (s .place) ]
+]
+
+abbrev pub afterReading : List Entry → Outcome
+afterReading es = elim (firstPlace dependentAt es) [
+  | some p ↦ refused 5 p
+  | none ↦ elim (firstPlace (lostAt es) es) [ some p ↦ refused 12 p | none ↦ accepted es ]
+]
+
+-- of words that were read to the end
+abbrev pub afterWords : Outcome → Outcome
+afterWords (refused n p) = refused n p
+afterWords (accepted es) = afterReading es
+
+-- row "whole file"
+abbrev pub fileRows : List ℕ → List (Bool × ℕ)
+fileRows bytes = (not (eqb (length bytes % 4) 0), 8) ∷ (ltb mostBytes (length bytes), 9) ∷ []
+
+unfoldable pub read : List ℕ → Outcome
+read bytes = checked (λ n. refused n 0) (fileRows bytes) (afterWords (readWords (outside []) 0 (wordsOf bytes)))

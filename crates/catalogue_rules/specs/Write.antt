@@ -1,0 +1,35 @@
+-- Writing entries as words, and words as bytes (document 01, "The catalogue").
+use mathlib.Core.List.{List, [], _∷_, _++_, map}
+use mathlib.Core.Option.{Option, none, some}
+use Prim.Native.Nat.{ℕ}
+use lib.IntN.{ℤ, pos, natAbs, _+ℤ_}
+use lib.ListN.{length}
+use Rattle.lattices.specs.Refusal.{mostSize}
+use Rattle.catalogue_rules.specs.Word.{Word, head, coordinate, see, end, encode, bytesOf}
+use Rattle.catalogue_rules.specs.Catalogue.{Head, See, Entry, coordinates}
+
+abbrev pub headWord : Head → Word
+headWord h = head (h .number) (h .d) (h .m)
+
+-- "coordinate plus 20,000"
+abbrev pub coordinateWord : ℤ → Word
+coordinateWord x = coordinate (natAbs (x +ℤ pos mostSize))
+
+-- "at most one see word"
+abbrev pub seeWords : Option See → List Word
+seeWords none = []
+seeWords (some s) = see (s .number) ∷ []
+
+abbrev pub entryWords : Entry → List Word
+entryWords e = headWord (e .head) ∷ (map coordinateWord (coordinates (e .vectors)) ++ seeWords (e .see))
+
+abbrev pub entriesWords : List Entry → List Word
+entriesWords [] = []
+entriesWords (e ∷ es) = entryWords e ++ entriesWords es
+
+-- "The end word is last and always present"; its load: "how many entries came before"
+abbrev pub catalogueWords : List Entry → List Word
+catalogueWords es = entriesWords es ++ (end (length es) ∷ [])
+
+unfoldable pub write : List Entry → List ℕ
+write es = bytesOf (map encode (catalogueWords es))

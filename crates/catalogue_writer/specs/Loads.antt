@@ -1,0 +1,72 @@
+-- What the code computes to write an entry: a coordinate plus 20,000, the words of coordinates one by one, and of a stored entry.
+use mathlib.Core.Path.{_≡_, sym, ap, _∙_, subst}
+use mathlib.Core.Bool.{false}
+use lib.Dec.{T}
+use mathlib.Core.List.{List, [], _∷_, _++_, map}
+use Prim.Native.Nat.{ℕ, suc, _+_, _*_, _≤_, _<_}
+use native.Mathlib.Numerals.{add-one}
+use native.Mathlib.Omega.{arith}
+use lib.IntN.{ℤ, pos, negsuc, natAbs, _+ℤ_}
+use lib.ListN.{length, getD, take, length-append, length-map}
+use lib.Seq.{length-take-le, take-suc}
+use lib.Signed.{nonNeg}
+use mir.Syntax.{w64}
+use mir.Val.{SFits}
+use Rattle.integers.specs.Order.{sub-ind}
+use Rattle.integers.specs.Size.{size-add, fits-within}
+use Rattle.lattices.specs.Refusal.{any}
+use Rattle.input_checks.specs.Any.{beyond}
+use Rattle.catalogue_rules.specs.Word.{Word, encode}
+use Rattle.catalogue_rules.specs.Catalogue.{Entry, coordinates}
+use Rattle.catalogue_rules.specs.Write.{headWord, coordinateWord, seeWords, entryWords}
+use Rattle.catalogue_rules.specs.Form.{EntryFits}
+use Rattle.catalogue_rules.specs.EntriesAccepted.{all-near}
+use Rattle.catalogue_rules.specs.ReadVectors.{encoded}
+use Rattle.catalogue_records.specs.declared.Entry as stored
+use Rattle.catalogue_records.specs.Filled.{map-snoc}
+use Rattle.catalogue_records.specs.Entries.{entryIn}
+use Rattle.catalogue_records.specs.Coordinates.{cut, same}
+
+pub load-small : (x : ℤ) → natAbs x ≤ 20000 → natAbs (x +ℤ pos 20000) ≤ 40000
+load-small x h = omega (arith, size-add x (pos 20000))
+
+pub load-fits : (x : ℤ) → natAbs x ≤ 20000 → SFits w64 (x +ℤ pos 20000)
+load-fits x h = fits-within {B = 40000} (record { within = load-small x h }) tt
+
+pub load-nonneg : (x : ℤ) → natAbs x ≤ 20000 → T (nonNeg (x +ℤ pos 20000))
+load-nonneg (pos n) h = tt
+load-nonneg (negsuc n) h = sub-ind (λ z. T (nonNeg z)) 20000 (suc n) (λ k. absurd (omega arith)) (λ k. tt)
+
+-- ---- the words of the first j coordinates
+
+pub length-encoded : (cs : List ℤ) → length (encoded cs) ≡ length cs
+length-encoded cs = length-map (map coordinateWord cs) encode ∙ length-map cs coordinateWord
+
+pub length-first : (cs : List ℤ) (j : ℕ) → j ≤ length cs → length (encoded (take j cs)) ≡ j
+length-first cs j h = length-encoded (take j cs) ∙ length-take-le j cs h
+
+pub encoded-more : (cs : List ℤ) (j : ℕ) → j < length cs → encoded (take j cs) ++ (encode (coordinateWord (getD cs j (pos 0))) ∷ []) ≡ encoded (take (j + 1) cs)
+encoded-more cs j h =
+    map-snoc encode (map coordinateWord (take j cs)) (coordinateWord (getD cs j (pos 0)))
+    ∙ ap (map encode) (map-snoc coordinateWord (take j cs) (getD cs j (pos 0)))
+    ∙ ap encoded (sym (take-suc cs j (pos 0) h) ∙ ap (λ n. take n cs) (sym (add-one j)))
+
+-- ---- the words of a stored entry
+
+-- its head and coordinates; its see word comes after them
+abbrev pub basisWords : Entry → List Word
+basisWords e = headWord (e .head) ∷ map coordinateWord (coordinates (e .vectors))
+
+pub basis-and-see : (e : Entry) → length (entryWords e) ≡ length (basisWords e) + length (seeWords (e .see))
+basis-and-see e = length-append (basisWords e) (seeWords (e .see))
+
+-- the words as the code writes them, n being d times m
+module _ (e : stored.Entry) (fits : EntryFits (entryIn e)) (long : length (e .coordinates) ≡ 16) where
+  pub near : any beyond (take (e .d * e .m) (e .coordinates)) ≡ false
+  near = subst (λ l. any beyond l ≡ false) (same e fits long) (all-near (e .m) (entryIn e .vectors) (fits .vectors))
+
+  pub length-basis : length (basisWords (entryIn e)) ≡ 1 + e .d * e .m
+  length-basis = omega (arith, length-map (coordinates (entryIn e .vectors)) coordinateWord, ap length (same e fits long), cut e fits long)
+
+  pub basis-encoded : encode (headWord (entryIn e .head)) ∷ encoded (take (e .d * e .m) (e .coordinates)) ≡ map encode (basisWords (entryIn e))
+  basis-encoded = ap (λ l. encode (headWord (entryIn e .head)) ∷ encoded l) (sym (same e fits long))

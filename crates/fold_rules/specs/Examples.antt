@@ -1,0 +1,93 @@
+-- "A catalogue in full" of document 01, folded, looked up and listed; the sole end word; and what is refused in the call alone.
+use mathlib.Core.Path.{_≡_, refl}
+use mathlib.Core.List.{List, [], _∷_, _++_, map}
+use Prim.Native.Nat.{ℕ}
+use lib.ListN.{replicate}
+use Rattle.lattices.specs.Vector.{dot, comb, _⊕_, _⊙_}
+use Rattle.lattices.specs.Volume.{squaredVolume, isDependent}
+use Rattle.lattices.specs.Nearest.{least, nearest}
+use Rattle.lattices.specs.Greedy.{insert, order, credited, greedy}
+use Rattle.successive_minima.specs.Members.{isMember}
+use Rattle.catalogue_rules.specs.Word.{decode, encode, bytesOf}
+use Rattle.catalogue_rules.specs.Read.{step, readWords, read}
+use Rattle.catalogue_rules.specs.Write.{write}
+use Rattle.catalogue_rules.specs.Output.{Output, untouched, filledWith}
+use Rattle.catalogue_rules.specs.Examples.{full}
+use Rattle.fold_rules.specs.Fold.{sameLattice, standing, folded}
+use Rattle.fold_rules.specs.Services.{Lookup, nowhere, foldOf, lookupOf}
+use Rattle.fold_rules.specs.Listing.{listingOf}
+
+-- entry 12 is folded into 7, so the see word of entry 9 names 7
+abbrev pub fullFolded : List ℕ
+fullFolded =
+    0x10000722 ∷ 0x20004E21 ∷ 0x20004E20 ∷ 0x20004E20 ∷ 0x20004E21
+    ∷ 0x10000922 ∷ 0x20004E22 ∷ 0x20004E20 ∷ 0x20004E20 ∷ 0x20004E23 ∷ 0x30000007
+    ∷ 0x40000002 ∷ []
+
+-- "3 2", "7 7 0 1", "v 1 0", "v 0 1", "9 9 7 1", "v 2 0", "v 0 3", "12 7 9 1"
+abbrev pub fullListing : List ℕ
+fullListing =
+    51 ∷ 32 ∷ 50 ∷ 10
+    ∷ 55 ∷ 32 ∷ 55 ∷ 32 ∷ 48 ∷ 32 ∷ 49 ∷ 10
+    ∷ 118 ∷ 32 ∷ 49 ∷ 32 ∷ 48 ∷ 10
+    ∷ 118 ∷ 32 ∷ 48 ∷ 32 ∷ 49 ∷ 10
+    ∷ 57 ∷ 32 ∷ 57 ∷ 32 ∷ 55 ∷ 32 ∷ 49 ∷ 10
+    ∷ 118 ∷ 32 ∷ 50 ∷ 32 ∷ 48 ∷ 10
+    ∷ 118 ∷ 32 ∷ 48 ∷ 32 ∷ 51 ∷ 10
+    ∷ 49 ∷ 50 ∷ 32 ∷ 55 ∷ 32 ∷ 57 ∷ 32 ∷ 49 ∷ 10
+    ∷ []
+
+-- "refused 10 0"
+abbrev pub refusedListing : List ℕ
+refusedListing = 114 ∷ 101 ∷ 102 ∷ 117 ∷ 115 ∷ 101 ∷ 100 ∷ 32 ∷ 49 ∷ 48 ∷ 32 ∷ 48 ∷ 10 ∷ []
+
+abbrev pub finds : ℕ → Lookup
+finds n = record { refusal = 0; place = 0; standing = n }
+
+-- a see word to a later entry, to itself, and two entries that name each other; 2 is folded into 1, with another sign
+abbrev pub circle : List ℕ
+circle = 0x10000111 ∷ 0x20004E21 ∷ 0x30000003 ∷ 0x10000211 ∷ 0x20004E1F ∷ 0x10000311 ∷ 0x20004E22 ∷ 0x30000002 ∷ 0x10000411 ∷ 0x20004E23 ∷ 0x30000004 ∷ 0x40000004 ∷ []
+
+abbrev pub circleFolded : List ℕ
+circleFolded = 0x10000111 ∷ 0x20004E21 ∷ 0x30000003 ∷ 0x10000311 ∷ 0x20004E22 ∷ 0x30000001 ∷ 0x10000411 ∷ 0x20004E23 ∷ 0x40000003 ∷ []
+
+-- the same vector with a zero coordinate more is in another lattice
+abbrev pub wider : List ℕ
+wider = 0x10000111 ∷ 0x20004E21 ∷ 0x10000212 ∷ 0x20004E21 ∷ 0x20004E20 ∷ 0x40000002 ∷ []
+
+-- a file, the lent output, and what the fold gives
+pub record Example : Type 0 where
+  pub file : List ℕ
+  pub lent : List ℕ
+  pub output : Output
+
+-- the bytes of these words, or a refusal, for an output of zeros
+abbrev pub gives : List ℕ → (room : ℕ) → List ℕ → Example
+gives words room folded = record { file = bytesOf words; lent = replicate room 0; output = filledWith (bytesOf folded) (replicate room 0) }
+
+abbrev pub refuses : List ℕ → (room number place : ℕ) → Example
+refuses words room number place = record { file = bytesOf words; lent = replicate room 0; output = untouched number place (replicate room 0) }
+
+abbrev pub examples : List Example
+examples =
+    gives full 50 fullFolded
+    ∷ gives full 48 fullFolded
+    ∷ refuses full 47 16 0
+    ∷ gives fullFolded 48 fullFolded
+    ∷ gives circle 100 circleFolded
+    ∷ gives wider 24 wider
+    ∷ gives (0x40000000 ∷ []) 4 (0x40000000 ∷ [])
+    ∷ refuses [] 0 10 0
+    ∷ []
+
+pub folds-hold : map (λ x. foldOf (x .file) (x .lent)) examples ≡ map (λ x. x .output) examples
+unfolding dot comb _⊕_ _⊙_ squaredVolume isDependent least nearest insert order credited greedy isMember decode encode step readWords read write sameLattice standing folded foldOf
+folds-hold = refl
+
+pub lookups-hold : map (lookupOf (bytesOf full)) (7 ∷ 9 ∷ 12 ∷ 8 ∷ []) ++ (lookupOf [] 7 ∷ []) ≡ finds 7 ∷ finds 9 ∷ finds 7 ∷ nowhere 17 0 ∷ nowhere 10 0 ∷ []
+unfolding dot comb _⊕_ _⊙_ squaredVolume isDependent least nearest insert order credited greedy isMember decode encode step readWords read sameLattice standing lookupOf
+lookups-hold = refl
+
+pub listings-hold : map listingOf (bytesOf full ∷ [] ∷ []) ≡ fullListing ∷ refusedListing ∷ []
+unfolding dot comb _⊕_ _⊙_ squaredVolume isDependent least nearest insert order credited greedy isMember decode encode step readWords read sameLattice standing listingOf
+listings-hold = refl

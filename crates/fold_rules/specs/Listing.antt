@@ -1,0 +1,62 @@
+-- The text that the listing program writes (document 01, "A catalogue in full"), as bytes, for every list of bytes that it reads.
+use mathlib.Core.Bool.{true, false}
+use mathlib.Core.List.{List, [], _∷_, _++_, map}
+use mathlib.Core.Option.{Option, none, some}
+use Prim.Native.Nat.{ℕ}
+use lib.ListN.{length}
+use Rattle.integers.specs.Decimal.{decimal, signed}
+use Rattle.lattices.specs.Vector.{Vec}
+use Rattle.lattices.specs.Greedy.{reduction}
+use Rattle.catalogue_rules.specs.Catalogue.{See, Outcome, refused, accepted}
+use Rattle.catalogue_rules.specs.Read.{read}
+use Rattle.fold_rules.specs.Fold.{reducedOf, Stood, closedList, stands, standingIn, leads}
+
+-- ---- fields and lines
+
+-- "One space stands between fields, and every line ends with a newline."
+abbrev pub after : List (List ℕ) → List ℕ
+after [] = 10 ∷ []
+after (field ∷ fields) = 32 ∷ (field ++ after fields)
+
+abbrev pub line : List ℕ → List (List ℕ) → List ℕ
+line field fields = field ++ after fields
+
+-- ---- the lines
+
+-- "refused"
+abbrev pub refusedWord : List ℕ
+refusedWord = 114 ∷ 101 ∷ 102 ∷ 117 ∷ 115 ∷ 101 ∷ 100 ∷ []
+
+-- `a line "v" and the coordinates for each reduced vector`
+abbrev pub vectorLines : List Vec → List ℕ
+vectorLines [] = []
+vectorLines (v ∷ vs) = line (118 ∷ []) (map signed v) ++ vectorLines vs
+
+-- "number that its own see word leads to (0 for none, or for its own standing entry)"
+abbrev pub leadNumber : Option See → ℕ
+leadNumber none = 0
+leadNumber (some w) = w .number
+
+abbrev pub entryLine : List Stood → Stood → List ℕ
+entryLine ss s =
+    line (decimal (s .entry .head .number))
+    (decimal (s .standing .head .number) ∷ decimal (leadNumber (leads ss s)) ∷ decimal (reduction (s .entry .vectors) .passes) ∷ [])
+
+-- "A standing entry is followed by" its vectors
+abbrev pub vectorsShown : Stood → List ℕ
+vectorsShown s = elim (stands s) [ true ↦ vectorLines (reducedOf (s .entry)) | false ↦ [] ]
+
+abbrev pub entryLines : List Stood → List Stood → List ℕ
+entryLines ss [] = []
+entryLines ss (s ∷ more) = entryLine ss s ++ (vectorsShown s ++ entryLines ss more)
+
+-- "Its first line holds entries and standing entries."
+abbrev pub catalogueLines : List Stood → List ℕ
+catalogueLines ss = line (decimal (length ss)) (decimal (length (standingIn ss)) ∷ []) ++ entryLines ss ss
+
+abbrev pub listed : Outcome → List ℕ
+listed (refused n p) = line refusedWord (decimal n ∷ decimal p ∷ [])
+listed (accepted es) = catalogueLines (closedList es)
+
+unfoldable pub listingOf : List ℕ → List ℕ
+listingOf file = listed (read file)

@@ -1,0 +1,109 @@
+-- What the fold and the lookup promise, in plain mathematics: no test and no reduction, only lattices, lengths and the order of the file.
+use mathlib.Core.Path.{_≡_}
+use mathlib.Core.Logic.{_≢_, _↔_}
+use mathlib.Core.List.{List, [], _∷_, _++_}
+use mathlib.Core.Option.{some}
+use Prim.Native.Nat.{ℕ, _≤_, _<_}
+use lib.ListN.{length, getD}
+use lib.Signed.{_≤ℤ_}
+use Rattle.integers.specs.All.{All, Some}
+use Rattle.lattices.specs.Vector.{Vec, N, In, Independent}
+use Rattle.catalogue_rules.specs.Catalogue.{See, Entry, accepted}
+use Rattle.catalogue_rules.specs.Read.{read}
+use Rattle.catalogue_rules.specs.Write.{write}
+use Rattle.catalogue_rules.specs.Output.{untouched, filledWith}
+use Rattle.fold_rules.specs.Fold.{folded}
+use Rattle.fold_rules.specs.Services.{foldOf, nowhere, lookupOf}
+
+-- ---- entries of a file
+
+-- e is one of the entries
+abbrev pub Among : Entry → List Entry → Type 0
+Among e es = Some (λ f. f ≡ e) es
+
+-- both generate one lattice: the same m, and the same vectors are combinations
+pub record OneLattice (e f : Entry) : Type 0 where
+  pub m : e .head .m ≡ f .head .m
+  pub lattice : (v : Vec) → In (e .vectors) v ↔ In (f .vectors) v
+
+-- f is the standing entry of e: it generates the lattice of e, and no entry before it in the file does
+pub record Stands (es : List Entry) (e f : Entry) : Type 0 where
+  pub before : List Entry
+  pub after : List Entry
+  pub split : es ≡ before ++ (f ∷ after)
+  pub one : OneLattice f e
+  pub none : All (λ g. ¬ OneLattice g e) before
+
+-- the see word of e leads to the number n: it names an entry whose standing entry is another than e and has that number
+pub record Leads (es : List Entry) (e : Entry) (n : ℕ) : Type 0 where
+  pub word : See
+  pub carried : e .see ≡ some word
+  pub named : Entry
+  pub among : Among named es
+  pub number : named .head .number ≡ word .number
+  pub standing : Entry
+  pub stands : Stands es named standing
+  pub other : standing ≢ e
+  pub there : standing .head .number ≡ n
+
+-- ---- what is printed
+
+-- g has a see word, and it names n
+pub record Sees (g : Entry) (n : ℕ) : Type 0 where
+  pub word : See
+  pub carried : g .see ≡ some word
+  pub number : word .number ≡ n
+
+-- g is what is printed for the entry e of the file
+pub record Prints (es : List Entry) (e g : Entry) : Type 0 where
+  pub number : g .head .number ≡ e .head .number
+  pub d : g .head .d ≡ e .head .d
+  pub count : length (g .vectors) ≡ e .head .d
+  -- the vectors printed generate the lattice of e and no other
+  pub one : OneLattice g e
+  -- whichever independent vectors of that lattice anyone picks, more than k of them: some one is at least as long as vector k printed
+  pub minima : (vs : List Vec) → All (In (e .vectors)) vs → Independent vs → (k : ℕ) → k < length vs → k < e .head .d → Some (λ v. N (getD (g .vectors) k []) ≤ℤ N v) vs
+  -- a see word is printed exactly where the rules give one
+  pub see : (n : ℕ) → Sees g n ↔ Leads es e n
+
+-- from entry to entry of a file, the standing ones are printed and the others passed over
+pub data Printing (all : List Entry) : List Entry → List Entry → Type 0 where
+  done : Printing all [] []
+  print : (e g : Entry) {es gs : List Entry} → Stands all e e → Prints all e g → Printing all es gs → Printing all (e ∷ es) (g ∷ gs)
+  pass : (e : Entry) {es gs : List Entry} → ¬ Stands all e e → Printing all es gs → Printing all (e ∷ es) gs
+
+-- no two entries generate one lattice
+abbrev pub Apart : List Entry → Type 0
+Apart [] = Unit {0}
+Apart (g ∷ gs) = All (λ h. ¬ OneLattice g h) gs × Apart gs
+
+-- ---- the fold of an accepted file with entries es
+pub record Folds (file : List ℕ) (es : List Entry) : Type 0 where
+  -- an output that is long enough receives the folded catalogue and keeps the rest; a shorter one is refused and stays as it was
+  pub written : (out : List ℕ) → length (write (folded es)) ≤ length out → foldOf file out ≡ filledWith (write (folded es)) out
+  pub short : (out : List ℕ) → length out < length (write (folded es)) → foldOf file out ≡ untouched 16 0 out
+  -- which is an accepted catalogue
+  pub readable : read (write (folded es)) ≡ accepted (folded es)
+  -- and folds to the same bytes
+  pub again : (out : List ℕ) → foldOf (write (folded es)) out ≡ foldOf file out
+  -- it prints the standing entries in file order, and no others
+  pub printing : Printing es es (folded es)
+  -- no two standing entries generate one lattice, and no two entries printed
+  pub unique : (e f : Entry) → Stands es e e → Stands es f f → OneLattice e f → e ≡ f
+  pub apart : Apart (folded es)
+  -- each see word printed names an entry printed there
+  pub named : All (λ g. (n : ℕ) → Sees g n → Some (λ h. h .head .number ≡ n) (folded es)) (folded es)
+
+-- ---- the lookup of a number, which the entry e has
+pub record Finds (file : List ℕ) (es : List Entry) (n : ℕ) (e : Entry) : Type 0 where
+  pub accepted : lookupOf file n .refusal ≡ 0
+  -- it gives the number of the standing entry of e
+  pub standing : Some (λ f. (f .head .number ≡ lookupOf file n .standing) × Stands es e f) es
+  -- and the vectors printed under that number generate the lattice of e
+  pub printed : Some (λ g. (g .head .number ≡ lookupOf file n .standing) × OneLattice g e) (folded es)
+
+-- every number of an entry is found, and every number in a see word; no other is
+pub record LooksUp (file : List ℕ) (es : List Entry) : Type 0 where
+  pub entries : All (λ e. Finds file es (e .head .number) e) es
+  pub sees : All (λ e. (n : ℕ) → Sees e n → Some (λ f. (f .head .number ≡ n) × Finds file es n f) es) es
+  pub others : (n : ℕ) → All (λ e. e .head .number ≢ n) es → lookupOf file n ≡ nowhere 17 0

@@ -1,0 +1,38 @@
+-- Fold and lookup for every list of bytes: "A catalogue's rows run from 'whole file' to 'after reading'; the rows for lookup and output
+-- concern the call alone."
+use mathlib.Core.List.{List}
+use mathlib.Core.Option.{Option, none, some}
+use Prim.Native.Nat.{ℕ}
+use Rattle.catalogue_rules.specs.Catalogue.{Outcome, refused, accepted}
+use Rattle.catalogue_rules.specs.Read.{read}
+use Rattle.catalogue_rules.specs.Output.{Output, output}
+use Rattle.fold_rules.specs.Fold.{closedList, lookup, folded}
+
+abbrev pub foldedOutcome : Outcome → Outcome
+foldedOutcome (refused n p) = refused n p
+foldedOutcome (accepted es) = accepted (folded es)
+
+-- the fold of a file, written to a lent output
+unfoldable pub foldOf : (file out : List ℕ) → Output
+foldOf file out = output (foldedOutcome (read file)) out
+
+pub record Lookup : Type 0 where
+  pub refusal : ℕ
+  pub place : ℕ
+  pub standing : ℕ
+
+abbrev pub nowhere : (number place : ℕ) → Lookup
+nowhere number place = record { refusal = number; place = place; standing = 0 }
+
+-- row "lookup": "17 the number is in no entry"
+abbrev pub lookedUp : Option ℕ → Lookup
+lookedUp none = nowhere 17 0
+lookedUp (some n) = record { refusal = 0; place = 0; standing = n }
+
+abbrev pub lookedIn : Outcome → (number : ℕ) → Lookup
+lookedIn (refused n p) number = nowhere n p
+lookedIn (accepted es) number = lookedUp (lookup (closedList es) number)
+
+-- the lookup of a number in a file
+unfoldable pub lookupOf : List ℕ → (number : ℕ) → Lookup
+lookupOf file number = lookedIn (read file) number

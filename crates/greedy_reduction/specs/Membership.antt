@@ -1,0 +1,39 @@
+-- Membership in the lattice of a list, tested on its reduction: exact, and the same for lists and vectors filled up with zeros.
+use mathlib.Core.Path.{_≡_, sym, ap, _∙_}
+use mathlib.Core.Logic.{_↔_}
+use mathlib.Core.Bool.{true}
+use mathlib.Core.List.{List, map}
+use Prim.Native.Nat.{ℕ, _≤_}
+use native.Mathlib.Omega.{arith}
+use lib.IntN.{pos}
+use lib.Signed.{leZ}
+use lib.ListN.{length}
+use Rattle.lattices.specs.Vector.{Vec, N, In, _⊖_, comb}
+use Rattle.lattices.specs.Nearest.{nearest}
+use Rattle.lattices.specs.Greedy.{vectors, reduction}
+use Rattle.lattices.specs.Answer.{padded}
+use Rattle.successive_minima.specs.Members.{isMember, member-is, is-member, member-in, in-member}
+use Rattle.greedy_reduction.specs.Start.{Coordinates, comb-places, minus-places}
+use Rattle.greedy_reduction.specs.Exactness.{comb-full}
+use Rattle.greedy_reduction.specs.Lattice.{reduced-count, reduced-full, reduction-lattice, reduction-reduced}
+use Rattle.greedy_reduction.specs.Padding.{padded-N, padded-minus, nearest-padded}
+use Rattle.greedy_reduction.specs.Sizes.{Basis}
+
+-- the test says yes exactly when some integer combination of the list is v
+pub member-exactly : (m : ℕ) (bs : List Vec) → Basis m bs → (v : Vec) → length v ≡ m → (isMember (vectors (reduction bs .rows)) v ≡ true) ↔ In bs v
+member-exactly m bs B v places =
+    let outs = vectors (reduction bs .rows) in
+    let count = reduced-count m bs (B .full) (B .some) in
+    let lattice = reduction-lattice m bs (B .full) (B .some) v in (
+      λ h. let g = member-is outs v h in
+          lattice .1 (member-in outs v g (comb-full m (g .coefficients) outs (reduced-full m bs (B .full) (B .some)) (g .count) (omega (arith, count, B .some)) ∙ sym places)),
+      λ h. is-member outs (reduction-reduced m bs (B .full) (B .some) (B .four) (B .volume)) (omega (arith, count, B .four)) v (in-member outs v (lattice .0 h)),
+    )
+
+pub member-padded : (n m : ℕ) → m ≤ n → (bs : List Vec) → Coordinates m bs → (v : Vec) → length v ≡ m → isMember (map (padded n) bs) (padded n v) ≡ isMember bs v
+unfolding isMember
+member-padded n m h bs c v e =
+    let x = nearest bs v in
+    ap (λ y. leZ (N (padded n v ⊖ comb y (map (padded n) bs))) (pos 0)) (nearest-padded n m h bs c v e)
+    ∙ ap (λ w. leZ (N w) (pos 0)) (sym (padded-minus n m h v (omega arith) x bs c))
+    ∙ ap (λ z. leZ z (pos 0)) (padded-N n (v ⊖ comb x bs) (omega (arith, minus-places m v (comb x bs) e (comb-places m x bs c))))

@@ -1,0 +1,45 @@
+-- The rows of the array against the vectors of the input: the same are too long, and the same lists are dependent.
+use mathlib.Core.Path.{_≡_, refl, sym, ap, _∙_, subst}
+use mathlib.Core.Bool.{false}
+use mathlib.Core.List.{List, [], map}
+use Prim.Native.Nat.{ℕ, _≤_, _<_}
+use native.Mathlib.Nat.{le-trans}
+use lib.IntN.{ℤ, pos}
+use lib.ListN.{getD, take}
+use lib.Seq.{getD-take}
+use lib.Signed.{_≤ℤ_}
+use Rattle.integers.specs.Order.{ltZ-false}
+use Rattle.lattices.specs.Vector.{Vec, N, dot}
+use Rattle.lattices.specs.Volume.{isDependent}
+use Rattle.lattices.specs.Refusal.{any, tooLong, vectorsOf}
+use Rattle.lattices.specs.Answer.{padded, table}
+use Rattle.exterior_algebra.specs.Dependence.{Fit}
+use Rattle.input_checks.specs.Any.{beyond, any-none}
+use Rattle.integers.specs.Tests.{neither}
+use Rattle.input_checks.specs.Padded.{fit-vectorsOf, any-long-padded, isDependent-padded}
+use Rattle.lattices.specs.AnswerLaws.{length-vectorsOf, table-rows}
+
+nil-short : tooLong [] ≡ false
+unfolding dot
+nil-short = refl
+
+pub short : (d : ℕ) (b : List Vec) → any tooLong (take d b) ≡ false → (i : ℕ) → i < d → N (getD b i []) ≤ℤ pos 400000000
+short d b e i h =
+    subst (λ v. N v ≤ℤ pos 400000000) (getD-take d b i [] h)
+    (ltZ-false (neither (any beyond (getD (take d b) i [])) _ (any-none tooLong [] nil-short (take d b) e i) .1))
+
+module _ (d m : ℕ) (l : List ℤ) {b : List Vec} (few : d ≤ 4) (narrow : m ≤ 4) (is : b ≡ table 4 4 (vectorsOf d m l)) where
+  rows : take d b ≡ map (padded 4) (vectorsOf d m l)
+  rows =
+      let n = length-vectorsOf d m l in
+      ap (take d) is
+      ∙ ap (λ k. take k (table 4 4 (vectorsOf d m l))) (sym n)
+      ∙ table-rows 4 4 (vectorsOf d m l) (subst (λ k. k ≤ 4) (sym n) few)
+
+  pub long-rows : any tooLong (take d b) ≡ any tooLong (vectorsOf d m l)
+  long-rows =
+      let fit : Fit 4 (vectorsOf d m l) = λ i. le-trans (fit-vectorsOf d m l i) narrow in
+      ap (any tooLong) rows ∙ any-long-padded 4 (vectorsOf d m l) fit
+
+  pub dependent-rows : isDependent 4 (take d b) ≡ isDependent m (vectorsOf d m l)
+  dependent-rows = ap (isDependent 4) rows ∙ sym (isDependent-padded m 4 (vectorsOf d m l) (fit-vectorsOf d m l) narrow)

@@ -1,0 +1,60 @@
+-- An entry's line as the code puts it: what stands before the coordinates, the coordinates, and what follows them.
+use mathlib.Core.Path.{_≡_, refl, sym, ap, _∙_}
+use mathlib.Core.Bool.{Bool, true, false}
+use mathlib.Core.List.{List, [], _∷_, _++_, map, append-assoc}
+use Prim.Native.Nat.{ℕ, _+_, _*_}
+use lib.ListN.{length, take, length-append}
+use Rattle.integers.specs.Decimal.{decimal, signed}
+use Rattle.catalogue_rules.specs.Catalogue as definition
+use Rattle.catalogue_rules.specs.Catalogue.{coordinates}
+use Rattle.catalogue_rules.specs.Form.{EntryFits}
+use Rattle.fold_rules.specs.Listing.{after}
+use Rattle.catalogue_records.specs.declared.Entry.{Entry}
+use Rattle.catalogue_records.specs.Entries.{seeIn, entryIn}
+use Rattle.catalogue_records.specs.Coordinates.{same}
+use Rattle.text_output.specs.Joined.{joined}
+use Rattle.text_fields.specs.Blank.{blank, joined-then}
+use Rattle.text_rules.specs.Text.{semicolon, seeFields, entryText, textOf}
+
+abbrev pub headText : ℕ → ℕ → ℕ → List ℕ
+headText number d m = decimal number ++ blank decimal d ++ blank decimal m ++ (32 ∷ 59 ∷ [])
+
+-- the see word if there is one, and the end of the line
+abbrev pub lastText : Bool → ℕ → List ℕ
+lastText true see = after (semicolon ∷ decimal see ∷ [])
+lastText false see = after []
+
+last-text : (b : Bool) (see place : ℕ) → lastText b see ≡ after (seeFields (seeIn b see place))
+last-text true see place = refl
+last-text false see place = refl
+
+head-then : (number d m : ℕ) (fields : List (List ℕ)) → headText number d m ++ after fields ≡ decimal number ++ after (decimal d ∷ decimal m ∷ semicolon ∷ fields)
+head-then number d m fields =
+    let rest : List ℕ = 32 ∷ 59 ∷ after fields in
+    append-assoc (decimal number ++ blank decimal d ++ blank decimal m) (32 ∷ 59 ∷ []) (after fields)
+    ∙ append-assoc (decimal number ++ blank decimal d) (blank decimal m) rest
+    ∙ append-assoc (decimal number) (blank decimal d) (blank decimal m ++ rest)
+
+module _ (e : Entry) (fits : EntryFits (entryIn e)) (long : length (e .coordinates) ≡ 16) where
+  -- the coordinates that the code puts
+  abbrev pub numbers : List ℕ
+  numbers = joined (blank signed) (take (e .d * e .m) (e .coordinates))
+
+  pub entry-text : headText (e .number) (e .d) (e .m) ++ numbers ++ lastText (e .sees) (e .see) ≡ entryText (entryIn e)
+  entry-text =
+      let see = seeFields (seeIn (e .sees) (e .see) (e .at)) in
+      let cs = take (e .d * e .m) (e .coordinates) in
+      append-assoc (headText (e .number) (e .d) (e .m)) numbers (lastText (e .sees) (e .see))
+      ∙ ap (λ t. headText (e .number) (e .d) (e .m) ++ (numbers ++ t)) (last-text (e .sees) (e .see) (e .at))
+      ∙ ap (λ t. headText (e .number) (e .d) (e .m) ++ t) (joined-then signed cs see)
+      ∙ head-then (e .number) (e .d) (e .m) (map signed cs ++ see)
+      ∙ ap (λ l. decimal (e .number) ++ after (decimal (e .d) ∷ decimal (e .m) ∷ semicolon ∷ (map signed l ++ see))) (sym (same e fits long))
+
+  pub entry-length : length (headText (e .number) (e .d) (e .m)) + length numbers + length (lastText (e .sees) (e .see)) ≡ length (entryText (entryIn e))
+  entry-length =
+      let h = headText (e .number) (e .d) (e .m) in
+      sym (length-append (h ++ numbers) (lastText (e .sees) (e .see)) ∙ ap (λ n. n + length (lastText (e .sees) (e .see))) (length-append h numbers)) ∙ ap length entry-text
+
+pub text-joined : (es : List definition.Entry) → joined entryText es ≡ textOf es
+text-joined [] = refl
+text-joined (e ∷ es) = ap (λ t. entryText e ++ t) (text-joined es)

@@ -1,0 +1,60 @@
+-- The text of a catalogue has at most 40,000 bytes: 256 times a line of at most 138.
+use mathlib.Core.Path.{_≡_}
+use mathlib.Core.Bool.{false}
+use mathlib.Core.List.{List, [], _∷_, _++_, map}
+use mathlib.Core.Option.{Option, none, some}
+use Prim.Native.Nat.{ℕ, _+_, _*_, _≤_}
+use native.Mathlib.Omega.{arith}
+use lib.Dec.{ltb}
+use lib.IntN.{ℤ, natAbs}
+use lib.ListN.{length, length-append}
+use borrow.Author.Tests.{ltb-false}
+use Rattle.integers.specs.All.{All}
+use Rattle.integers.specs.Decimal.{decimal, signed, decimal-length}
+use Rattle.integers.specs.Tests.{neither}
+use Rattle.lattices.specs.Refusal.{any, mostSize, mostVectors, mostCoordinates}
+use Rattle.lattices.specs.RefusalLaws.{one-to}
+use Rattle.catalogue_rules.specs.Catalogue.{See, Entry, coordinates}
+use Rattle.catalogue_rules.specs.Form.{EntryFits, WellFormed, mostNumber}
+use Rattle.catalogue_rules.specs.ReadEntries.{SeeFits}
+use Rattle.catalogue_rules.specs.ReadBack.{sees-fit}
+use Rattle.catalogue_rules.specs.EntriesAccepted.{few-coordinates, all-near}
+use Rattle.fold_rules.specs.Listing.{after}
+use Rattle.fold_rules.specs.ListingSize.{signed-length}
+use Rattle.text_rules.specs.Text.{semicolon, seeFields, entryFields, entryText, textOf}
+
+see-length : (o : Option See) → SeeFits o → length (after (seeFields o)) ≤ 13
+see-length none h = omega arith
+see-length (some s) h = omega (arith, length-append (decimal (s .number)) (after []), decimal-length 9 (s .number) (omega arith) (omega arith))
+
+coordinates-length : (zs : List ℤ) → any (λ z. ltb mostSize (natAbs z)) zs ≡ false → (fields : List (List ℕ))
+    → length (after (map signed zs ++ fields)) ≤ length zs * 7 + length (after fields)
+coordinates-length [] h fields = omega arith
+coordinates-length (z ∷ zs) h fields =
+    let p = neither (ltb mostSize (natAbs z)) (any (λ y. ltb mostSize (natAbs y)) zs) h in
+    omega (arith, length-append (signed z) (after (map signed zs ++ fields)), signed-length z (ltb-false mostSize (natAbs z) (p .0)), coordinates-length zs (p .1) fields)
+
+pub entry-size : (e : Entry) → EntryFits e → SeeFits (e .see) → length (entryText e) ≤ 138
+entry-size e f s =
+    let h = e .head in
+    let cs = coordinates (e .vectors) in
+    let last = map signed cs ++ seeFields (e .see) in
+    omega (
+      arith,
+      length-append (decimal (h .number)) (after (entryFields e)),
+      length-append (decimal (h .d)) (after (decimal (h .m) ∷ semicolon ∷ last)),
+      length-append (decimal (h .m)) (after (semicolon ∷ last)),
+      decimal-length 7 (h .number) (omega arith) (omega (arith, one-to mostNumber (h .number) (f .head .number) .1)),
+      decimal-length 1 (h .d) (omega arith) (omega (arith, one-to mostVectors (h .d) (f .head .d) .1)),
+      decimal-length 1 (h .m) (omega arith) (omega (arith, one-to mostCoordinates (h .m) (f .head .m) .1)),
+      coordinates-length cs (all-near (h .m) (e .vectors) (f .vectors)) (seeFields (e .see)),
+      few-coordinates e f,
+      see-length (e .see) s,
+    )
+
+entries-size : (es : List Entry) → All EntryFits es → All (λ e. SeeFits (e .see)) es → length (textOf es) ≤ length es * 138
+entries-size [] f s = omega arith
+entries-size (e ∷ es) f s = omega (arith, length-append (entryText e) (textOf es), entry-size e (f .0) (s .0), entries-size es (f .1) (s .1))
+
+pub text-size : (es : List Entry) → WellFormed es → length (textOf es) ≤ 40000
+text-size es w = omega (arith, entries-size es (w .entered .fits) (sees-fit es es (w .entered .fits) (w .named)), w .entered .few)

@@ -1,0 +1,56 @@
+-- The head, the coordinates, the see word.
+use mathlib.Core.Path.{_≡_, sym}
+use native.Mathlib.Omega.{arith}
+use lib.ListN.{length}
+use lib.Seq.{length-take-le}
+use borrow.Author.Needs.{needs}
+use Rattle.text_encoding.specs.Stores.{Room, stores-room, stores-then}
+use Rattle.text_encoding.proofs.put_line.Statement.{statement}
+use Rattle.text_encoding.proofs.put_line.Tie as tie
+
+put-requires : tie.Need-put-requires
+put-requires c κs = c .before .before .pre .0
+
+wide : (c : tie.Start) → length (c .args .l .coordinates) ≡ 16
+wide c = search needs
+
+array-share-prefix-words : tie.Need-array-share-prefix-words
+array-share-prefix-words c = omega (arith, c .before .before .before .before .before .before .before .pre .1, wide (c .before .before .before .before .before .before .before))
+
+slice-aggregate-put-words : tie.Need-slice-aggregate-put-words
+slice-aggregate-put-words c =
+    let s = c .before .before .before .before .before .before .before .before in
+    sym (length-take-le (s .args .l .count) (s .args .l .coordinates) (omega (arith, s .pre .1, wide s)))
+
+first : (c : tie.After-put) → Room (c .put .last .0) (c .put .result)
+first c = stores-room (c .before .before .before .pre .0) (c .put .ensures)
+
+put-words-requires : tie.Need-put-words-requires
+put-words-requires c κs = first (c .before .before .before .before .before)
+
+put-see-requires : tie.Need-put-see-requires
+put-see-requires c κs =
+    let w = c .before .before .before in
+    stores-room (first (w .before .before .before .before .before .before)) (w .put-words .ensures)
+
+same-length : tie.Need-same-length
+same-length c = search needs
+
+returns : tie.Need-returns
+returns c =
+    let e = c .before .before in
+    let w = e .before .before .before .before in
+    let p = w .before .before .before .before .before .before in
+    stores-then (p .before .before .before .pre .0) (p .put .ensures) (stores-then (first p) (w .put-words .ensures) (e .put-see .ensures))
+
+pub put-line-spec : {M : Type 1} → statement M
+put-line-spec =
+    tie.close
+    (tie.spec
+    put-requires
+    array-share-prefix-words
+    slice-aggregate-put-words
+    put-words-requires
+    put-see-requires
+    same-length
+    returns)

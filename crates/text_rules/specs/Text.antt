@@ -1,0 +1,24 @@
+-- The text of a catalogue, an entry to a line: `number d m ; coordinates`, and `; see` where there is a see word.
+use mathlib.Core.List.{List, [], _∷_, _++_, map}
+use mathlib.Core.Option.{Option, none, some}
+use Prim.Native.Nat.{ℕ}
+use Rattle.integers.specs.Decimal.{decimal, signed}
+use Rattle.catalogue_rules.specs.Catalogue.{See, Entry, coordinates}
+use Rattle.fold_rules.specs.Listing.{line}
+
+abbrev pub semicolon : List ℕ
+semicolon = 59 ∷ []
+
+abbrev pub seeFields : Option See → List (List ℕ)
+seeFields none = []
+seeFields (some s) = semicolon ∷ decimal (s .number) ∷ []
+
+abbrev pub entryFields : Entry → List (List ℕ)
+entryFields e = decimal (e .head .d) ∷ decimal (e .head .m) ∷ semicolon ∷ (map signed (coordinates (e .vectors)) ++ seeFields (e .see))
+
+abbrev pub entryText : Entry → List ℕ
+entryText e = line (decimal (e .head .number)) (entryFields e)
+
+abbrev pub textOf : List Entry → List ℕ
+textOf [] = []
+textOf (e ∷ es) = entryText e ++ textOf es
