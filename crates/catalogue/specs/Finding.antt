@@ -10,7 +10,7 @@ use Rattle.fold_rules.specs.Fold.{closedList, lookup}
 use Rattle.fold_rules.specs.Services.{Lookup, nowhere, lookedUp, lookedIn, lookupOf}
 use Rattle.catalogue_records.specs.declared.Catalogue.{Catalogue}
 use Rattle.catalogue_records.specs.Catalogues.{catalogueOf}
-use Rattle.catalogue_records.specs.Entries.{entriesIn}
+use Rattle.catalogue_records.specs.EntriesIn.{entriesIn}
 use Rattle.catalogue_records.specs.Again.{read-as}
 use Rattle.catalogue.specs.declared.Found.{Found}
 

@@ -10,12 +10,13 @@ use Rattle.catalogue_rules.specs.Form.{WellFormed}
 use Rattle.catalogue_rules.specs.Output.{untouched, filledWith, lentRows, output}
 use Rattle.fold_rules.specs.Fold.{closedList, printedIn, folded}
 use Rattle.fold_rules.specs.Services.{foldedOutcome, foldOf}
-use Rattle.fold_rules.specs.FoldedForm.{prints-form, folded-written}
+use Rattle.fold_rules.specs.Laws.FoldedForm.{prints-form, folded-written}
 use Rattle.catalogue_records.specs.declared.Catalogue.{Catalogue}
 use Rattle.catalogue_records.specs.Catalogues.{catalogueOf}
-use Rattle.catalogue_records.specs.Entries.{entriesIn, entries-back}
+use Rattle.catalogue_records.specs.EntriesIn.{entriesIn}
+use Rattle.catalogue_records.specs.Entries.{entries-back}
 use Rattle.catalogue_records.specs.Again.{read-as}
-use Rattle.catalogue_standing.specs.ReducedEntries.{Ready}
+use Rattle.catalogue_standing.specs.ReducedEntries.{WasRead}
 use Rattle.catalogue_fold.specs.Folding.{foldedOf}
 
 stays : (o : Outcome) (out : List ℕ) → catalogueOf o .refusal ≢ 0 → untouched (catalogueOf o .refusal) (catalogueOf o .place) out ≡ output (foldedOutcome o) out
@@ -31,7 +32,7 @@ module _ (bytes : List ℕ) {c : Catalogue} (is : c ≡ catalogueOf (read bytes)
   unfolding foldOf
   not-folded out h = ap (λ c. untouched (c .refusal) (c .place) out) is ∙ stays (read bytes) out (λ e. h (ap (λ c. c .refusal) is ∙ e))
 
-module _ (c : Catalogue) (r : Ready c) where
+module _ (c : Catalogue) (r : WasRead c) where
   abbrev ps : List definition.Entry
   ps = printedIn (closedList (entriesIn c))
 

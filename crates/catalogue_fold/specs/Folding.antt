@@ -12,18 +12,19 @@ use lib.IntN.{ℤ, pos}
 use lib.ListN.{length, getD, set, take, replicate, length-map, length-append}
 use lib.Seq.{take-suc, take-all}
 use borrow.Author.Tests.{eq-eqb, ne-eqb}
-use Rattle.integers.specs.All.{map-append}
+use Rattle.integers.specs.AllLaws.{map-append}
 use Rattle.catalogue_rules.specs.Catalogue as definition
 use Rattle.catalogue_rules.specs.Catalogue.{See, coordinates}
 use Rattle.catalogue_rules.specs.Form.{WellFormed}
 use Rattle.fold_rules.specs.Fold.{standing, Stood, stoodOf, closedList, stands, standingIn, followed, printed, printedIn}
-use Rattle.fold_rules.specs.SameLattice.{Sound}
+use Rattle.fold_rules.specs.Laws.SameLattice.{Sound}
 use Rattle.catalogue_records.specs.declared.Catalogue.{Catalogue}
 use Rattle.catalogue_records.specs.declared.Entry.{Entry}
 use Rattle.catalogue_records.specs.Stored.{noEntry, sees, seeNumber, seePlace, entryOf}
-use Rattle.catalogue_records.specs.Filled.{filled, filled-next, map-snoc}
+use Rattle.integers.specs.Filled.{filled}
+use Rattle.integers.specs.FilledLaws.{filled-next, map-snoc}
 use Rattle.catalogue_records.specs.Catalogues.{stored, holding}
-use Rattle.catalogue_records.specs.Entries.{entryIn, entriesIn}
+use Rattle.catalogue_records.specs.EntriesIn.{entryIn, entriesIn}
 use Rattle.catalogue_standing.specs.declared.reduced_entry.ReducedEntry.{ReducedEntry}
 use Rattle.catalogue_fold.specs.declared.printing.Way.{Way}
 use Rattle.catalogue_standing.specs.ReducedEntry.{reducedEntry}

@@ -6,50 +6,42 @@ use native.Mathlib.Numerals.{add-one}
 use native.Mathlib.Omega.{arith}
 use lib.IntN.{ℤ, pos}
 use lib.ListN.{length, getD, set, take, length-append, length-set}
-use lib.Seq.{append-snoc, take-suc, length-take-le}
+use lib.Seq.{sets, length-sets, append-snoc, take-suc, length-take-le}
 use Rattle.lattices.specs.Vector.{Vec}
 use Rattle.lattices.specs.Greedy.{vectors}
-use Rattle.lattices.specs.RefusalLaws.{one-to}
+use Rattle.lattices.specs.Laws.Refusal.{one-to}
 use Rattle.lattices.specs.Answer.{padded, table}
-use Rattle.lattices.specs.AnswerLaws.{length-padded, take-padded}
+use Rattle.lattices.specs.Laws.Answer.{length-padded, take-padded}
 use Rattle.greedy_reduction.specs.Start.{Coordinates}
-use Rattle.engine.specs.Finish.{R}
+use Rattle.engine.specs.Laws.Finish.{R}
 use Rattle.catalogue_rules.specs.Catalogue.{Entry, coordinates, inputOf}
-use Rattle.catalogue_rules.specs.RoundTrip.{coordinates-snoc}
-use Rattle.catalogue_rules.specs.EntriesAccepted.{is-basis}
+use Rattle.catalogue_rules.specs.Laws.RoundTrip.{coordinates-snoc}
+use Rattle.catalogue_rules.specs.Laws.EntriesAccepted.{is-basis}
 use Rattle.fold_rules.specs.Fold.{reducedOf}
-use Rattle.fold_rules.specs.SameLattice.{Sound, entry-full}
-use Rattle.catalogue_records.specs.Filled.{filled, filled-next, map-snoc}
+use Rattle.fold_rules.specs.Laws.SameLattice.{Sound, entry-full}
+use Rattle.integers.specs.Filled.{filled}
+use Rattle.integers.specs.FilledLaws.{filled-next, map-snoc}
 use Rattle.catalogue_standing.specs.declared.reduced_entry.ReducedEntry.{ReducedEntry}
 use Rattle.catalogue_standing.specs.ReducedEntry.{reducedEntry, rowsIn, basisIn, basis-are, rows-table, length-table}
 
--- the numbers of a list, from place n on
-abbrev pub putAll : List ℤ → ℕ → List ℤ → List ℤ
-putAll out n [] = out
-putAll out n (x ∷ l) = putAll (set out n x) (suc n) l
-
-pub length-put : (out : List ℤ) (n : ℕ) (l : List ℤ) → length (putAll out n l) ≡ length out
-length-put out n [] = refl
-length-put out n (x ∷ l) = length-put (set out n x) (suc n) l ∙ length-set out n x
-
-put-snoc : (out : List ℤ) (n : ℕ) (l : List ℤ) (x : ℤ) → set (putAll out n l) (n + length l) x ≡ putAll out n (l ++ (x ∷ []))
-put-snoc out n [] x = ap (λ k. set out k x) (omega arith)
-put-snoc out n (y ∷ l) x =
+sets-snoc : (out : List ℤ) (n : ℕ) (l : List ℤ) (x : ℤ) → set (sets out n l) (n + length l) x ≡ sets out n (l ++ (x ∷ []))
+sets-snoc out n [] x = ap (λ k. set out k x) (omega arith)
+sets-snoc out n (y ∷ l) x =
     let e : n + suc (length l) ≡ suc n + length l = omega arith in
-    ap (λ k. set (putAll (set out n y) (suc n) l) k x) e ∙ put-snoc (set out n y) (suc n) l x
+    ap (λ k. set (sets (set out n y) (suc n) l) k x) e ∙ sets-snoc (set out n y) (suc n) l x
 
-pub put-more : (out : List ℤ) (n : ℕ) (v : List ℤ) (j : ℕ) → j < length v → set (putAll out n (take j v)) (n + j) (getD v j (pos 0)) ≡ putAll out n (take (j + 1) v)
-put-more out n v j h =
-    ap (λ k. set (putAll out n (take j v)) (n + k) (getD v j (pos 0))) (sym (length-take-le j v (omega arith)))
-    ∙ put-snoc out n (take j v) (getD v j (pos 0))
-    ∙ ap (putAll out n) (sym (take-suc v j (pos 0) h) ∙ ap (λ k. take k v) (sym (add-one j)))
+pub sets-more : (out : List ℤ) (n : ℕ) (v : List ℤ) (j : ℕ) → j < length v → set (sets out n (take j v)) (n + j) (getD v j (pos 0)) ≡ sets out n (take (j + 1) v)
+sets-more out n v j h =
+    ap (λ k. set (sets out n (take j v)) (n + k) (getD v j (pos 0))) (sym (length-take-le j v (omega arith)))
+    ∙ sets-snoc out n (take j v) (getD v j (pos 0))
+    ∙ ap (sets out n) (sym (take-suc v j (pos 0) h) ∙ ap (λ k. take k v) (sym (add-one j)))
 
 -- an array that is filled up to there is filled further
-pub put-filled : (z : ℤ) (n : ℕ) (l v : List ℤ) → length l + length v ≤ n → putAll (filled z n l) (length l) v ≡ filled z n (l ++ v)
+pub put-filled : (z : ℤ) (n : ℕ) (l v : List ℤ) → length l + length v ≤ n → sets (filled z n l) (length l) v ≡ filled z n (l ++ v)
 put-filled z n l [] h = ap (filled z n) (sym (append-nil l))
 put-filled z n l (x ∷ v) h =
     let long : suc (length l) ≡ length (l ++ (x ∷ [])) = sym (length-append l (x ∷ []) ∙ add-one (length l)) in
-    ap₂ (λ out k. putAll out k v) (filled-next z n l x (omega arith)) long
+    ap₂ (λ out k. sets out k v) (filled-next z n l x (omega arith)) long
     ∙ put-filled z n (l ++ (x ∷ [])) v (omega (arith, long))
     ∙ ap (filled z n) (append-snoc l x v)
 

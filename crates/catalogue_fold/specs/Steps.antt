@@ -7,23 +7,24 @@ use native.Mathlib.Omega.{arith}
 use lib.ListN.{length, getD, set}
 use Rattle.catalogue_rules.specs.Catalogue as definition
 use Rattle.fold_rules.specs.Fold.{standing, stoodOf, closedList, printed}
-use Rattle.fold_rules.specs.SameLattice.{Sound, sound-entries}
+use Rattle.fold_rules.specs.Laws.SameLattice.{Sound, sound-entries}
 use Rattle.catalogue_records.specs.declared.Catalogue.{Catalogue}
 use Rattle.catalogue_records.specs.declared.Entry.{Entry}
 use Rattle.catalogue_records.specs.Stored.{entryOf}
 use Rattle.catalogue_records.specs.Catalogues.{stored, holding}
-use Rattle.catalogue_records.specs.Entries.{entryIn, entriesIn, beyond, entryAt, at-place, entry-has}
+use Rattle.catalogue_records.specs.EntriesIn.{entryIn, entriesIn}
+use Rattle.catalogue_records.specs.Entries.{beyond, entryAt, at-place, entry-has}
 use Rattle.catalogue_standing.specs.declared.reduced_entry.ReducedEntry.{ReducedEntry}
 use Rattle.catalogue_fold.specs.declared.printing.Way.{Way}
 use Rattle.catalogue_standing.specs.ReducedEntry.{noReduced}
 use Rattle.catalogue_fold.specs.Spread.{Full, kept-full}
 use Rattle.catalogue_standing.specs.Places.{Closed}
 use Rattle.catalogue_standing.specs.Standing.{Held, place-standing}
-use Rattle.catalogue_standing.specs.ReducedEntries.{Ready, HoldReduced, ready-length, ready-numbers, keeps-held}
+use Rattle.catalogue_standing.specs.ReducedEntries.{WasRead, HoldReduced, ready-length, ready-numbers, keeps-held}
 use Rattle.catalogue_fold.specs.Printing.{Led, printedAs}
 use Rattle.catalogue_fold.specs.Folding.{foldedOf, prints-all, Folds, folds-no, folds-yes, printed-is}
 
-module _ (c : Catalogue) (r : Ready c) {list : List ReducedEntry} {places numbers : List ℕ} (kept : HoldReduced c (c .count) list) (closed : Closed list (c .count) places)
+module _ (c : Catalogue) (r : WasRead c) {list : List ReducedEntry} {places numbers : List ℕ} (kept : HoldReduced c (c .count) list) (closed : Closed list (c .count) places)
     (named : numbers ≡ map (λ e. e .number) (c .entries)) (k : ℕ) where
   abbrev es : List definition.Entry
   es = entriesIn c
@@ -69,7 +70,7 @@ module _ (c : Catalogue) (r : Ready c) {list : List ReducedEntry} {places number
           subst (λ m. Folds es (k + 1) m after) (sym b) (subst (Folds es (k + 1) (n + 1)) (sym a) (folds-yes es o (r .formed) held p inside s (is ∙ shown)))
 
 -- after the last entry
-pub all-printed : (c : Catalogue) → Ready c → {k n : ℕ} {entries : List Entry} → Folds (entriesIn c) k n entries → c .count ≤ k → holding n entries ≡ foldedOf c
+pub all-printed : (c : Catalogue) → WasRead c → {k n : ℕ} {entries : List Entry} → Folds (entriesIn c) k n entries → c .count ≤ k → holding n entries ≡ foldedOf c
 all-printed c r {k} p h =
     let same = prints-all (entriesIn c) k (omega (arith, ready-length c r)) in
     ap₂ holding (p .count ∙ ap length same) (p .array ∙ ap stored same)

@@ -1,7 +1,7 @@
 // The folded catalogue: the standing entries in file order, each as it is printed.
 ghost use mathlib.Core.Path.{_≡_};
 ghost use Rattle.catalogue_standing.specs.Places.{Closed};
-ghost use Rattle.catalogue_standing.specs.ReducedEntries.{Ready, HoldReduced};
+ghost use Rattle.catalogue_standing.specs.ReducedEntries.{WasRead, HoldReduced};
 ghost use Rattle.catalogue_fold.specs.Folding.{foldedOf};
 use catalogue_standing::reduced_entry::ReducedEntry;
 use printing::printed;
@@ -11,14 +11,14 @@ pub mod printing;
 
 // Of a catalogue that was read; the list of standing entries is closed before any see word is led.
 pub fn folded(c: catalogue_records::Catalogue, list: [ReducedEntry; 256], standing: &[usize]) -> catalogue_records::Catalogue
-    requires { ⌜ Ready c ⌝ }
+    requires { ⌜ WasRead c ⌝ }
     requires { ⌜ HoldReduced c (c .count) list ⌝ }
     requires { ⌜ Closed list (c .count) (now standing) ⌝ }
     ensures { λ r. ⌜ r ≡ foldedOf c ⌝ }
 {
     let numbers = catalogue_records::numbers(c);
-    let none = catalogue_records::Entry::empty();
-    let mut entries = [none; 256];
+    let none = catalogue_records::Catalogue::empty();
+    let mut entries = none.entries;
     let mut n = 0;
     for k in 0..c.count {
         if standing[k] == k {

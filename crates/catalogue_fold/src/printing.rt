@@ -6,9 +6,10 @@ ghost use Prim.Native.Nat.{ℕ, _+_, _≤_, _<_};
 ghost use lib.IntN.{pos};
 ghost use lib.ListN.{length, getD, take};
 ghost use Rattle.catalogue_rules.specs.Catalogue.{coordinates};
-ghost use Rattle.catalogue_records.specs.Filled.{filled};
+ghost use Rattle.integers.specs.Filled.{filled};
 ghost use Rattle.catalogue_standing.specs.ReducedEntry.{basisIn};
-ghost use Rattle.catalogue_fold.specs.Spread.{putAll, Full};
+ghost use lib.Seq.{sets};
+ghost use Rattle.catalogue_fold.specs.Spread.{Full};
 ghost use Rattle.catalogue_fold.specs.Printing.{Led, printedAs};
 use catalogue_standing::standing_places::place_of;
 use catalogue_standing::reduced_entry::ReducedEntry;
@@ -18,7 +19,7 @@ fn put_row(out: &mut [i64], n: usize, v: [i64; 4], m: usize)
     requires { ⌜ m ≤ 4 ⌝ }
     requires { ⌜ n + m ≤ length (now out) ⌝ }
     requires { ⌜ length (now out) ≤ 16 ⌝ }
-    ensures { λ _. ⌜ now (out .exit) ≡ putAll (now (out .entry)) n (take m v) ⌝ }
+    ensures { λ _. ⌜ now (out .exit) ≡ sets (now (out .entry)) n (take m v) ⌝ }
 {
     for j in 0..m {
         out[n + j] = v[j];

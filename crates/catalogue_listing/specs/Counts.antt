@@ -14,11 +14,12 @@ use Rattle.catalogue_rules.specs.Form.{WellFormed}
 use Rattle.fold_rules.specs.Fold.{stoodOf, closedList, standingIn, printed}
 use Rattle.fold_rules.specs.Listing.{line}
 use Rattle.catalogue_records.specs.declared.Catalogue.{Catalogue}
-use Rattle.catalogue_records.specs.Entries.{entryIn, entriesIn, beyond}
+use Rattle.catalogue_records.specs.EntriesIn.{entryIn, entriesIn}
+use Rattle.catalogue_records.specs.Entries.{beyond}
 use Rattle.catalogue_standing.specs.declared.reduced_entry.ReducedEntry.{ReducedEntry}
 use Rattle.catalogue_standing.specs.Places.{Closed}
 use Rattle.catalogue_standing.specs.Standing.{Held}
-use Rattle.catalogue_standing.specs.ReducedEntries.{Ready, HoldReduced, ready-length, keeps-held}
+use Rattle.catalogue_standing.specs.ReducedEntries.{WasRead, HoldReduced, ready-length, keeps-held}
 use Rattle.catalogue_fold.specs.Folding.{prints, prints-all, prints-yes, prints-no}
 
 abbrev pub oneIfOwn : ℕ → ℕ → ℕ
@@ -63,7 +64,7 @@ module _ (es : List definition.Entry) (o : definition.Entry) (w : WellFormed es)
 abbrev pub countsLine : ℕ → ℕ → List ℕ
 countsLine entries standing = line (decimal entries) (decimal standing ∷ [])
 
-pub counts-text : (c : Catalogue) (r : Ready c) {list : List ReducedEntry} {places : List ℕ} → HoldReduced c (c .count) list → Closed list (c .count) places → {n : ℕ} → n ≡ ownPlaces places (c .count)
+pub counts-text : (c : Catalogue) (r : WasRead c) {list : List ReducedEntry} {places : List ℕ} → HoldReduced c (c .count) list → Closed list (c .count) places → {n : ℕ} → n ≡ ownPlaces places (c .count)
     → countsLine (c .count) n ≡ countsLine (length (closedList (entriesIn c))) (length (standingIn (closedList (entriesIn c))))
 counts-text c r {places = places} kept closed is =
     let es = entriesIn c in

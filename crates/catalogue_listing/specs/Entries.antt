@@ -9,7 +9,7 @@ use native.Mathlib.Omega.{arith}
 use lib.Dec.{eqb}
 use lib.ListN.{length, getD, take, length-append}
 use borrow.Author.Tests.{eq-eqb, ne-eqb}
-use Rattle.integers.specs.All.{getD-map}
+use Rattle.integers.specs.AllLaws.{getD-map}
 use Rattle.integers.specs.Decimal.{decimal}
 use Rattle.lattices.specs.Vector.{Vec}
 use Rattle.lattices.specs.Greedy.{reduction}
@@ -17,17 +17,18 @@ use Rattle.catalogue_rules.specs.Catalogue as definition
 use Rattle.catalogue_rules.specs.Catalogue.{See}
 use Rattle.fold_rules.specs.Fold.{reducedOf, standing, Stood, stoodOf, closedList, followed, leads}
 use Rattle.fold_rules.specs.Listing.{line, vectorLines, leadNumber, entryLine, vectorsShown, entryLines}
-use Rattle.fold_rules.specs.SameLattice.{Sound, sound-entries}
-use Rattle.fold_rules.specs.Deciding.{entry-reduction}
+use Rattle.fold_rules.specs.Laws.SameLattice.{Sound, sound-entries}
+use Rattle.fold_rules.specs.Laws.Deciding.{entry-reduction}
 use Rattle.catalogue_records.specs.declared.Catalogue.{Catalogue}
 use Rattle.catalogue_records.specs.declared.Entry.{Entry}
 use Rattle.catalogue_records.specs.Stored.{seeNumber}
-use Rattle.catalogue_records.specs.Entries.{entryIn, entriesIn, beyond, entryAt, at-place, entry-has}
+use Rattle.catalogue_records.specs.EntriesIn.{entryIn, entriesIn}
+use Rattle.catalogue_records.specs.Entries.{beyond, entryAt, at-place, entry-has}
 use Rattle.catalogue_standing.specs.declared.reduced_entry.ReducedEntry.{ReducedEntry}
 use Rattle.catalogue_standing.specs.ReducedEntry.{noReduced, basisIn}
 use Rattle.catalogue_standing.specs.Places.{Closed}
 use Rattle.catalogue_standing.specs.Standing.{Held, place-standing, place-below}
-use Rattle.catalogue_standing.specs.ReducedEntries.{Ready, HoldReduced, ready-length, ready-numbers, keeps-held}
+use Rattle.catalogue_standing.specs.ReducedEntries.{WasRead, HoldReduced, ready-length, ready-numbers, keeps-held}
 use Rattle.catalogue_fold.specs.declared.printing.Way.{Way}
 use Rattle.catalogue_fold.specs.Spread.{Full, kept-full, kept-vectors}
 use Rattle.catalogue_fold.specs.Printing.{Led}
@@ -70,7 +71,7 @@ lead-number none = refl
 lead-number (some w) = refl
 
 -- ---- the entry at place k
-module _ (c : Catalogue) (r : Ready c) {list : List ReducedEntry} {places numbers : List ℕ} (kept : HoldReduced c (c .count) list) (closed : Closed list (c .count) places)
+module _ (c : Catalogue) (r : WasRead c) {list : List ReducedEntry} {places numbers : List ℕ} (kept : HoldReduced c (c .count) list) (closed : Closed list (c .count) places)
     (named : numbers ≡ map (λ e. e .number) (c .entries)) (k : ℕ) (here : k < c .count) where
   abbrev es : List definition.Entry
   es = entriesIn c

@@ -9,16 +9,17 @@ use lib.ListN.{length, drop, length-append}
 use lib.Seq.{sets-eq}
 use borrow.Author.Tests.{lt-ltb, le-ltb}
 use Rattle.io.specs.Counts.{Counts}
-use Rattle.integers.specs.Decimal.{decimal, decimal-length}
+use Rattle.integers.specs.Decimal.{decimal}
+use Rattle.integers.specs.DecimalLaws.{decimal-length}
 use Rattle.catalogue_rules.specs.Catalogue.{Outcome, refused, accepted}
 use Rattle.catalogue_rules.specs.Read.{checked, read}
 use Rattle.catalogue_rules.specs.Output.{Output, untouched, filledWith}
 use Rattle.fold_rules.specs.Fold.{closedList}
 use Rattle.fold_rules.specs.Listing.{after, line, refusedWord, catalogueLines, listed, listingOf}
-use Rattle.fold_rules.specs.ListingSize.{listing-size}
+use Rattle.fold_rules.specs.Laws.ListingSize.{listing-size}
 use Rattle.catalogue_records.specs.declared.Catalogue.{Catalogue}
 use Rattle.catalogue_records.specs.Catalogues.{catalogueOf}
-use Rattle.catalogue_records.specs.Entries.{entriesIn}
+use Rattle.catalogue_records.specs.EntriesIn.{entriesIn}
 use Rattle.catalogue_records.specs.Again.{read-as}
 use Rattle.text_output.specs.Within.{counts-within}
 use Rattle.text_output.specs.Puts.{Puts, puts-length}

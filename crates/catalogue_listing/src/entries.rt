@@ -4,9 +4,9 @@ ghost use Prim.Native.Nat.{_+_, _≤_};
 ghost use lib.ListN.{length};
 ghost use Rattle.fold_rules.specs.Fold.{closedList};
 ghost use Rattle.fold_rules.specs.Listing.{vectorLines, entryLines, catalogueLines};
-ghost use Rattle.catalogue_records.specs.Entries.{entriesIn};
+ghost use Rattle.catalogue_records.specs.EntriesIn.{entriesIn};
 ghost use Rattle.catalogue_standing.specs.Places.{Closed};
-ghost use Rattle.catalogue_standing.specs.ReducedEntries.{Ready, HoldReduced};
+ghost use Rattle.catalogue_standing.specs.ReducedEntries.{WasRead, HoldReduced};
 ghost use Rattle.catalogue_fold.specs.Spread.{Full};
 ghost use Rattle.text_output.specs.Puts.{Puts};
 ghost use Rattle.catalogue_listing.specs.Counts.{oneIfOwn, ownPlaces};
@@ -58,7 +58,7 @@ fn put_entries(
     list: [ReducedEntry; 256],
     standing: &[usize],
 ) -> usize
-    requires { ⌜ Ready c ⌝ }
+    requires { ⌜ WasRead c ⌝ }
     requires { ⌜ HoldReduced c (c .count) list ⌝ }
     requires { ⌜ Closed list (c .count) (now standing) ⌝ }
     requires { ⌜ at + length (entryLines (closedList (entriesIn c)) (closedList (entriesIn c))) ≤ length (now out) ⌝ }
@@ -101,7 +101,7 @@ fn count_standing(standing: &[usize], count: usize) -> usize
 
 // The listing of a catalogue that was read.
 pub(crate) fn put_catalogue(out: &mut [u8], c: catalogue_records::Catalogue) -> usize
-    requires { ⌜ Ready c ⌝ }
+    requires { ⌜ WasRead c ⌝ }
     requires { ⌜ length (catalogueLines (closedList (entriesIn c))) ≤ length (now out) ⌝ }
     ensures { λ r. ⌜ Puts (catalogueLines (closedList (entriesIn c))) (now (out .entry)) 0 (now (out .exit)) r ⌝ }
 {

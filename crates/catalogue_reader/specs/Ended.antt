@@ -5,16 +5,17 @@ use mathlib.Core.List.{List, map}
 use mathlib.Core.Option.{Option, none, some}
 use Prim.Native.Nat.{ℕ}
 use lib.ListN.{take}
-use Rattle.integers.specs.All.{take-map}
+use Rattle.integers.specs.AllLaws.{take-map}
 use Rattle.lattices.specs.Volume.{isDependent}
-use Rattle.lattices.specs.Refusal.{any}
+use Rattle.integers.specs.Every.{any}
 use Rattle.catalogue_rules.specs.Catalogue as definition
 use Rattle.catalogue_rules.specs.Read.{isNumbered, dependentAt, lostAt}
 use Rattle.catalogue_records.specs.declared.Entry.{Entry}
 use Rattle.catalogue_records.specs.declared.Catalogue.{Catalogue}
-use Rattle.catalogue_records.specs.Filled.{any-map}
+use Rattle.integers.specs.FilledLaws.{any-map}
 use Rattle.catalogue_reader.specs.Readings.{isNumber}
-use Rattle.catalogue_records.specs.Entries.{seeIn, entryIn, entriesIn, placeIf, Says}
+use Rattle.catalogue_records.specs.EntriesIn.{seeIn, entryIn, entriesIn}
+use Rattle.catalogue_records.specs.Entries.{placeIf, Says}
 
 pub dependent-at : (e : Entry) {t : Bool} → t ≡ isDependent (e .m) (entryIn e .vectors) → Says dependentAt (entryIn e) t (e .place)
 dependent-at e h = record { place = ap (λ t. placeIf t (e .place)) h ∙ go (isDependent (e .m) (entryIn e .vectors)) }

@@ -10,16 +10,16 @@ use lib.ListN.{length, getD, set, drop, drop-of-length-le}
 use lib.Seq.{drop-cons}
 use borrow.Author.Tests.{lt-ltb, le-ltb}
 use Rattle.catalogue_rules.specs.Word.{Word, decode}
-use Rattle.catalogue_rules.specs.WordLaws.{InRange, decode-range}
+use Rattle.catalogue_rules.specs.Laws.Word.{InRange, decode-range}
 use Rattle.catalogue_rules.specs.Catalogue.{Outcome, refused}
 use Rattle.catalogue_rules.specs.Read.{State, outside, inside, after, closed, Step, next, stop, step, atLast, readWords}
-use Rattle.catalogue_rules.specs.Moves.{Moves, by-head, by-coordinate, by-see, by-end, Going, moved}
-use Rattle.catalogue_rules.specs.WellFormed.{Known, known-moves, nothing-read}
+use Rattle.catalogue_rules.specs.Laws.Moves.{Moves, by-head, by-coordinate, by-see, by-end, Going, moved}
+use Rattle.catalogue_rules.specs.Laws.WellFormed.{Known, known-moves, nothing-read}
 use Rattle.catalogue_records.specs.declared.Entry.{Entry}
 use Rattle.catalogue_reader.specs.declared.reading.Reading.{Reading}
-use Rattle.catalogue_records.specs.Filled.{filled}
+use Rattle.integers.specs.Filled.{filled}
 use Rattle.catalogue_records.specs.Catalogues.{noCatalogue, stored, holding, catalogueOf}
-use Rattle.catalogue_reader.specs.Readings.{isClosed, stopped, stepRead, Ready}
+use Rattle.catalogue_reader.specs.Readings.{isClosed, stopped, stepRead, ReadyFor}
 use Rattle.catalogue_reader.specs.States.{readingOf, stepOf, numbersOf, step-shown}
 use Rattle.catalogue_reader.specs.Room.{Due, due-moves, fine, ready}
 use Rattle.catalogue_reader.specs.Store.{wholeIn, put, store-moves, Space, noted, numbers-moves}
@@ -86,8 +86,8 @@ pub record Moved (words : List ℕ) (i : ℕ) (s : State) (w : Word) (t : Readin
   pub shown : t ≡ readingOf state
 
 module _ (words : List ℕ) (i : ℕ) {entries : List Entry} {numbers : List ℕ} {s : Reading} (r : Reached words i entries numbers s) where
-  pub reached-ready : Ready numbers s
-  reached-ready = subst (λ l. Ready l s) (sym (r .notes)) (subst (Ready (filled 0 256 (numbersOf (r .state)))) (sym (r .shown)) (ready (r .state) (r .onward .known) (r .onward .due)))
+  pub reached-ready : ReadyFor numbers s
+  reached-ready = subst (λ l. ReadyFor l s) (sym (r .notes)) (subst (ReadyFor (filled 0 256 (numbersOf (r .state)))) (sym (r .shown)) (ready (r .state) (r .onward .known) (r .onward .due)))
 
   module _ (here : i < length words) {t : Reading} {w : Word} (word : w ≡ decode (getD words i 0)) (read : t ≡ stepRead numbers s i w) where
     turned : t ≡ stepOf (step (r .state) i w)

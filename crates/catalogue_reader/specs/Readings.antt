@@ -4,7 +4,8 @@ use mathlib.Core.List.{List, [], _∷_}
 use Prim.Native.Nat.{ℕ, _+_, _≤_, _<_}
 use lib.Dec.{leb, ltb, eqb}
 use lib.ListN.{length, take}
-use Rattle.lattices.specs.Refusal.{any, oneTo, tooLong}
+use Rattle.integers.specs.Every.{any}
+use Rattle.lattices.specs.Refusal.{oneTo, tooLong}
 use Rattle.catalogue_rules.specs.Word.{Word, head, coordinate, see, end, other}
 use Rattle.catalogue_rules.specs.Read.{checked, coordinateOf}
 use Rattle.catalogue_reader.specs.declared.reading.Phase.{Phase}
@@ -98,7 +99,7 @@ RoomIn Inside numbers s = (s .part .row < 4) × ((s .part .column < 4) × (s .pa
 RoomIn After numbers s = (s .count < 256) × (s .count < length numbers)
 RoomIn Closed numbers s = Unit {0}
 
-pub record Ready (numbers : List ℕ) (s : Reading) : Type 0 where
+pub record ReadyFor (numbers : List ℕ) (s : Reading) : Type 0 where
   pub room : RoomIn (s .phase) numbers s
 
 abbrev pub isClosed : Phase → Bool

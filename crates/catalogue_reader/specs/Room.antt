@@ -11,16 +11,17 @@ use lib.Dec.{eqb}
 use lib.ListN.{length, length-append}
 use borrow.Author.Tests.{eqb-false, not-false}
 use Rattle.lattices.specs.Vector.{Vec}
-use Rattle.lattices.specs.RefusalLaws.{one-to}
+use Rattle.lattices.specs.Laws.Refusal.{one-to}
 use Rattle.catalogue_rules.specs.Word.{Word}
 use Rattle.catalogue_rules.specs.Catalogue as definition
 use Rattle.catalogue_rules.specs.Catalogue.{Head, coordinates}
 use Rattle.catalogue_rules.specs.Read.{State, outside, inside, after, closed, coordinateOf, withVector, withCoordinate}
-use Rattle.catalogue_rules.specs.Moves.{Moves, by-head, by-coordinate, by-see, by-end}
-use Rattle.catalogue_rules.specs.WellFormed.{Known}
-use Rattle.catalogue_rules.specs.EntriesAccepted.{length-coordinates}
-use Rattle.catalogue_records.specs.Filled.{filled, length-filled}
-use Rattle.catalogue_reader.specs.Readings.{Ready}
+use Rattle.catalogue_rules.specs.Laws.Moves.{Moves, by-head, by-coordinate, by-see, by-end}
+use Rattle.catalogue_rules.specs.Laws.WellFormed.{Known}
+use Rattle.catalogue_rules.specs.Laws.EntriesAccepted.{length-coordinates}
+use Rattle.integers.specs.Filled.{filled}
+use Rattle.integers.specs.FilledLaws.{length-filled}
+use Rattle.catalogue_reader.specs.Readings.{ReadyFor}
 use Rattle.catalogue_reader.specs.States.{readingOf, numbersOf, Fine}
 
 -- within an entry a vector and a coordinate are still to come
@@ -73,7 +74,7 @@ fine (inside es h vs v) k d = (omega (arith, d .1, one-to 4 (h .m) (k .0 .head .
 fine (after es h vs) k d = k .0 .few
 fine (closed es) k d = k .few
 
-pub ready : (s : State) → Known s → Due s → Ready (filled 0 256 (numbersOf s)) (readingOf s)
+pub ready : (s : State) → Known s → Due s → ReadyFor (filled 0 256 (numbersOf s)) (readingOf s)
 ready (outside es) k d = record { room = omega (arith, length-filled 0 256 (numbersOf (outside es)), k .few) }
 ready (inside es h vs v) k d = record { room = (omega (arith, d .0, one-to 4 (h .d) (k .0 .head .d) .1), (omega (arith, d .1, one-to 4 (h .m) (k .0 .head .m) .1), places es h vs v k d)) }
 ready (after es h vs) k d = record { room = (k .0 .few, omega (arith, length-filled 0 256 (numbersOf (after es h vs)), k .0 .few)) }

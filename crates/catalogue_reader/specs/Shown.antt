@@ -8,10 +8,11 @@ use lib.ListN.{length, set, length-append}
 use Rattle.lattices.specs.Vector.{Vec}
 use Rattle.catalogue_rules.specs.Catalogue as definition
 use Rattle.catalogue_rules.specs.Catalogue.{Head, See, coordinates}
-use Rattle.catalogue_rules.specs.RoundTrip.{coordinates-snoc}
+use Rattle.catalogue_rules.specs.Laws.RoundTrip.{coordinates-snoc}
 use Rattle.catalogue_records.specs.declared.Entry.{Entry}
 use Rattle.catalogue_reader.specs.declared.parts.Part.{Part}
-use Rattle.catalogue_records.specs.Filled.{filled, filled-next}
+use Rattle.integers.specs.Filled.{filled}
+use Rattle.integers.specs.FilledLaws.{filled-next}
 use Rattle.catalogue_records.specs.Stored.{sees, seeNumber, seePlace, entryOf}
 use Rattle.catalogue_reader.specs.Parts.{putCoordinate, putVector, whole}
 

@@ -10,19 +10,21 @@ use lib.IntN.{pos, natAbs}
 use lib.ListN.{length, take, length-append}
 use lib.Signed.{ltZ}
 use Rattle.lattices.specs.Vector.{Vec, N}
-use Rattle.lattices.specs.Refusal.{any, oneTo, tooLong, mostSize, mostSquare}
+use Rattle.integers.specs.Every.{any}
+use Rattle.lattices.specs.Refusal.{oneTo, tooLong, mostSize, mostSquare}
 use Rattle.input_checks.specs.Padded.{tooLong-padded}
 use Rattle.catalogue_rules.specs.Word.{Word, head, coordinate, see, end, other}
 use Rattle.catalogue_rules.specs.Catalogue as definition
 use Rattle.catalogue_rules.specs.Catalogue.{Head, See, coordinates}
 use Rattle.catalogue_rules.specs.Read.{State, outside, inside, after, closed, Step, next, stop, checked, isNumbered, withEntry, headRows, atHead, coordinateOf, withVector, atCoordinate, atEnd, step}
-use Rattle.catalogue_rules.specs.WellFormed.{any-snoc, load-within}
+use Rattle.catalogue_rules.specs.Laws.WellFormed.{any-snoc, load-within}
 use Rattle.catalogue_reader.specs.declared.reading.Phase.{Phase}
 use Rattle.catalogue_reader.specs.declared.reading.Phase.the-variants.{Outside, Inside, After, Closed}
 use Rattle.catalogue_records.specs.declared.Entry.{Entry}
 use Rattle.catalogue_reader.specs.declared.parts.Part.{Part}
 use Rattle.catalogue_reader.specs.declared.reading.Reading.{Reading}
-use Rattle.catalogue_records.specs.Filled.{filled, take-filled, filled-padded, map-snoc, any-map}
+use Rattle.integers.specs.Filled.{filled}
+use Rattle.integers.specs.FilledLaws.{take-filled, map-snoc, any-map}
 use Rattle.catalogue_records.specs.Stored.{noEntry, sees, seeNumber, seePlace, entryOf}
 use Rattle.catalogue_reader.specs.Parts.{noPart, started, whole}
 use Rattle.catalogue_reader.specs.Shown.{partOf, part-coordinate, part-vector, whole-entry}
@@ -116,7 +118,7 @@ module _ (es : List definition.Entry) (h : Head) (vs : List Vec) where
   vector-step : (u : Vec) → length u ≤ 4 → any (λ x. ltb mostSize (natAbs x)) u ≡ false
       → vectorRead (reading Inside es (partOf h vs u)) (partOf h vs u) ≡ stepOf (checked stop ((ltZ (pos mostSquare) (N u), 4) ∷ []) (next (withVector es h (vs ++ (u ∷ [])))))
   vector-step u short within =
-      let long : tooLong (filled (pos 0) 4 u) ≡ ltZ (pos mostSquare) (N u) = ap tooLong (filled-padded 4 u) ∙ tooLong-padded 4 u short ∙ ap (λ t. t || ltZ (pos mostSquare) (N u)) within in
+      let long : tooLong (filled (pos 0) 4 u) ≡ ltZ (pos mostSquare) (N u) = tooLong-padded 4 u short ∙ ap (λ t. t || ltZ (pos mostSquare) (N u)) within in
       ap₂ (λ t p. checked stopped ((t, 4) ∷ []) (going (vectorPhase (eqb (p .row) (p .d))) (length es) p (lastOf noEntry es))) long (part-vector h vs u)
       ∙ ap (λ s. checked stopped ((ltZ (pos mostSquare) (N u), 4) ∷ []) s) (go (eqb (length (vs ++ (u ∷ []))) (h .d)))
       ∙ step-rows ((ltZ (pos mostSquare) (N u), 4) ∷ []) (withVector es h (vs ++ (u ∷ [])))

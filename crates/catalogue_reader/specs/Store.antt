@@ -13,10 +13,11 @@ use Rattle.catalogue_rules.specs.Word.{Word, head, coordinate, see, end, other}
 use Rattle.catalogue_rules.specs.Catalogue as definition
 use Rattle.catalogue_rules.specs.Catalogue.{Head}
 use Rattle.catalogue_rules.specs.Read.{State, outside, inside, after, closed, coordinateOf, withVector, withCoordinate}
-use Rattle.catalogue_rules.specs.Moves.{Moves, by-head, by-coordinate, by-see, by-end, Between, between, unreferred}
+use Rattle.catalogue_rules.specs.Laws.Moves.{Moves, by-head, by-coordinate, by-see, by-end, Between, between, unreferred}
 use Rattle.catalogue_records.specs.declared.Entry.{Entry}
 use Rattle.catalogue_reader.specs.declared.reading.Reading.{Reading}
-use Rattle.catalogue_records.specs.Filled.{filled, filled-next, map-snoc}
+use Rattle.integers.specs.Filled.{filled}
+use Rattle.integers.specs.FilledLaws.{filled-next, map-snoc}
 use Rattle.catalogue_records.specs.Stored.{noEntry, entryOf}
 use Rattle.catalogue_records.specs.Catalogues.{stored}
 use Rattle.catalogue_reader.specs.States.{readingOf, lastOf, last-snoc, numbers, numbersOf, length-numbers, Fine}

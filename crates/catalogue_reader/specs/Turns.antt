@@ -12,7 +12,8 @@ use mir.Val.{SFits, ofZ, toZ}
 use mir.Facts.{toZ-ofZ, toZ-pos}
 use borrow.Author.Tests.{eq-eqb, ne-eqb}
 use Rattle.integers.specs.Size.{within-sub, fits-within}
-use Rattle.lattices.specs.Refusal.{any, oneTo, tooLong}
+use Rattle.integers.specs.Every.{any}
+use Rattle.lattices.specs.Refusal.{oneTo, tooLong}
 use Rattle.catalogue_rules.specs.Read.{checked, coordinateOf}
 use Rattle.catalogue_reader.specs.declared.reading.Phase.{Phase}
 use Rattle.catalogue_reader.specs.declared.reading.Phase.the-variants.{Inside, After}

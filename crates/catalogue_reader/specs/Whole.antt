@@ -15,10 +15,11 @@ use Rattle.catalogue_rules.specs.Catalogue as definition
 use Rattle.catalogue_rules.specs.Catalogue.{Outcome, refused, accepted}
 use Rattle.catalogue_rules.specs.Read.{outside, checked, firstPlace, dependentAt, lostAt, readWords, afterWords, read}
 use Rattle.catalogue_rules.specs.Form.{EntryFits, Entered}
-use Rattle.catalogue_rules.specs.Moves.{WhenAccepted}
+use Rattle.catalogue_rules.specs.Laws.Moves.{WhenAccepted}
 use Rattle.catalogue_records.specs.declared.Catalogue.{Catalogue}
 use Rattle.catalogue_records.specs.Catalogues.{noCatalogue, catalogueOf, unless}
-use Rattle.catalogue_records.specs.Entries.{entriesIn, entries-back}
+use Rattle.catalogue_records.specs.EntriesIn.{entriesIn}
+use Rattle.catalogue_records.specs.Entries.{entries-back}
 
 -- the words' outcome
 abbrev pub words : List ℕ → Outcome

@@ -6,7 +6,7 @@ ghost use Prim.Native.Nat.{_≤_};
 ghost use lib.ListN.{length, take};
 ghost use Rattle.integers.specs.All.{All};
 ghost use Rattle.lattices.specs.Volume.{isDependent};
-ghost use Rattle.lattices.specs.Refusal.{any};
+ghost use Rattle.integers.specs.Every.{any};
 ghost use Rattle.catalogue_rules.specs.Word.{wordsOf};
 ghost use Rattle.catalogue_rules.specs.Read.{read, outside, readWords, firstPlace, dependentAt, lostAt};
 ghost use Rattle.catalogue_records.specs.Catalogues.{catalogueOf, unless};
@@ -14,7 +14,7 @@ ghost use Rattle.catalogue_reader.specs.Readings.{isClosed, isNumber};
 ghost use Rattle.catalogue_reader.specs.Words.{wordIn};
 ghost use Rattle.catalogue_reader.specs.Store.{noted, Space};
 ghost use Rattle.catalogue_rules.specs.Form.{EntryFits};
-ghost use Rattle.catalogue_records.specs.Entries.{entryIn, entriesIn};
+ghost use Rattle.catalogue_records.specs.EntriesIn.{entryIn, entriesIn};
 use reading::Phase;
 use reading::Reading;
 use reading::numbered;
@@ -60,8 +60,8 @@ fn note(numbers: &mut [u32; 256], count: usize, w: Word)
 fn read_words(bytes: &[u8]) -> Catalogue
     ensures { λ r. ⌜ r ≡ catalogueOf (readWords (outside []) 0 (wordsOf (now (bytes .entry)))) ⌝ }
 {
-    let none = Entry::empty();
-    let mut entries = [none; Catalogue::MOST_ENTRIES];
+    let none = Catalogue::empty();
+    let mut entries = none.entries;
     let mut numbers = [0u32; Catalogue::MOST_ENTRIES];
     let mut s = Reading::start();
     let n = bytes.len() / 4;

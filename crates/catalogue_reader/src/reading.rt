@@ -4,9 +4,9 @@ ghost use mathlib.Core.Bool.{_||_};
 ghost use Prim.Native.Nat.{_≤_, _<_};
 ghost use lib.Dec.{eqb};
 ghost use lib.ListN.{length, take};
-ghost use Rattle.lattices.specs.Refusal.{any};
+ghost use Rattle.integers.specs.Every.{any};
 ghost use Rattle.catalogue_reader.specs.Words.{wordIn};
-ghost use Rattle.catalogue_reader.specs.Readings.{isNumber, going, stopped, headRead, vectorRead, coordinateRead, entryRead, endRead, outsideRead, insideRead, afterRead, Ready, stepRead};
+ghost use Rattle.catalogue_reader.specs.Readings.{isNumber, going, stopped, headRead, vectorRead, coordinateRead, entryRead, endRead, outsideRead, insideRead, afterRead, ReadyFor, stepRead};
 use super::parts::Part;
 use super::words::Word;
 use catalogue_records::Catalogue;
@@ -217,7 +217,7 @@ impl Reading {
 
     // The word at index i.
     pub(crate) fn step(self, numbers: &[u32], i: usize, w: Word) -> Reading
-        requires { ⌜ Ready (now numbers) self ⌝ }
+        requires { ⌜ ReadyFor (now numbers) self ⌝ }
         ensures { λ r. ⌜ r ≡ stepRead (now (numbers .entry)) self i (wordIn w) ⌝ }
     {
         let phase = self.phase;

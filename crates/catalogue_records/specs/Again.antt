@@ -7,12 +7,13 @@ use Rattle.catalogue_rules.specs.Catalogue as definition
 use Rattle.catalogue_rules.specs.Catalogue.{Outcome, refused, accepted, refusal, entries}
 use Rattle.catalogue_rules.specs.Read.{read}
 use Rattle.catalogue_rules.specs.Form.{WellFormed}
-use Rattle.catalogue_rules.specs.Moves.{when-not-refused}
-use Rattle.catalogue_rules.specs.WellFormed.{well-formed}
+use Rattle.catalogue_rules.specs.Laws.Moves.{when-not-refused}
+use Rattle.catalogue_rules.specs.Laws.WellFormed.{well-formed}
 use Rattle.catalogue_rules.specs.Output.{untouched, output}
 use Rattle.catalogue_records.specs.declared.Catalogue.{Catalogue}
 use Rattle.catalogue_records.specs.Catalogues.{catalogueOf}
-use Rattle.catalogue_records.specs.Entries.{entriesIn, entries-back}
+use Rattle.catalogue_records.specs.EntriesIn.{entriesIn}
+use Rattle.catalogue_records.specs.Entries.{entries-back}
 
 refusal-of : (o : Outcome) → catalogueOf o .refusal ≡ refusal o
 refusal-of (refused n p) = refl

@@ -9,7 +9,7 @@ use Rattle.catalogue_rules.specs.Output.{Output}
 use Rattle.catalogue_records.specs.declared.Catalogue.{Catalogue}
 use Rattle.catalogue_records.specs.declared.Entry.{Entry}
 use Rattle.catalogue_records.specs.declared.Written.{Written}
-use Rattle.catalogue_records.specs.Filled.{filled}
+use Rattle.integers.specs.Filled.{filled}
 use Rattle.catalogue_records.specs.Stored.{noEntry, entryOf}
 
 -- no entry

@@ -5,12 +5,12 @@ use native.Mathlib.Nat.{mul-le-mul}
 use native.Mathlib.Omega.{arith}
 use lib.ListN.{length, take}
 use lib.Seq.{length-take-le}
-use Rattle.lattices.specs.RefusalLaws.{one-to}
+use Rattle.lattices.specs.Laws.Refusal.{one-to}
 use Rattle.catalogue_rules.specs.Catalogue.{coordinates}
 use Rattle.catalogue_rules.specs.Form.{EntryFits}
-use Rattle.catalogue_rules.specs.EntriesAccepted.{numbers-back}
+use Rattle.catalogue_rules.specs.Laws.EntriesAccepted.{numbers-back}
 use Rattle.catalogue_records.specs.declared.Entry.{Entry}
-use Rattle.catalogue_records.specs.Entries.{entryIn}
+use Rattle.catalogue_records.specs.EntriesIn.{entryIn}
 
 module _ (e : Entry) (fits : EntryFits (entryIn e)) (long : length (e .coordinates) ≡ 16) where
   pub most : e .d * e .m ≤ 16

@@ -1,4 +1,4 @@
--- Stored entries as those of the definition again, and the first place of which a test speaks, as a loop finds it.
+-- That what was stored is found again, and the first place of which a test speaks, as a loop finds it.
 use mathlib.Core.Path.{_≡_, refl, sym, ap, ap₂, _∙_, subst}
 use mathlib.Core.Bool.{Bool, true, false}
 use mathlib.Core.List.{List, [], _∷_, map}
@@ -9,33 +9,21 @@ use native.Mathlib.Omega.{arith}
 use lib.IntN.{pos}
 use lib.ListN.{length, getD, take, drop, length-take, length-map, drop-of-length-le}
 use lib.Seq.{drop-cons, getD-take}
-use Rattle.integers.specs.All.{All, getD-map}
+use Rattle.integers.specs.All.{All}
+use Rattle.integers.specs.AllLaws.{getD-map, all-at}
 use Rattle.lattices.specs.Refusal.{vectorsOf}
 use Rattle.catalogue_rules.specs.Catalogue as definition
 use Rattle.catalogue_rules.specs.Catalogue.{See, coordinates}
 use Rattle.catalogue_rules.specs.Read.{firstPlace}
 use Rattle.catalogue_rules.specs.Form.{EntryFits}
-use Rattle.catalogue_rules.specs.All.{all-at}
-use Rattle.catalogue_rules.specs.EntriesAccepted.{count-coordinates, few-coordinates, vectors-back}
+use Rattle.catalogue_rules.specs.Laws.EntriesAccepted.{count-coordinates, few-coordinates, vectors-back}
 use Rattle.catalogue_records.specs.declared.Entry.{Entry}
 use Rattle.catalogue_records.specs.declared.Catalogue.{Catalogue}
-use Rattle.catalogue_records.specs.Filled.{filled, take-filled}
+use Rattle.catalogue_records.specs.EntriesIn.{seeIn, entryIn, entriesIn}
+use Rattle.integers.specs.Filled.{filled}
+use Rattle.integers.specs.FilledLaws.{take-filled}
 use Rattle.catalogue_records.specs.Stored.{noEntry, sees, seeNumber, seePlace, entryOf}
 use Rattle.catalogue_records.specs.Catalogues.{stored, holding}
-
-abbrev pub seeIn : Bool → ℕ → ℕ → Option See
-seeIn true number place = some (record { number = number; place = place })
-seeIn false number place = none
-
-abbrev pub entryIn : Entry → definition.Entry
-entryIn e = record {
-  head = record { number = e .number; d = e .d; m = e .m; place = e .place };
-  vectors = vectorsOf (e .d) (e .m) (take (e .d * e .m) (e .coordinates));
-  see = seeIn (e .sees) (e .see) (e .at);
-}
-
-abbrev pub entriesIn : Catalogue → List definition.Entry
-entriesIn c = map entryIn (take (c .count) (c .entries))
 
 -- ---- what was stored is found again
 

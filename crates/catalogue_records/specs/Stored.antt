@@ -7,7 +7,7 @@ use lib.ListN.{replicate}
 use Rattle.catalogue_rules.specs.Catalogue as definition
 use Rattle.catalogue_rules.specs.Catalogue.{See, coordinates}
 use Rattle.catalogue_records.specs.declared.Entry.{Entry}
-use Rattle.catalogue_records.specs.Filled.{filled}
+use Rattle.integers.specs.Filled.{filled}
 
 abbrev pub noEntry : Entry
 noEntry = record { number = 0; d = 0; m = 0; place = 0; sees = false; see = 0; at = 0; coordinates = replicate 16 (pos 0) }

@@ -7,7 +7,8 @@ use Prim.Native.Nat.{ℕ, suc, _+_, _≤_}
 use lib.ListN.{length}
 use Rattle.lattices.specs.Vector.{Vec}
 use Rattle.lattices.specs.Volume.{isDependent}
-use Rattle.lattices.specs.Refusal.{any, oneTo, tooLong, mostVectors, mostCoordinates}
+use Rattle.integers.specs.Every.{any}
+use Rattle.lattices.specs.Refusal.{oneTo, tooLong, mostVectors, mostCoordinates}
 use Rattle.integers.specs.All.{All}
 use Rattle.catalogue_rules.specs.Catalogue.{Head, See, Entry, coordinates, mostEntries}
 use Rattle.catalogue_rules.specs.Read.{isNumbered}
@@ -42,8 +43,8 @@ pub record Entered (es : List Entry) : Type 0 where
   pub fits : All EntryFits es
   pub distinct : Distinct es
 
-abbrev pub Independent : Entry → Type 0
-Independent e = isDependent (e .head .m) (e .vectors) ≡ false
+abbrev pub EntryIndependent : Entry → Type 0
+EntryIndependent e = isDependent (e .head .m) (e .vectors) ≡ false
 
 abbrev pub Names : List Entry → Option See → Type 0
 Names es none = Unit {0}
@@ -51,7 +52,7 @@ Names es (some s) = any (isNumbered (s .number)) es ≡ true
 
 pub record WellFormed (es : List Entry) : Type 0 where
   pub entered : Entered es
-  pub independent : All Independent es
+  pub independent : All EntryIndependent es
   pub named : All (λ e. Names es (e .see)) es
 
 -- ---- places: a head, its coordinates, a see word if there is one

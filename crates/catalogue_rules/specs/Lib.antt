@@ -1,21 +1,10 @@
--- The file format of a catalogue. Definitions: Word to Form. Examples by computation. Then what holds of accepted and of written catalogues.
-pub mod All
+-- The file format of a catalogue: what a reader must believe, and examples by computation. Laws: what holds of accepted and of written
+-- catalogues.
 pub mod Word
 pub mod Catalogue
 pub mod Read
 pub mod Write
 pub mod Output
 pub mod Form
-pub mod Placed
 pub mod Examples
-pub mod WordLaws
-pub mod Moves
-pub mod RoundTrip
-pub mod OutputLaws
-pub mod TooLong
-pub mod WellFormed
-pub mod EntriesAccepted
-pub mod ReadVectors
-pub mod ReadEntries
-pub mod WrittenSize
-pub mod ReadBack
+pub mod Laws

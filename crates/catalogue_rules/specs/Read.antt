@@ -10,7 +10,8 @@ use lib.ListN.{length}
 use lib.Signed.{ltZ}
 use Rattle.lattices.specs.Vector.{Vec, N}
 use Rattle.lattices.specs.Volume.{isDependent}
-use Rattle.lattices.specs.Refusal.{any, oneTo, mostVectors, mostCoordinates, mostSquare, mostSize}
+use Rattle.integers.specs.Every.{any}
+use Rattle.lattices.specs.Refusal.{oneTo, mostVectors, mostCoordinates, mostSquare, mostSize}
 use Rattle.catalogue_rules.specs.Word.{Word, head, coordinate, see, end, other, decode, wordsOf}
 use Rattle.catalogue_rules.specs.Catalogue.{Head, See, Entry, Outcome, refused, accepted, mostEntries, mostBytes, mostLoad}
 

@@ -9,15 +9,16 @@ use lib.IntN.{ℤ, pos, _-ℤ_, _*ℤ_, *ℤ-zero}
 use lib.ListN.{length, getD, length-map, length-take, List·getD-eq-default}
 use lib.Seq.{getD-take, length-take-le}
 use Rattle.integers.specs.Identity.{by-eq, reads}
-use Rattle.integers.specs.All.{getD-map}
-use Rattle.integers.specs.Lists.{length-⊙, nth-⊙}
+use Rattle.integers.specs.AllLaws.{getD-map}
+use Rattle.integers.specs.ListLaws.{length-⊙, nth-⊙}
 use Rattle.lattices.specs.Vector.{Vec, nth, _⊙_}
-use Rattle.lattices.specs.VectorLaws.{≈-trans, ≈-⊙, nth-≈, comb-⊙}
+use Rattle.lattices.specs.Laws.Vector.{≈-trans, ≈-⊙, nth-≈, comb-⊙}
 use Rattle.lattices.specs.Greedy.{units}
-use Rattle.successive_minima.specs.Members.{Member, isMember, is-member}
+use Rattle.successive_minima.specs.Member.{Member, isMember}
+use Rattle.successive_minima.specs.Laws.Members.{is-member}
 use Rattle.greedy_reduction.specs.Start.{unit-comb, length-units, units-coordinates}
 use Rattle.greedy_reduction.specs.Exactness.{coordinates-at}
-use Rattle.row_operations.specs.Rows.{vectorRow}
+use Rattle.row_operations.specs.RowStructs.{vectorRow}
 use Rattle.catalogue_standing.specs.declared.reduced_entry.ReducedEntry.{ReducedEntry}
 use Rattle.catalogue_standing.specs.Every.{every-all}
 use Rattle.catalogue_standing.specs.ReducedEntry.{rowsIn, basisIn, heldIn, sameReduced, Fair, by-held}

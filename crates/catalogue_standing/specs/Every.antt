@@ -9,7 +9,7 @@ use native.Mathlib.Decide.{decLt}
 use lib.ListN.{length, getD, drop, drop-of-length-le}
 use lib.Seq.{drop-cons}
 use Rattle.integers.specs.Tests.{both}
-use Rattle.fold_rules.specs.Fold.{every}
+use Rattle.integers.specs.Every.{every}
 
 pub every-here : {A : Type 0} (f : A → Bool) (l : List A) (i : ℕ) (x : A) → i < length l → f (getD l i x) ≡ false → every f (drop i l) ≡ false
 every-here f l i x h e = rw (drop-cons l i x h, e)

@@ -8,13 +8,13 @@ use native.Mathlib.Omega.{arith}
 use lib.Dec.{eqb}
 use lib.ListN.{length, getD}
 use borrow.Author.Tests.{eqb-true}
-use Rattle.lattices.specs.Refusal.{any}
+use Rattle.integers.specs.Every.{any}
 use Rattle.catalogue_rules.specs.Catalogue.{Entry}
 use Rattle.catalogue_rules.specs.Read.{isNumbered}
 use Rattle.catalogue_rules.specs.Form.{WellFormed}
 use Rattle.fold_rules.specs.Fold.{closedList, lookup}
-use Rattle.fold_rules.specs.LookupLaws.{lookup-finds, lookup-misses}
-use Rattle.fold_rules.specs.Searching.{among-at}
+use Rattle.fold_rules.specs.Laws.Lookup.{lookup-finds, lookup-misses}
+use Rattle.fold_rules.specs.Laws.Searching.{among-at}
 use Rattle.catalogue_standing.specs.declared.reduced_entry.ReducedEntry.{ReducedEntry}
 use Rattle.catalogue_standing.specs.Places.{First}
 use Rattle.catalogue_standing.specs.Standing.{Held, Numbers, place-below, place-standing}

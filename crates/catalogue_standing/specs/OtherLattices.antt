@@ -16,10 +16,11 @@ use lib.Signed.{_≤ℤ_, quotZ, remZ}
 use Rattle.integers.specs.Size.{Within, size-neg, size-mul}
 use Rattle.integers.specs.Tests.{both}
 use Rattle.lattices.specs.Vector.{Vec, N, nth, _⊙_}
-use Rattle.successive_minima.specs.Members.{Member, isMember, member-is}
+use Rattle.successive_minima.specs.Member.{Member, isMember}
+use Rattle.successive_minima.specs.Laws.Members.{member-is}
 use Rattle.input_checks.specs.Minors.{wedged}
 use Rattle.input_checks.specs.Volumes.{minors, wedged-multiple, minors-within, short-from}
-use Rattle.fold_rules.specs.Multiples.{member-multiple, perm-front}
+use Rattle.fold_rules.specs.Laws.Multiples.{member-multiple, perm-front}
 use Rattle.catalogue_standing.specs.declared.reduced_entry.ReducedEntry.{ReducedEntry}
 use Rattle.catalogue_standing.specs.Every.{every-at}
 use Rattle.catalogue_standing.specs.ReducedEntry.{rowsIn, basisIn, heldIn, sameReduced, Fair}
@@ -43,7 +44,7 @@ pub record Rests (d : ℕ) (b : List Vec) (n : ℕ) (rests : List (List ℤ)) : 
   pub rest : (j : ℕ) → j < n → getD rests j [] ≡ minors (others d j b)
 
 -- entries that a product can be made with
-pub record Small (d : ℕ) (rests : List (List ℤ)) : Type 0 where
+pub record SmallForm (d : ℕ) (rests : List (List ℤ)) : Type 0 where
   pub small : (j : ℕ) → j < d → (i : ℕ) → Within 8000000000000 (nth (getD rests j []) i)
 
 -- what the code computes of an entry
@@ -111,7 +112,7 @@ module _ (d : ℕ) (b : List Vec) (long : d ≤ length b) (short : (i : ℕ) →
       go (yes e) = subst (λ v. N v ≤ℤ pos 400000000) (sym (ap (λ i. getD (set b j (getD b (d - 1) [])) i []) e ∙ getD-set-same b j (getD b (d - 1) []) [] (omega arith))) (short (d - 1) (omega arith))
       go (no n) = subst (λ v. N v ≤ℤ pos 400000000) (sym (getD-set-other b j i (getD b (d - 1) []) [] n)) (short i (omega arith))
 
-  pub rests-small : d ≤ 4 → {rests : List (List ℤ)} → Rests d b d rests → Small d rests
+  pub rests-small : d ≤ 4 → {rests : List (List ℤ)} → Rests d b d rests → SmallForm d rests
   rests-small few r = record {
     small = λ j h i. subst (λ w. Within 8000000000000 (nth w i)) (sym (r .rest j h))
         (minors-within (others d j b) (omega (arith, length-take (d - 1) (set b j (getD b (d - 1) [])))) (short-from 400000000 (d - 1) 0 (set b j (getD b (d - 1) [])) (others-short j h)) i);

@@ -6,17 +6,18 @@ use native.Mathlib.Omega.{arith}
 use native.Mathlib.Decide.{decLt}
 use lib.ListN.{length, getD, set, length-set, length-replicate}
 use lib.Seq.{getD-set-same, getD-set-other}
-use Rattle.integers.specs.All.{getD-map}
+use Rattle.integers.specs.AllLaws.{getD-map}
 use Rattle.catalogue_rules.specs.Catalogue.{Outcome, refused, accepted}
 use Rattle.catalogue_rules.specs.Read.{read}
 use Rattle.catalogue_rules.specs.Form.{WellFormed}
-use Rattle.fold_rules.specs.SameLattice.{Sound, sound-entries}
+use Rattle.fold_rules.specs.Laws.SameLattice.{Sound, sound-entries}
 use Rattle.catalogue_records.specs.declared.Catalogue.{Catalogue}
 use Rattle.catalogue_records.specs.Stored.{noEntry, entryOf}
-use Rattle.catalogue_records.specs.Filled.{length-filled}
+use Rattle.integers.specs.FilledLaws.{length-filled}
 use Rattle.catalogue_records.specs.Catalogues.{catalogueOf}
 use Rattle.catalogue_records.specs.Again.{few-read, formed}
-use Rattle.catalogue_records.specs.Entries.{entryIn, entriesIn, beyond, entryAt, length-entries, at-place, entry-has}
+use Rattle.catalogue_records.specs.EntriesIn.{entryIn, entriesIn}
+use Rattle.catalogue_records.specs.Entries.{beyond, entryAt, length-entries, at-place, entry-has}
 use Rattle.catalogue_standing.specs.declared.reduced_entry.ReducedEntry.{ReducedEntry}
 use Rattle.catalogue_standing.specs.ReducedEntry.{reducedEntry, noReduced, Fair, kept-fair}
 use Rattle.catalogue_standing.specs.Places.{Closed}
@@ -41,7 +42,7 @@ keeps-more {c} {n} {list} {e} p h q = record { long = length-set list n e ∙ p 
 
 -- ---- a catalogue that was read
 
-pub record Ready (c : Catalogue) : Type 0 where
+pub record WasRead (c : Catalogue) : Type 0 where
   pub long : length (c .entries) ≡ 256
   pub few : c .count ≤ 256
   pub formed : WellFormed (entriesIn c)
@@ -50,10 +51,10 @@ stored-long : (o : Outcome) → length (catalogueOf o .entries) ≡ 256
 stored-long (refused n p) = length-replicate 256 noEntry
 stored-long (accepted es) = length-filled noEntry 256 (map entryOf es)
 
-pub ready : (bytes : List ℕ) {c : Catalogue} → c ≡ catalogueOf (read bytes) → c .refusal ≡ 0 → Ready c
+pub ready : (bytes : List ℕ) {c : Catalogue} → c ≡ catalogueOf (read bytes) → c .refusal ≡ 0 → WasRead c
 ready bytes is e = record { long = ap (λ c. length (c .entries)) is ∙ stored-long (read bytes); few = few-read bytes is e; formed = formed bytes is e }
 
-module _ (c : Catalogue) (r : Ready c) where
+module _ (c : Catalogue) (r : WasRead c) where
   pub ready-length : length (entriesIn c) ≡ c .count
   ready-length = length-entries c (r .long) (r .few)
 

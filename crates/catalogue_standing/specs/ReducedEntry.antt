@@ -12,24 +12,25 @@ use lib.ListN.{length, getD, take}
 use borrow.Author.Tests.{eqb-true, eq-eqb, ne-eqb}
 use Rattle.lattices.specs.Vector.{Vec, N}
 use Rattle.lattices.specs.Greedy.{vectors}
-use Rattle.lattices.specs.RefusalLaws.{one-to}
+use Rattle.lattices.specs.Laws.Refusal.{one-to}
 use Rattle.lattices.specs.Answer.{padded, table, reductionOf}
 use Rattle.successive_minima.specs.Reduced.{Reduced}
-use Rattle.successive_minima.specs.Members.{isMember}
+use Rattle.successive_minima.specs.Member.{isMember}
 use Rattle.greedy_reduction.specs.Start.{Coordinates}
 use Rattle.greedy_reduction.specs.Demand.{accepted-reduction}
-use Rattle.row_operations.specs.Rows.{vectorRow}
+use Rattle.row_operations.specs.RowStructs.{vectorRow}
 use Rattle.nearest_of_four.specs.Near.{Near}
-use Rattle.engine.specs.Answer.{vectors-back}
-use Rattle.engine.specs.Fine.{fine-greedy}
-use Rattle.engine.specs.Room.{short-rows}
-use Rattle.engine.specs.Begin.{first-fine}
-use Rattle.engine.specs.Finish.{R, outs-rows, last-vectors, last-reduced}
+use Rattle.engine.specs.Laws.Answer.{vectors-back}
+use Rattle.engine.specs.Laws.Fine.{fine-greedy}
+use Rattle.engine.specs.Laws.Room.{short-rows}
+use Rattle.engine.specs.Laws.Begin.{first-fine}
+use Rattle.engine.specs.Laws.Finish.{R, outs-rows, last-vectors, last-reduced}
 use Rattle.catalogue_rules.specs.Catalogue.{Entry, inputOf}
-use Rattle.catalogue_rules.specs.EntriesAccepted.{is-basis}
-use Rattle.fold_rules.specs.Fold.{reducedOf, every, holds, sameLattice}
-use Rattle.fold_rules.specs.SameLattice.{Sound, entry-full}
-use Rattle.fold_rules.specs.Deciding.{entry-rows, entry-member, different-m, different-d, holds-reduced}
+use Rattle.catalogue_rules.specs.Laws.EntriesAccepted.{is-basis}
+use Rattle.fold_rules.specs.Fold.{reducedOf, holds, sameLattice}
+use Rattle.integers.specs.Every.{every}
+use Rattle.fold_rules.specs.Laws.SameLattice.{Sound, entry-full}
+use Rattle.fold_rules.specs.Laws.Deciding.{entry-rows, entry-member, different-m, different-d, holds-reduced}
 use Rattle.catalogue_standing.specs.declared.reduced_entry.ReducedEntry.{ReducedEntry}
 
 -- d, m, the engine's rows and its count of passes, of an entry

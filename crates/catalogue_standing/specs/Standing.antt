@@ -13,13 +13,13 @@ use borrow.Author.Tests.{eqb-true, eq-eqb}
 use Rattle.integers.specs.All.{All}
 use Rattle.catalogue_rules.specs.Catalogue.{Entry}
 use Rattle.catalogue_rules.specs.Form.{Distinct, WellFormed}
-use Rattle.catalogue_rules.specs.All.{all-at}
+use Rattle.integers.specs.AllLaws.{all-at}
 use Rattle.fold_rules.specs.Meaning.{Among}
 use Rattle.fold_rules.specs.Fold.{sameLattice, firstEntry, standing, stoodOf, stands}
-use Rattle.fold_rules.specs.SameLattice.{Sound, sound-entries}
-use Rattle.fold_rules.specs.StandingLaws.{not-used}
-use Rattle.fold_rules.specs.Adding.{standing-kept}
-use Rattle.fold_rules.specs.Searching.{among-at, first-found, first-none, standing-past}
+use Rattle.fold_rules.specs.Laws.SameLattice.{Sound, sound-entries}
+use Rattle.fold_rules.specs.Laws.Standing.{not-used}
+use Rattle.fold_rules.specs.Laws.Adding.{standing-kept}
+use Rattle.fold_rules.specs.Laws.Searching.{among-at, first-found, first-none, standing-past}
 use Rattle.catalogue_standing.specs.declared.reduced_entry.ReducedEntry.{ReducedEntry}
 use Rattle.catalogue_standing.specs.ReducedEntry.{noReduced, reducedEntry, sameReduced, same-is}
 use Rattle.catalogue_standing.specs.Places.{First, stander, Closed}

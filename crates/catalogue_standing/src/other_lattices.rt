@@ -11,7 +11,7 @@ ghost use Rattle.integers.specs.Size.{Within};
 ghost use Rattle.lattices.specs.Vector.{N, nth};
 ghost use Rattle.input_checks.specs.Volumes.{minors};
 ghost use Rattle.catalogue_standing.specs.ReducedEntry.{rowsIn, Fair, sameReduced};
-ghost use Rattle.catalogue_standing.specs.OtherLattices.{others, Times, Multiples, Rests, Small, Screen};
+ghost use Rattle.catalogue_standing.specs.OtherLattices.{others, Times, Multiples, Rests, SmallForm, Screen};
 use super::reduced_entry::ReducedEntry;
 use super::reduced_entry::same;
 
@@ -68,7 +68,7 @@ fn no_product(w: [i64; 16], whole: [i64; 16]) -> bool
 fn outside(v: [i64; 4], rests: [[i64; 16]; 4], whole: [i64; 16], d: usize) -> bool
     requires { ⌜ d ≤ 4 ⌝ }
     requires { ⌜ N v ≤ℤ pos 400000000 ⌝ }
-    requires { ⌜ Small d rests ⌝ }
+    requires { ⌜ SmallForm d rests ⌝ }
     ensures { λ r. ⌜ (Multiples d rests whole v → r ≡ false) ⌝ }
 {
     for j in 0..d {
@@ -84,7 +84,7 @@ fn outside(v: [i64; 4], rests: [[i64; 16]; 4], whole: [i64; 16], d: usize) -> bo
 fn refused(f: ReducedEntry, rests: [[i64; 16]; 4], whole: [i64; 16], d: usize) -> bool
     requires { ⌜ d ≤ 4 ⌝ }
     requires { ⌜ Fair f ⌝ }
-    requires { ⌜ Small d rests ⌝ }
+    requires { ⌜ SmallForm d rests ⌝ }
     ensures { λ r. ⌜ (((i : ℕ) → i < f .d → Multiples d rests whole (getD (rowsIn f) i [])) → r ≡ false) ⌝ }
 {
     let vectors = f.vectors;

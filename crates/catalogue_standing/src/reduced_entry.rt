@@ -5,7 +5,7 @@ ghost use Prim.Native.Nat.{ℕ, _≤_};
 ghost use Rattle.integers.specs.Size.{Within};
 ghost use Rattle.lattices.specs.Vector.{nth};
 ghost use Rattle.integers.specs.All.{All};
-ghost use Rattle.catalogue_records.specs.Entries.{entryIn, entriesIn};
+ghost use Rattle.catalogue_records.specs.EntriesIn.{entryIn, entriesIn};
 ghost use Rattle.catalogue_rules.specs.Form.{EntryFits};
 ghost use Rattle.catalogue_standing.specs.ReducedEntry.{reducedEntry, Fair, heldIn, sameReduced};
 ghost use Rattle.catalogue_standing.specs.Alike.{Scaled, Signed, AlikeTo};

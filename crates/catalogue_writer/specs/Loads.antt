@@ -14,17 +14,17 @@ use mir.Syntax.{w64}
 use mir.Val.{SFits}
 use Rattle.integers.specs.Order.{sub-ind}
 use Rattle.integers.specs.Size.{size-add, fits-within}
-use Rattle.lattices.specs.Refusal.{any}
+use Rattle.integers.specs.Every.{any}
 use Rattle.input_checks.specs.Any.{beyond}
 use Rattle.catalogue_rules.specs.Word.{Word, encode}
 use Rattle.catalogue_rules.specs.Catalogue.{Entry, coordinates}
 use Rattle.catalogue_rules.specs.Write.{headWord, coordinateWord, seeWords, entryWords}
 use Rattle.catalogue_rules.specs.Form.{EntryFits}
-use Rattle.catalogue_rules.specs.EntriesAccepted.{all-near}
-use Rattle.catalogue_rules.specs.ReadVectors.{encoded}
+use Rattle.catalogue_rules.specs.Laws.EntriesAccepted.{all-near}
+use Rattle.catalogue_rules.specs.Laws.ReadVectors.{encoded}
 use Rattle.catalogue_records.specs.declared.Entry as stored
-use Rattle.catalogue_records.specs.Filled.{map-snoc}
-use Rattle.catalogue_records.specs.Entries.{entryIn}
+use Rattle.integers.specs.FilledLaws.{map-snoc}
+use Rattle.catalogue_records.specs.EntriesIn.{entryIn}
 use Rattle.catalogue_records.specs.Coordinates.{cut, same}
 
 pub load-small : (x : ℤ) → natAbs x ≤ 20000 → natAbs (x +ℤ pos 20000) ≤ 40000

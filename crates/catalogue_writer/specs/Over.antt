@@ -6,7 +6,7 @@ use native.Mathlib.Omega.{arith}
 use lib.ListN.{length, take, drop, length-append, length-drop, take-append-drop}
 use lib.Seq.{length-take-le, take-at, drop-at, drop-drop, sets, sets-eq}
 use Rattle.catalogue_rules.specs.Word.{bytesOf}
-use Rattle.catalogue_rules.specs.WordLaws.{length-bytes, bytes-append}
+use Rattle.catalogue_rules.specs.Laws.Word.{length-bytes, bytes-append}
 
 abbrev pub overWords : List ℕ → ℕ → List ℕ → List ℕ
 overWords xs k ws = take (k * 4) xs ++ bytesOf ws ++ drop ((k + length ws) * 4) xs

@@ -10,10 +10,11 @@ use Rattle.integers.specs.All.{All}
 use Rattle.catalogue_rules.specs.Word.{Word}
 use Rattle.catalogue_rules.specs.Write.{entryWords, entriesWords}
 use Rattle.catalogue_rules.specs.Form.{EntryFits}
-use Rattle.catalogue_rules.specs.RoundTrip.{entries-append, entries-snoc}
-use Rattle.catalogue_rules.specs.WrittenSize as sizes
+use Rattle.catalogue_rules.specs.Laws.RoundTrip.{entries-append, entries-snoc}
+use Rattle.catalogue_rules.specs.Laws.WrittenSize as sizes
 use Rattle.catalogue_records.specs.declared.Catalogue.{Catalogue}
-use Rattle.catalogue_records.specs.Entries.{entryIn, entriesIn, entryAt, beyond, length-entries, inside, at-place}
+use Rattle.catalogue_records.specs.EntriesIn.{entryIn, entriesIn}
+use Rattle.catalogue_records.specs.Entries.{entryAt, beyond, length-entries, inside, at-place}
 
 abbrev pub upTo : Catalogue → ℕ → List Word
 upTo c k = entriesWords (take k (entriesIn c))

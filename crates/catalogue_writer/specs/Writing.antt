@@ -5,7 +5,7 @@ use Prim.Native.Nat.{ℕ, _+_, _*_, _≤_}
 use native.Mathlib.Omega.{arith}
 use lib.ListN.{length, drop, length-append, length-map}
 use Rattle.catalogue_rules.specs.Word.{end, encode}
-use Rattle.catalogue_rules.specs.WordLaws.{length-bytes}
+use Rattle.catalogue_rules.specs.Laws.Word.{length-bytes}
 use Rattle.catalogue_rules.specs.Catalogue.{Entry}
 use Rattle.catalogue_rules.specs.Write.{entriesWords, catalogueWords, write}
 use Rattle.catalogue_writer.specs.Over.{overWords, over-more, over-start}

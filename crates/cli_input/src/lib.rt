@@ -33,7 +33,7 @@ fn kept(got: usize) -> usize
 }
 
 // Reads a catalogue and gives its length. Of more than 18,442 bytes, which are too many, it keeps so many that the refusal is that of the whole
-// input: bytes over the limit count only modulo 4 (`long-alike` of catalogues/specs/TooLong.antt).
+// input: bytes over the limit count only modulo 4 (`long-alike` of catalogue_rules/specs/Laws/TooLong.antt).
 pub fn read_catalogue(bytes: &mut [u8; 18443]) -> usize
     ensures { λ r. ⌜ Counts r (now (bytes .exit)) ⌝ }
 {

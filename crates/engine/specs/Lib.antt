@@ -1,16 +1,4 @@
--- The engine: its steps on the work as definitions, and what keeps every number within 64 bits.
-pub mod State
-pub mod Fine
-pub mod Room
-pub mod Pass
-pub mod Turn
-pub mod Begin
-pub mod Finish
-pub mod Few
-pub mod Answer
-pub mod Named
-pub mod Membership
-pub mod Tables
-pub mod Whole
-pub mod Repeat
-pub mod Loop
+-- The engine. To be believed: how the definitions' answers stand in its structs. Laws: its steps on the work as definitions, and what keeps
+-- every number within 64 bits.
+pub mod Packed
+pub mod Laws

@@ -5,24 +5,25 @@ ghost use mathlib.Core.List.{[]};
 ghost use lib.ListN.{getD, take};
 ghost use lib.Signed.{ltZ};
 ghost use Rattle.lattices.specs.Vector.{N};
-ghost use Rattle.row_operations.specs.Rows.{Four, rowsOf, workOf};
-ghost use Rattle.row_operations.specs.Order.{Small};
-ghost use Rattle.engine.specs.State.{rowsIn, passRows, greedyPasses, reduced};
-ghost use Rattle.engine.specs.Fine.{Fine};
-ghost use Rattle.engine.specs.Room.{Ready};
-ghost use Rattle.engine.specs.Answer.{packed, finished};
-ghost use Rattle.successive_minima.specs.Digits.{Bounded};
+ghost use Rattle.row_operations.specs.Rows.{FourRows, rowsOf, workOf};
+ghost use Rattle.row_operations.specs.Order.{ShortRows};
+ghost use Rattle.engine.specs.Laws.State.{rowsIn, passRows, greedyPasses, reduced};
+ghost use Rattle.engine.specs.Laws.Fine.{Fine};
+ghost use Rattle.engine.specs.Laws.Room.{PassReady};
+ghost use Rattle.engine.specs.Packed.{packed, packedNearest};
+ghost use Rattle.engine.specs.Laws.Answer.{finished};
+ghost use Rattle.successive_minima.specs.Laws.Digits.{Bounded};
 ghost use Rattle.nearest_of_four.specs.Near.{Near};
-ghost use Rattle.successive_minima.specs.Members.{isMember};
+ghost use Rattle.successive_minima.specs.Member.{isMember};
 ghost use Rattle.lattices.specs.Answer.{noReduction, reductionOf, noNearest, nearestOf};
-ghost use Rattle.engine.specs.Named.{packedNearest, named};
+ghost use Rattle.engine.specs.Laws.Named.{named};
 
 // Steps 4 and 5 for row k, the rows before it being reduced: the vector nearest to it in their lattice is subtracted from it.
 fn pass(b: &mut [[i64; 4]; 4], u: &mut [[i64; 4]; 4], v: &mut [[i64; 4]; 4], k: usize)
     requires { ⌜ k ≤ 3 ⌝ }
-    requires { ⌜ Four (now b) (now u) (now v) ⌝ }
-    requires { ⌜ Ready k (rowsOf (now b) (now u) (now v)) ⌝ }
-    ensures { λ _. ⌜ Four (now (b .exit)) (now (u .exit)) (now (v .exit)) ⌝ }
+    requires { ⌜ FourRows (now b) (now u) (now v) ⌝ }
+    requires { ⌜ PassReady k (rowsOf (now b) (now u) (now v)) ⌝ }
+    ensures { λ _. ⌜ FourRows (now (b .exit)) (now (u .exit)) (now (v .exit)) ⌝ }
     ensures { λ _. ⌜ rowsOf (now (b .exit)) (now (u .exit)) (now (v .exit)) ≡ passRows k (rowsOf (now (b .entry)) (now (u .entry)) (now (v .entry))) ⌝ }
 {
     let last = b[k];
@@ -35,7 +36,7 @@ fn pass(b: &mut [[i64; 4]; 4], u: &mut [[i64; 4]; 4], v: &mut [[i64; 4]; 4], k: 
 // Step 6: is row k shorter than the row before it?
 fn shorter(b: &[[i64; 4]; 4], k: usize) -> bool
     requires { ⌜ (0 < k) × (k ≤ 3) ⌝ }
-    requires { ⌜ Small (now b) ⌝ }
+    requires { ⌜ ShortRows (now b) ⌝ }
     ensures { λ r. ⌜ r ≡ ltZ (N (getD (now (b .entry)) k [])) (N (getD (now (b .entry)) (k - 1) [])) ⌝ }
 {
     let last = b[k];

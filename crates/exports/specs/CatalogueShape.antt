@@ -13,12 +13,12 @@ use borrow.Author.Tests.{le-leb, lt-leb}
 use Rattle.catalogue_rules.specs.Catalogue.{Outcome, refused, accepted}
 use Rattle.catalogue_rules.specs.Read.{read}
 use Rattle.catalogue_rules.specs.Write.{write}
-use Rattle.catalogue_rules.specs.WellFormed.{well-formed}
-use Rattle.catalogue_rules.specs.WrittenSize.{length-written}
+use Rattle.catalogue_rules.specs.Laws.WellFormed.{well-formed}
+use Rattle.catalogue_rules.specs.Laws.WrittenSize.{length-written}
 use Rattle.catalogue_rules.specs.Output.{Output, untouched, filledWith, output}
 use Rattle.fold_rules.specs.Fold.{closedList, lookup}
 use Rattle.fold_rules.specs.Services.{Lookup, foldedOutcome, foldOf, lookedUp, lookedIn, lookupOf}
-use Rattle.fold_rules.specs.FoldedForm.{folded-size}
+use Rattle.fold_rules.specs.Laws.FoldedForm.{folded-size}
 use Rattle.exports.specs.Layout.{written, beside, head}
 use Rattle.exports.specs.Runs.{written-long}
 use Rattle.exports.specs.Places.{OutcomeLow, read-low}

@@ -11,7 +11,7 @@ use Rattle.lattices.specs.Nearest.{nearest}
 use Rattle.lattices.specs.Greedy.{vectors, reduction}
 use Rattle.lattices.specs.Refusal.{Input, basis, firstOf, vectorChecks, targetChecks}
 use Rattle.lattices.specs.Answer.{Nearest, noNearest, nearestGiven, nearestOf}
-use Rattle.lattices.specs.AnswerLaws.{length-padded}
+use Rattle.lattices.specs.Laws.Answer.{length-padded}
 use Rattle.exports.specs.Layout.{head, layoutNearest, written}
 use Rattle.exports.specs.Runs.{sets-then, written-long}
 use Rattle.exports.specs.Shape.{first-most}

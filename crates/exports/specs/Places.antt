@@ -7,15 +7,16 @@ use native.Mathlib.Omega.{arith}
 use lib.Dec.{eqb}
 use lib.ListN.{length}
 use borrow.Author.Tests.{ltb-false}
-use Rattle.integers.specs.All.{All, all-append}
+use Rattle.integers.specs.All.{All}
+use Rattle.integers.specs.AllLaws.{all-append}
 use Rattle.lattices.specs.Vector.{Vec}
 use Rattle.lattices.specs.Volume.{isDependent}
-use Rattle.lattices.specs.Refusal.{any}
+use Rattle.integers.specs.Every.{any}
 use Rattle.catalogue_rules.specs.Word.{Word, head, coordinate, see, end, other, decode, wordsOf}
-use Rattle.catalogue_rules.specs.WordLaws.{length-words}
+use Rattle.catalogue_rules.specs.Laws.Word.{length-words}
 use Rattle.catalogue_rules.specs.Catalogue.{Head, See, Entry, Outcome, refused, accepted}
 use Rattle.catalogue_rules.specs.Read.{State, outside, inside, after, closed, Step, next, stop, isNumbered, withEntry, headRows, atHead, coordinateOf, withCoordinate, coordinateRows, atCoordinate, endRows, atEnd, step, atLast, readWords, firstPlace, dependentAt, lostAt, afterWords, fileRows, read}
-use Rattle.catalogue_rules.specs.Moves.{checked-case}
+use Rattle.catalogue_rules.specs.Laws.Moves.{checked-case}
 
 -- places up to b
 module _ (b : ℕ) where

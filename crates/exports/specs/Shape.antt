@@ -11,12 +11,12 @@ use Rattle.integers.specs.All.{All}
 use Rattle.lattices.specs.Vector.{N}
 use Rattle.lattices.specs.Refusal.{Input, Check, basis, firstOf, vectorChecks}
 use Rattle.lattices.specs.Answer.{Reduction, padded, table, rowsOfV, reductionGiven, noReduction, reductionOf}
-use Rattle.lattices.specs.AnswerLaws.{length-padded}
+use Rattle.lattices.specs.Laws.Answer.{length-padded}
 use Rattle.lattices.specs.Greedy.{Row, vectors, reduction}
 use Rattle.greedy_reduction.specs.Accepted.{accepted}
-use Rattle.engine.specs.Begin.{first-fine}
-use Rattle.engine.specs.Few.{few-passes}
-use Rattle.engine.specs.Finish.{last-passes}
+use Rattle.engine.specs.Laws.Begin.{first-fine}
+use Rattle.engine.specs.Laws.Few.{few-passes}
+use Rattle.engine.specs.Laws.Finish.{last-passes}
 use Rattle.exports.specs.Layout.{flat, head, layout, written}
 use Rattle.exports.specs.Runs.{sets-then, written-long}
 

@@ -11,10 +11,9 @@ use Rattle.integers.specs.Identity.{by-ring, reads}
 use Rattle.integers.specs.Certificate.{_⊞_, _⊠_, nn-sq, le, lt, eq, by-nn}
 use Rattle.integers.specs.Ring.{pos-one-*ℤ, negsuc-zero-*ℤ}
 use Rattle.lattices.specs.Vector.{Vec, nth, comb, _⊕_, _⊙_}
-use Rattle.lattices.specs.Permutation.{Perm, same, skip, swap, then}
+use Rattle.lattices.specs.Laws.Permutation.{Perm, same, skip, swap, then}
 use Rattle.lattices.specs.Volume.{Index, Form, wedge, volume, squaredVolume}
-use Rattle.exterior_algebra.specs.Forms.{Lin, wedge-lin, wedge-step, wedge-nil, wedge-zero}
-use Rattle.exterior_algebra.specs.Forms.{Multiple, multiple-of, multiple-multiple, wedge-multiple, inner-multiple}
+use Rattle.exterior_algebra.specs.Forms.{Lin, wedge-lin, wedge-step, wedge-nil, wedge-zero, Multiple, multiple-of, multiple-multiple, wedge-multiple, inner-multiple}
 use Rattle.exterior_algebra.specs.Exterior.{anti, square}
 use Rattle.exterior_algebra.specs.Hadamard.{product, hadamard}
 

@@ -14,9 +14,9 @@ use lib.Signed.{leZ, _≤ℤ_, _<ℤ_}
 use Rattle.integers.specs.Identity.{by-ring, by-eq, reads}
 use Rattle.integers.specs.Order.{≤ℤ-trans, ≤ℤ-of-≡, ≤ℤ-antisymm, ≤ℤ-or-<ℤ, zero-or-not, zero-of-square, leZ-true, leZ-false, ≤ℤ-leZ, <ℤ-leZ}
 use Rattle.integers.specs.Certificate.{NN}
-use Rattle.integers.specs.Lists.{length-⊕, length-⊙}
+use Rattle.integers.specs.ListLaws.{length-⊕, length-⊙}
 use Rattle.lattices.specs.Vector.{Vec, N, nth, dot, comb, _⊙_, Zero, Dependent, Independent}
-use Rattle.lattices.specs.VectorLaws.{definite, N-zero}
+use Rattle.lattices.specs.Laws.Vector.{definite, N-zero}
 use Rattle.lattices.specs.Volume.{Index, Form, head, rest, unit, wedge, volume, inner, squaredVolume, isDependent}
 use Rattle.exterior_algebra.specs.Forms.{half, contract, dotOn, dotOn-step, dotOn-nil, Lin, contract-lin, inner-linˡ, inner-zero}
 use Rattle.exterior_algebra.specs.Exterior.{adjoint, adjointʳ, clifford-inner, inner-nonneg}

@@ -12,10 +12,9 @@ use Rattle.integers.specs.Ring.{negsuc-zero-*ℤ}
 use Rattle.integers.specs.Order.{+ℤ-mono-r}
 use Rattle.integers.specs.Certificate.{NN, _⊞_, _⊠_, nn-sq, le, eq, by-nn}
 use Rattle.lattices.specs.Vector.{Vec, N, dot}
-use Rattle.lattices.specs.VectorLaws.{N-nonneg}
+use Rattle.lattices.specs.Laws.Vector.{N-nonneg}
 use Rattle.lattices.specs.Volume.{Index, Form, head, rest, wedge, inner}
-use Rattle.exterior_algebra.specs.Forms.{half, contract, dotOn, Lin, wedge-lin, contract-lin, inner-lin, inner-linˡ, inner-on, inner-comm}
-use Rattle.exterior_algebra.specs.Forms.{Multiple, multiple-of, wedge-multiple, inner-scale}
+use Rattle.exterior_algebra.specs.Forms.{half, contract, dotOn, Lin, wedge-lin, contract-lin, inner-lin, inner-linˡ, inner-on, inner-comm, Multiple, multiple-of, wedge-multiple, inner-scale}
 
 -- ---- the halves of a product and of a contraction, as combinations
 

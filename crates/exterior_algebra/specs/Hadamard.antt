@@ -11,7 +11,7 @@ use Rattle.integers.specs.Identity.{by-ring, reads}
 use Rattle.integers.specs.Order.{≤ℤ-trans, ≤ℤ-of-≡, *ℤ-mono, pos-nonneg}
 use Rattle.integers.specs.Certificate.{NN, _⊞_, _⊠_, nn-sq, le, by-nn}
 use Rattle.lattices.specs.Vector.{Vec, N, dot}
-use Rattle.lattices.specs.VectorLaws.{N-nonneg}
+use Rattle.lattices.specs.Laws.Vector.{N-nonneg}
 use Rattle.lattices.specs.Volume.{Index, Form, head, rest, unit, wedge, volume, inner, squaredVolume}
 use Rattle.exterior_algebra.specs.Forms.{half, inner-zero}
 use Rattle.exterior_algebra.specs.Exterior.{inner-nonneg, wedge-bound}

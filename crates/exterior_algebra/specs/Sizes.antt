@@ -13,7 +13,7 @@ use Rattle.integers.specs.Order.{≤ℤ-trans, ≤ℤ-of-≡, pos-nonneg}
 use Rattle.integers.specs.Certificate.{NN, _⊞_, _⊠_, nn-pos, le, eq, by-nn}
 use Rattle.integers.specs.Size.{root}
 use Rattle.lattices.specs.Vector.{Vec, N, nth, dot, comb, _⊕_, _⊙_, _⊖_}
-use Rattle.lattices.specs.VectorLaws.{bilinear, dot-comm, N-⊖, N-nonneg, _≈_, ≈-refl, ≈-trans, ≈-⊕, ≈-N, comb-⊕, comb-⊙}
+use Rattle.lattices.specs.Laws.Vector.{bilinear, dot-comm, N-⊖, N-nonneg, _≈_, ≈-refl, ≈-trans, ≈-⊕, ≈-N, comb-⊕, comb-⊙}
 use Rattle.lattices.specs.Volume.{squaredVolume}
 use Rattle.exterior_algebra.specs.Hadamard.{product, product-nonneg, *ℤ-mono-both}
 use Rattle.exterior_algebra.specs.Cramer.{put, sizes}

@@ -1,5 +1,5 @@
 -- Demand 3 whole, in one statement: `every-service`. What it promises of a reduction and of a nearest vector is said in `Reduces` and `Nears`
--- (reductions/specs/Demand.antt), of a fold and of lookups in `Folds` and `LooksUp` (Meaning.antt).
+-- (greedy_reduction/specs/Demand.antt), of a fold and of lookups in `Folds` and `LooksUp` (Meaning.antt).
 use mathlib.Core.Path.{_≡_, sym, ap, _∙_, subst}
 use mathlib.Core.Bool.{Bool, true, false}
 use mathlib.Core.List.{List, _++_}
@@ -7,7 +7,8 @@ use mathlib.Core.Option.{some}
 use Prim.Native.Nat.{ℕ, _≤_, _<_}
 use lib.ListN.{length}
 use borrow.Author.Tests.{le-ltb, lt-ltb}
-use Rattle.integers.specs.All.{Some, all-imp, some-imp}
+use Rattle.integers.specs.All.{Some}
+use Rattle.integers.specs.AllLaws.{all-imp, some-imp}
 use Rattle.lattices.specs.Refusal.{Input, firstOf, vectorChecks, targetChecks}
 use Rattle.lattices.specs.Answer.{reductionOf, nearestOf}
 use Rattle.greedy_reduction.specs.Demand.{Reduces, Nears, both-services}
@@ -16,16 +17,16 @@ use Rattle.catalogue_rules.specs.Read.{read}
 use Rattle.catalogue_rules.specs.Write.{write}
 use Rattle.catalogue_rules.specs.Output.{Output, untouched, filledWith, output}
 use Rattle.catalogue_rules.specs.Form.{Names, WellFormed}
-use Rattle.catalogue_rules.specs.WellFormed.{well-formed}
+use Rattle.catalogue_rules.specs.Laws.WellFormed.{well-formed}
 use Rattle.fold_rules.specs.Fold.{standing, closedList, lookup, folded}
 use Rattle.fold_rules.specs.Services.{foldedOutcome, foldOf, lookedUp, lookedIn, lookupOf}
-use Rattle.fold_rules.specs.Meaning.{Among, Stands, Sees, Prints, Folds, Finds, LooksUp}
-use Rattle.fold_rules.specs.SameLattice.{sound-entries, one-trans}
-use Rattle.fold_rules.specs.StandingLaws.{all-self, stands-once, standing-is, standing-among, standing-one, standing-twice}
-use Rattle.fold_rules.specs.LookupLaws.{numbered, unused, lookup-finds, lookup-misses}
-use Rattle.fold_rules.specs.FoldedForm.{folded-accepted}
-use Rattle.fold_rules.specs.Again.{folded-twice}
-use Rattle.fold_rules.specs.PrintingLaws.{folded-prints, printing-some, printing-apart}
+use Rattle.fold_rules.specs.Meaning.{Among, OneLattice, Stands, Sees, Prints, Folds, Finds, LooksUp}
+use Rattle.fold_rules.specs.Laws.SameLattice.{sound-entries, one-trans}
+use Rattle.fold_rules.specs.Laws.Standing.{all-self, one-number, stands-once, standing-is, standing-among, standing-one, standing-twice}
+use Rattle.fold_rules.specs.Laws.Lookup.{numbered, unused, lookup-finds, lookup-misses}
+use Rattle.fold_rules.specs.Laws.FoldedForm.{folded-accepted}
+use Rattle.fold_rules.specs.Laws.Again.{folded-twice}
+use Rattle.fold_rules.specs.Laws.Printing.{From, printing-from, folded-prints, printing-some, printing-apart}
 
 -- ---- the answers for an accepted file
 
@@ -88,11 +89,15 @@ module _ (file : List ℕ) (es : List Entry) (e : read file ≡ accepted es) whe
       let s = standing es f in
       let there = standing-among es sound f a in
       let gives : s .head .number ≡ lookupOf file (f .head .number) .standing = ap (λ r. r .standing) (sym (looked f a)) in
+      let same : (g : Entry) → From es es g → g .head .number ≡ lookupOf file (f .head .number) .standing → OneLattice g f =
+      λ g p q. one-trans (p .prints .one) (subst (λ x. OneLattice x f)
+          (sym (one-number es (w .entered .distinct) (p .entry) s (p .among) there (sym (p .prints .number) ∙ q ∙ sym gives))) (standing-one es sound f a)) in
       record {
         accepted = ap (λ r. r .refusal) (looked f a);
         standing = some-imp (λ h q. (ap (λ x. x .head .number) q ∙ gives, subst (Stands es f) (sym q) (standing-is es sound f a))) es there;
-        printed = some-imp (λ g (p : Prints es s g). (p .number ∙ gives, one-trans (p .one) (standing-one es sound f a))) (folded es)
+        printed = some-imp (λ g (p : Prints es s g). p .number ∙ gives) (folded es)
             (printing-some (folded es) (folded-prints es w) s there (subst (Stands es s) (standing-twice es sound f a) (standing-is es sound s there)));
+        one = all-imp same (folded es) (printing-from (folded es) (folded-prints es w));
       }
 
   sees-found : (f : Entry) → Names es (f .see) → (n : ℕ) → Sees f n → Some (λ h. (h .head .number ≡ n) × Finds file es n h) es

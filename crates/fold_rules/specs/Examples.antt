@@ -7,7 +7,7 @@ use Rattle.lattices.specs.Vector.{dot, comb, _⊕_, _⊙_}
 use Rattle.lattices.specs.Volume.{squaredVolume, isDependent}
 use Rattle.lattices.specs.Nearest.{least, nearest}
 use Rattle.lattices.specs.Greedy.{insert, order, credited, greedy}
-use Rattle.successive_minima.specs.Members.{isMember}
+use Rattle.successive_minima.specs.Member.{isMember}
 use Rattle.catalogue_rules.specs.Word.{decode, encode, bytesOf}
 use Rattle.catalogue_rules.specs.Read.{step, readWords, read}
 use Rattle.catalogue_rules.specs.Write.{write}
@@ -55,6 +55,20 @@ circleFolded = 0x10000111 ∷ 0x20004E21 ∷ 0x30000003 ∷ 0x10000311 ∷ 0x200
 abbrev pub wider : List ℕ
 wider = 0x10000111 ∷ 0x20004E21 ∷ 0x10000212 ∷ 0x20004E21 ∷ 0x20004E20 ∷ 0x40000002 ∷ []
 
+-- two lattices, each in a basis that is not reduced: (1,0), (4,1) and (2,0), (5,3)
+abbrev pub longBases : List ℕ
+longBases =
+    0x10000722 ∷ 0x20004E21 ∷ 0x20004E20 ∷ 0x20004E24 ∷ 0x20004E21
+    ∷ 0x10000922 ∷ 0x20004E22 ∷ 0x20004E20 ∷ 0x20004E25 ∷ 0x20004E23
+    ∷ 0x40000002 ∷ []
+
+-- both are reduced: (1,0), (0,1) and (2,0), (1,3)
+abbrev pub longBasesFolded : List ℕ
+longBasesFolded =
+    0x10000722 ∷ 0x20004E21 ∷ 0x20004E20 ∷ 0x20004E20 ∷ 0x20004E21
+    ∷ 0x10000922 ∷ 0x20004E22 ∷ 0x20004E20 ∷ 0x20004E21 ∷ 0x20004E23
+    ∷ 0x40000002 ∷ []
+
 -- a file, the lent output, and what the fold gives
 pub record Example : Type 0 where
   pub file : List ℕ
@@ -76,6 +90,7 @@ examples =
     ∷ gives fullFolded 48 fullFolded
     ∷ gives circle 100 circleFolded
     ∷ gives wider 24 wider
+    ∷ gives longBases 44 longBasesFolded
     ∷ gives (0x40000000 ∷ []) 4 (0x40000000 ∷ [])
     ∷ refuses [] 0 10 0
     ∷ []

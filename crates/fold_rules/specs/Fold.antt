@@ -4,9 +4,10 @@ use mathlib.Core.List.{List, [], _∷_, map}
 use mathlib.Core.Option.{Option, none, some}
 use Prim.Native.Nat.{ℕ}
 use lib.Dec.{eqb}
+use Rattle.integers.specs.Every.{every}
 use Rattle.lattices.specs.Vector.{Vec}
 use Rattle.lattices.specs.Greedy.{vectors, reduction}
-use Rattle.successive_minima.specs.Members.{isMember}
+use Rattle.successive_minima.specs.Member.{isMember}
 use Rattle.catalogue_rules.specs.Catalogue.{See, Entry}
 use Rattle.catalogue_rules.specs.Read.{isNumbered}
 use Rattle.catalogue_rules.specs.Form.{placed}
@@ -16,10 +17,6 @@ use Rattle.catalogue_rules.specs.Form.{placed}
 -- the reduced vectors of an entry
 abbrev pub reducedOf : Entry → List Vec
 reducedOf e = vectors (reduction (e .vectors) .rows)
-
-abbrev pub every : {A : Type 0} → (A → Bool) → List A → Bool
-every f [] = true
-every f (x ∷ l) = f x && every f l
 
 -- every vector of f is in the lattice of e
 abbrev pub holds : Entry → Entry → Bool

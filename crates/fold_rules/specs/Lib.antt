@@ -1,19 +1,9 @@
--- The fold of a catalogue. Definitions: Fold, Services, Listing. What they promise: Meaning, and Demand, where demand 3 is one statement. The
--- rest proves it; Deciding, Multiples, Adding, Searching and ListingSize are for the code.
+-- The fold of a catalogue: what a reader must believe (Fold, Services, Listing), what it promises in plain mathematics (Meaning), examples by
+-- computation, and Demand, where demand 3 is one statement. Laws: what is proved on the way, and what the code uses.
 pub mod Fold
 pub mod Services
 pub mod Listing
-pub mod Examples
 pub mod Meaning
-pub mod SameLattice
-pub mod StandingLaws
-pub mod LookupLaws
-pub mod FoldedForm
-pub mod PrintingLaws
-pub mod Again
+pub mod Examples
 pub mod Demand
-pub mod Deciding
-pub mod Multiples
-pub mod Adding
-pub mod Searching
-pub mod ListingSize
+pub mod Laws

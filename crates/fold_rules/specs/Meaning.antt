@@ -99,8 +99,9 @@ pub record Finds (file : List ℕ) (es : List Entry) (n : ℕ) (e : Entry) : Typ
   pub accepted : lookupOf file n .refusal ≡ 0
   -- it gives the number of the standing entry of e
   pub standing : Some (λ f. (f .head .number ≡ lookupOf file n .standing) × Stands es e f) es
-  -- and the vectors printed under that number generate the lattice of e
-  pub printed : Some (λ g. (g .head .number ≡ lookupOf file n .standing) × OneLattice g e) (folded es)
+  -- an entry is printed under that number, and whatever is printed under it generates the lattice of e
+  pub printed : Some (λ g. g .head .number ≡ lookupOf file n .standing) (folded es)
+  pub one : All (λ g. g .head .number ≡ lookupOf file n .standing → OneLattice g e) (folded es)
 
 -- every number of an entry is found, and every number in a see word; no other is
 pub record LooksUp (file : List ℕ) (es : List Entry) : Type 0 where

@@ -10,11 +10,12 @@ use lib.Signed.{ltZ, _≤ℤ_, _<ℤ_}
 use lib.Dec.{ltb, eqb, eqb→eq}
 use lib.ListN.{length, drop, length-take, length-drop}
 use Rattle.integers.specs.Tests.{true-T, not-false, neither}
-use Rattle.lattices.specs.RefusalLaws.{one-to}
+use Rattle.lattices.specs.Laws.Refusal.{one-to}
 use Rattle.integers.specs.Order.{ltZ-false, leZ-false}
 use Rattle.lattices.specs.Vector.{Vec, N}
 use Rattle.lattices.specs.Volume.{squaredVolume, isDependent}
-use Rattle.lattices.specs.Refusal.{Input, vectorsOf, basis, oneTo, any, tooLong, Check, firstOf, vectorChecks, targetChecks, mostVectors, mostCoordinates, mostSquare, mostSize}
+use Rattle.lattices.specs.Refusal.{Input, vectorsOf, basis, oneTo, tooLong, Check, firstOf, vectorChecks, targetChecks, mostVectors, mostCoordinates, mostSquare, mostSize}
+use Rattle.integers.specs.Every.{any}
 use Rattle.integers.specs.All.{All}
 use Rattle.greedy_reduction.specs.Start.{Coordinates}
 

@@ -9,18 +9,18 @@ use lib.Signed.{_≤ℤ_, _<ℤ_}
 use lib.ListN.{length, getD}
 use Rattle.integers.specs.Order.{≤ℤ-ltZ}
 use Rattle.lattices.specs.Vector.{Vec, N, Zero, _⊖_, comb}
-use Rattle.lattices.specs.VectorLaws.{≈-≡, comb-zero, ⊖-zero}
+use Rattle.lattices.specs.Laws.Vector.{≈-≡, comb-zero, ⊖-zero}
 use Rattle.lattices.specs.Volume.{squaredVolume}
 use Rattle.lattices.specs.Nearest.{nearest}
 use Rattle.lattices.specs.Greedy.{Row, vectors, insert, order, lastOf, before, Counted, pass, round, shorter, joined, repeat, total, greedy, units, start, reduction}
 use Rattle.successive_minima.specs.Reduced.{Under}
-use Rattle.successive_minima.specs.ReducedLaws.{reduced-last}
-use Rattle.successive_minima.specs.Minima.{ascending}
+use Rattle.successive_minima.specs.Laws.ReducedLaws.{reduced-last}
+use Rattle.successive_minima.specs.Laws.Minima.{ascending}
 use Rattle.greedy_reduction.specs.Moves.{before-last, length-before, length-vectors, vectors-credited, vectors-append}
 use Rattle.greedy_reduction.specs.Fuel.{stop, again}
 use Rattle.greedy_reduction.specs.Start.{Coordinates, comb-places, minus-places, start-vectors, length-units}
 use Rattle.greedy_reduction.specs.Exactness.{begin, length-begin}
-use Rattle.greedy_reduction.specs.Output.{Still, Settled, greedy-settled}
+use Rattle.greedy_reduction.specs.Output.{Still, SettledRows, greedy-settled}
 use Rattle.greedy_reduction.specs.Lattice.{reduced-full}
 
 -- ---- step 2: rows in order stay where they are
@@ -72,7 +72,7 @@ coordinates-last : (m : ℕ) (bs : List Vec) (b : Vec) → Coordinates m (bs ++ 
 coordinates-last m [] b c = (tt, c .0)
 coordinates-last m (a ∷ bs) b c = let r = coordinates-last m bs b (c .1) in ((c .0, r .0), r .1)
 
-settled-last : (bs : List Vec) (b : Vec) → Settled (bs ++ (b ∷ [])) → Settled bs × Under (N b) bs × Zero (nearest bs b)
+settled-last : (bs : List Vec) (b : Vec) → SettledRows (bs ++ (b ∷ [])) → SettledRows bs × Under (N b) bs × Zero (nearest bs b)
 settled-last bs b s =
     let r = reduced-last bs b (s .0) in
     let t = subst Still (reverse-append bs (b ∷ [])) (s .1) in
@@ -81,9 +81,9 @@ settled-last bs b s =
 -- ---- the induction
 -- `reduce` gives back every settled list of k vectors
 abbrev Fixing : ℕ → ℕ → (List Row → Counted) → Type 0
-Fixing m k reduce = (rows : List Row) → length rows ≡ k → Coordinates m (vectors rows) → Settled (vectors rows) → vectors (reduce rows .rows) ≡ vectors rows
+Fixing m k reduce = (rows : List Row) → length rows ≡ k → Coordinates m (vectors rows) → SettledRows (vectors rows) → vectors (reduce rows .rows) ≡ vectors rows
 
-round-same : (m k : ℕ) (reduce : List Row → Counted) → Fixing m k reduce → (rows : List Row) → length rows ≡ suc k → Coordinates m (vectors rows) → Settled (vectors rows)
+round-same : (m k : ℕ) (reduce : List Row → Counted) → Fixing m k reduce → (rows : List Row) → length rows ≡ suc k → Coordinates m (vectors rows) → SettledRows (vectors rows)
     → (vectors (joined (round reduce rows)) ≡ vectors rows) × (shorter (round reduce rows .last) (round reduce rows .first) ≡ false)
 round-same m k reduce fix [] e c s = absurd (omega arith)
 round-same m k reduce fix (r ∷ rows) e c s =
@@ -91,7 +91,7 @@ round-same m k reduce fix (r ∷ rows) e c s =
     let last = lastOf r rows in
     let split : vectors (r ∷ rows) ≡ vectors front ++ (last .vector ∷ []) = ap vectors (sym (before-last r rows)) ∙ vectors-append front (last ∷ []) in
     let d = coordinates-last m (vectors front) (last .vector) (subst (Coordinates m) split c) in
-    let t = settled-last (vectors front) (last .vector) (subst Settled split s) in
+    let t = settled-last (vectors front) (last .vector) (subst SettledRows split s) in
     let same : vectors (reduce front .rows) ≡ vectors front = fix front (length-before r rows ∙ omega arith) (d .0) (t .0) in
     let p = pass-keeps m (reduce front) last (subst (Coordinates m) (sym same) (d .0)) (d .1) (subst (λ l. Zero (nearest l (last .vector))) (sym same) (t .2)) (subst (Under (N (last .vector))) (sym same) (t .1)) in
     (p .same ∙ ap (λ l. l ++ (last .vector ∷ [])) same ∙ sym split, p .kept)
@@ -119,5 +119,5 @@ reduction-again m bs full some four volume =
     let starts : (vs : List Vec) → vectors (start vs (units (length vs))) ≡ vs = λ vs. start-vectors vs (units (length vs)) (length-units (length vs)) in
     let settled = greedy-settled m (length bs) four (start bs (units (length bs))) (length-begin m bs full some) (subst (λ l. pos 0 <ℤ squaredVolume m l) (sym (starts bs)) volume) in
     greedy-same m (length outs) (start outs (units (length outs))) (sym (length-vectors (start outs (units (length outs)))) ∙ ap length (starts outs))
-    (subst (Coordinates m) (sym (starts outs)) (reduced-full m bs full some)) (subst Settled (sym (starts outs)) settled)
+    (subst (Coordinates m) (sym (starts outs)) (reduced-full m bs full some)) (subst SettledRows (sym (starts outs)) settled)
     ∙ starts outs

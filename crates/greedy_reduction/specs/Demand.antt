@@ -14,10 +14,11 @@ use Rattle.lattices.specs.Nearest.{nearest}
 use Rattle.lattices.specs.Greedy.{Row, vectors, units, reduction}
 use Rattle.lattices.specs.Refusal.{Input, Check, basis, firstOf, vectorChecks, targetChecks, mostVectors, mostCoordinates}
 use Rattle.lattices.specs.Answer.{table, rowsOfV, Reduction, Nearest, reductionGiven, noReduction, reductionOf, nearestGiven, noNearest, nearestOf}
-use Rattle.lattices.specs.AnswerLaws.{take-padded, length-vectorsOf}
-use Rattle.successive_minima.specs.NearestLaws.{nearest-least, nearest-count}
-use Rattle.integers.specs.All.{All, Some, all-imp}
-use Rattle.successive_minima.specs.Minima.{successive}
+use Rattle.lattices.specs.Laws.Answer.{take-padded, length-vectorsOf}
+use Rattle.successive_minima.specs.Laws.NearestLaws.{nearest-least, nearest-count}
+use Rattle.integers.specs.All.{All, Some}
+use Rattle.integers.specs.AllLaws.{all-imp}
+use Rattle.successive_minima.specs.Laws.Minima.{successive}
 use Rattle.greedy_reduction.specs.Moves.{length-vectors, row-squares}
 use Rattle.greedy_reduction.specs.Start.{Coordinates, sized-vectors, sized-us}
 use Rattle.greedy_reduction.specs.Exactness.{comb-full, reduction-length, reduction-sized, reduction-u, reduction-v, reduction-vu}

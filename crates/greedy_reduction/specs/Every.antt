@@ -2,9 +2,10 @@
 use mathlib.Core.List.{List, [], _∷_}
 use lib.IntN.{ℤ}
 use lib.Signed.{_≤ℤ_}
-use Rattle.integers.specs.All.{All, all-append, all-left, all-right}
+use Rattle.integers.specs.All.{All}
+use Rattle.integers.specs.AllLaws.{all-append, all-left, all-right}
 use Rattle.lattices.specs.Vector.{N, _⊕_, _⊙_}
-use Rattle.lattices.specs.Permutation.{Perm, same, skip, swap, then}
+use Rattle.lattices.specs.Laws.Permutation.{Perm, same, skip, swap, then}
 use Rattle.lattices.specs.Greedy.{Row, less, credited}
 use Rattle.greedy_reduction.specs.Moves.{Moves, none, after, exchange, subtract}
 

@@ -6,9 +6,9 @@ use native.Mathlib.Omega.{arith}
 use lib.IntN.{ℤ, _+ℤ_}
 use lib.ListN.{length, getD, drop, length-map, drop-of-length-le}
 use lib.Seq.{drop-cons}
-use Rattle.integers.specs.Lists.{length-⊕, length-⊙}
+use Rattle.integers.specs.ListLaws.{length-⊕, length-⊙}
 use Rattle.lattices.specs.Vector.{Vec, nth, dot, _⊙_, comb}
-use Rattle.lattices.specs.VectorLaws.{≈-≡, nil-dot, dot-⊕, dot-⊙}
+use Rattle.lattices.specs.Laws.Vector.{≈-≡, nil-dot, dot-⊕, dot-⊙}
 use Rattle.lattices.specs.Greedy.{Row, vectors, units, start, greedy, reduction}
 use Rattle.lattices.specs.Answer.{rowOfV, rowsOfV}
 use Rattle.greedy_reduction.specs.Moves.{Moves, moves-length, greedy-moves, length-vectors}

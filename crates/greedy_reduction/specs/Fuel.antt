@@ -12,7 +12,7 @@ use Rattle.integers.specs.Identity.{reads}
 use Rattle.integers.specs.Order.{ltZ-true}
 use Rattle.integers.specs.Certificate.{NN, _⊞_, le, lt, by-lt}
 use Rattle.lattices.specs.Vector.{N}
-use Rattle.lattices.specs.Permutation.{perm-length}
+use Rattle.lattices.specs.Laws.Permutation.{perm-length}
 use Rattle.lattices.specs.Greedy.{Row, vectors, order, lastOf, before, Counted, Pass, pass, round, shorter, joined, repeat, total, greedy}
 use Rattle.greedy_reduction.specs.Moves.{Moves, Moving, order-perm, before-last, length-before, moves-length, ordered-moves, greedy-moves}
 use Rattle.greedy_reduction.specs.Lengths.{NoLonger, moves-no-longer, no-longer-credited, last-no-longer, total-append, total-credited, total-nonneg, perm-total, moves-total, order-sorted, sorted-last, Sorted}

@@ -12,8 +12,8 @@ use Rattle.integers.specs.Identity.{by-ring, reads}
 use Rattle.integers.specs.Order.{≤ℤ-or-<ℤ}
 use Rattle.integers.specs.Certificate.{_⊞_, _⊠_, le, lt, by-lt, nn-false}
 use Rattle.lattices.specs.Vector.{Vec, N, nth, dot, _⊕_, _⊙_, _⊖_, comb}
-use Rattle.lattices.specs.VectorLaws.{_≈_, ≈-nth, N-nonneg, bilinear, comb-⊙, comb-cons}
-use Rattle.lattices.specs.Permutation.{Perm, same, skip, swap, then, perm-map, perm-last}
+use Rattle.lattices.specs.Laws.Vector.{_≈_, ≈-nth, N-nonneg, bilinear, comb-⊙, comb-cons}
+use Rattle.lattices.specs.Laws.Permutation.{Perm, same, skip, swap, then, perm-map, perm-last}
 use Rattle.lattices.specs.Volume.{Index, Form, head, rest, wedge, volume, squaredVolume}
 use Rattle.lattices.specs.Greedy.{Row, vectors, less, credited}
 use Rattle.exterior_algebra.specs.Forms.{inner-on, inner-comm}

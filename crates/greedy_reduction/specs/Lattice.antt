@@ -10,10 +10,11 @@ use lib.ListN.{length, getD, length-map}
 use lib.Seq.{ext-getD}
 use Rattle.integers.specs.Ring.{ -ℤ-zero}
 use Rattle.integers.specs.Identity.{by-ring, reads}
-use Rattle.integers.specs.All.{All, all-places, getD-map}
-use Rattle.integers.specs.Lists.{nth-⊕, nth-⊙}
+use Rattle.integers.specs.All.{All}
+use Rattle.integers.specs.AllLaws.{all-places, getD-map}
+use Rattle.integers.specs.ListLaws.{nth-⊕, nth-⊙}
 use Rattle.lattices.specs.Vector.{Vec, nth, dot, _⊙_, _⊖_, comb, Zero, In}
-use Rattle.lattices.specs.VectorLaws.{_≈_, ≈-refl, ≈-sym, ≈-trans, ≈-of-≡, ≈-⊕, ≈-≡, ≈-Zero, nil-dot, bilinear, comb-⊕, comb-⊙}
+use Rattle.lattices.specs.Laws.Vector.{_≈_, ≈-refl, ≈-sym, ≈-trans, ≈-of-≡, ≈-⊕, ≈-≡, ≈-Zero, nil-dot, bilinear, comb-⊕, comb-⊙}
 use Rattle.lattices.specs.Volume.{squaredVolume}
 use Rattle.lattices.specs.Greedy.{Row, vectors, units, reduction}
 use Rattle.lattices.specs.Answer.{rowsOfV}

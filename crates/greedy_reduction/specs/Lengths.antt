@@ -8,8 +8,8 @@ use Rattle.integers.specs.Identity.{by-ring, reads}
 use Rattle.integers.specs.Order.{≤ℤ-trans, ≤ℤ-of-<ℤ, ≤ℤ-of-≡, ltZ-true, ltZ-false, +ℤ-mono}
 use Rattle.integers.specs.Certificate.{NN, _⊞_}
 use Rattle.lattices.specs.Vector.{Vec, N}
-use Rattle.lattices.specs.VectorLaws.{N-nonneg}
-use Rattle.lattices.specs.Permutation.{Perm, same, skip, swap, then}
+use Rattle.lattices.specs.Laws.Vector.{N-nonneg}
+use Rattle.lattices.specs.Laws.Permutation.{Perm, same, skip, swap, then}
 use Rattle.lattices.specs.Greedy.{Row, vectors, insert, order, lastOf, before, less, credited, total}
 use Rattle.integers.specs.All.{All}
 use Rattle.greedy_reduction.specs.Every.{moves-all}

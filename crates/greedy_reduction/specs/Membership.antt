@@ -12,7 +12,8 @@ use Rattle.lattices.specs.Vector.{Vec, N, In, _⊖_, comb}
 use Rattle.lattices.specs.Nearest.{nearest}
 use Rattle.lattices.specs.Greedy.{vectors, reduction}
 use Rattle.lattices.specs.Answer.{padded}
-use Rattle.successive_minima.specs.Members.{isMember, member-is, is-member, member-in, in-member}
+use Rattle.successive_minima.specs.Member.{isMember}
+use Rattle.successive_minima.specs.Laws.Members.{member-is, is-member, member-in, in-member}
 use Rattle.greedy_reduction.specs.Start.{Coordinates, comb-places, minus-places}
 use Rattle.greedy_reduction.specs.Exactness.{comb-full}
 use Rattle.greedy_reduction.specs.Lattice.{reduced-count, reduced-full, reduction-lattice, reduction-reduced}

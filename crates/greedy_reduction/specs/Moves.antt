@@ -8,10 +8,10 @@ use lib.IntN.{ℤ, natAbs}
 use lib.Signed.{ltZ, _≤ℤ_}
 use lib.ListN.{length, length-append, length-map}
 use Rattle.lattices.specs.Vector.{N}
-use Rattle.lattices.specs.Permutation.{Perm, same, skip, swap, then, perm-append, perm-length}
+use Rattle.lattices.specs.Laws.Permutation.{Perm, same, skip, swap, then, perm-append, perm-length}
 use Rattle.lattices.specs.Nearest.{nearest}
 use Rattle.lattices.specs.Greedy.{Row, vectors, insert, order, lastOf, before, less, credited, Counted, pass, round, shorter, joined, repeat, total, greedy}
-use Rattle.successive_minima.specs.NearestLaws.{nearest-count, nearest-shorter}
+use Rattle.successive_minima.specs.Laws.NearestLaws.{nearest-count, nearest-shorter}
 
 pub data Moves : List Row → List Row → Type 0 where
   none : (a : List Row) → Moves a a

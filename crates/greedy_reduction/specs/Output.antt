@@ -8,21 +8,23 @@ use native.Mathlib.Omega.{arith}
 use lib.IntN.{ℤ, pos, negsuc, natAbs, _+ℤ_, +ℤ-idr}
 use lib.Signed.{_≤ℤ_, _<ℤ_, <ℤ-≤ℤ-trans}
 use lib.ListN.{length, getD, length-reverse, List·getD-eq-default}
+use Rattle.lattices.specs.Answer.{padded}
+use Rattle.lattices.specs.Laws.Answer.{length-padded}
 use Rattle.integers.specs.Identity.{by-ring, reads}
 use Rattle.integers.specs.Order.{≤ℤ-or-<ℤ, ≤ℤ-trans, ≤ℤ-of-≡, ltZ-false}
-use Rattle.integers.specs.Lists.{length-⊖-same}
+use Rattle.integers.specs.ListLaws.{length-⊖-same}
 use Rattle.integers.specs.Lex.{below-<}
 use Rattle.lattices.specs.Vector.{Vec, N, Zero, dot, _⊕_, _⊙_, _⊖_, comb}
-use Rattle.lattices.specs.VectorLaws.{_≈_, ≈-N, ≈-trans, bilinear, comb-⊕, comb-⊙, comb-none, comb-reverse, nil-dot}
-use Rattle.lattices.specs.Permutation.{perm-length}
+use Rattle.lattices.specs.Laws.Vector.{_≈_, ≈-N, ≈-trans, bilinear, comb-⊕, comb-⊙, comb-none, comb-reverse, nil-dot}
+use Rattle.lattices.specs.Laws.Permutation.{perm-length}
 use Rattle.lattices.specs.Volume.{squaredVolume}
 use Rattle.lattices.specs.Nearest.{nearest}
 use Rattle.lattices.specs.Greedy.{Row, vectors, order, lastOf, before, Counted, Pass, pass, round, shorter, joined, repeat, total, greedy}
-use Rattle.successive_minima.specs.Values.{Least}
+use Rattle.successive_minima.specs.Laws.Values.{Least}
 use Rattle.successive_minima.specs.Reduced.{Under, Descending, Reduced}
-use Rattle.successive_minima.specs.Snoc.{fit, length-fit, comb-fit}
-use Rattle.successive_minima.specs.NearestLaws.{nearest-least, nearest-count}
-use Rattle.successive_minima.specs.NearestRest.{nearest-rest}
+use Rattle.successive_minima.specs.Laws.Snoc.{comb-fit}
+use Rattle.successive_minima.specs.Laws.NearestLaws.{nearest-least, nearest-count}
+use Rattle.successive_minima.specs.Laws.NearestRest.{nearest-rest}
 use Rattle.greedy_reduction.specs.Moves.{Moves, exchange, Moving, order-perm, before-last, length-before, length-vectors, vectors-credited, vectors-append, moves-length, ordered-moves, greedy-moves}
 use Rattle.greedy_reduction.specs.Lengths.{total-nonneg}
 use Rattle.greedy_reduction.specs.Fuel.{falls, size-falls, stop, again}
@@ -34,8 +36,8 @@ abbrev pub Still : List Vec → Type 0
 Still [] = Unit {0}
 Still (b ∷ bs) = Zero (nearest (reverse bs) b) × Still bs
 
-abbrev pub Settled : List Vec → Type 0
-Settled bs = Reduced bs × Still (reverse bs)
+abbrev pub SettledRows : List Vec → Type 0
+SettledRows bs = Reduced bs × Still (reverse bs)
 
 -- a least value leaves no longer residual than any other list
 pub least-N : {bs : List Vec} {t : Vec} {y : List ℤ} → Least bs t y → (x : List ℤ) → length x ≡ length bs → N (t ⊖ comb y bs) ≤ℤ N (t ⊖ comb x bs)
@@ -47,17 +49,17 @@ module _ (vs : List Vec) (red : Reduced vs) (four : length vs ≤ 4) (t : Vec) w
   x = nearest vs t
 
   turned : List ℤ → List ℤ
-  turned z = reverse (fit (length vs) z)
+  turned z = reverse (padded (length vs) z)
 
   turned-count : (z : List ℤ) → length (turned z) ≡ length vs
   unfolding turned
-  turned-count z = length-reverse (fit (length vs) z) ∙ length-fit (length vs) z
+  turned-count z = length-reverse (padded (length vs) z) ∙ length-padded (length vs) z
 
   turned-comb : (z : List ℤ) → comb (turned z) vs ≈ comb z (reverse vs)
   unfolding turned
   turned-comb z = ≈-trans
-      (subst (λ ws. comb (reverse (fit (length vs) z)) ws ≈ comb (fit (length vs) z) (reverse vs)) (reverse-reverse vs)
-      (comb-reverse (fit (length vs) z) (reverse vs) (length-fit (length vs) z ∙ sym (length-reverse vs))))
+      (subst (λ ws. comb (reverse (padded (length vs) z)) ws ≈ comb (padded (length vs) z) (reverse vs)) (reverse-reverse vs)
+      (comb-reverse (padded (length vs) z) (reverse vs) (length-padded (length vs) z ∙ sym (length-reverse vs))))
       (comb-fit (length vs) z (reverse vs) (length-reverse vs))
 
   pub nearest-shortest : (z : List ℤ) → N (t ⊖ comb (nearest vs t) vs) ≤ℤ N ((t ⊖ comb (nearest vs t) vs) ⊕ comb z (reverse vs))
@@ -111,7 +113,7 @@ kept-reduced c r d h s q =
     (nearest-shortest (vectors (c .rows)) d (omega (arith, length-vectors (c .rows))) (r .vector)))
 
 -- and nothing more is taken from the last vector
-kept-still : (c : Counted) (r : Row) → Settled (vectors (c .rows)) → length (c .rows) ≤ 3 → Still (reverse (vectors (joined (pass c r))))
+kept-still : (c : Counted) (r : Row) → SettledRows (vectors (c .rows)) → length (c .rows) ≤ 3 → Still (reverse (vectors (joined (pass c r))))
 kept-still c r d h =
     let vs = vectors (c .rows) in
     subst Still (sym (turned-pass c r)) (
@@ -122,10 +124,10 @@ kept-still c r d h =
 -- ---- the induction
 -- `reduce` gives a settled list for every list of k vectors with positive volume
 abbrev Settling : ℕ → ℕ → (List Row → Counted) → Type 0
-Settling m k reduce = (rows : List Row) → length rows ≡ k → pos 0 <ℤ squaredVolume m (vectors rows) → Settled (vectors (reduce rows .rows))
+Settling m k reduce = (rows : List Row) → length rows ≡ k → pos 0 <ℤ squaredVolume m (vectors rows) → SettledRows (vectors (reduce rows .rows))
 
 round-settled : (m k : ℕ) → 1 ≤ k → k ≤ 3 → (reduce : List Row → Counted) → Moving k reduce → Settling m k reduce → (rows : List Row) → length rows ≡ suc k
-    → pos 0 <ℤ squaredVolume m (vectors rows) → shorter (round reduce rows .last) (round reduce rows .first) ≡ false → Settled (vectors (joined (round reduce rows)))
+    → pos 0 <ℤ squaredVolume m (vectors rows) → shorter (round reduce rows .last) (round reduce rows .first) ≡ false → SettledRows (vectors (joined (round reduce rows)))
 round-settled m k low high reduce mv red [] e v q = absurd (omega arith)
 round-settled m k low high reduce mv red (r ∷ rows) e v q =
     let c = reduce (before r rows) in
@@ -140,7 +142,7 @@ round-settled m k low high reduce mv red (r ∷ rows) e v q =
     volume = subst (λ l. pos 0 <ℤ squaredVolume m l) (ap vectors (sym (before-last r rows)) ∙ vectors-append (before r rows) (lastOf r rows ∷ [])) v
 
 repeat-settled : (m k : ℕ) → 1 ≤ k → k ≤ 3 → (reduce : List Row → Counted) → Moving k reduce → Settling m k reduce → (fuel : ℕ) (rows : List Row) → length rows ≡ suc k
-    → natAbs (total rows) < fuel → pos 0 <ℤ squaredVolume m (vectors rows) → Settled (vectors (repeat reduce fuel rows .rows))
+    → natAbs (total rows) < fuel → pos 0 <ℤ squaredVolume m (vectors rows) → SettledRows (vectors (repeat reduce fuel rows .rows))
 repeat-settled m k low high reduce mv red zero rows e f v = absurd (omega arith)
 repeat-settled m k low high reduce mv red (suc fuel) rows e f v =
     go (shorter (p .last) (p .first)) refl
@@ -153,8 +155,8 @@ repeat-settled m k low high reduce mv red (suc fuel) rows e f v =
     moves : Moves rows (joined p)
     moves = ordered-moves k reduce mv rows e
 
-    go : (b : Bool) → shorter (p .last) (p .first) ≡ b → (natAbs (total (joined p)) < natAbs (total rows) → Settled (vectors (repeat reduce fuel (joined p) .rows)))
-        → Settled (vectors ((elim b as (λ b. Counted) [ false ↦ stop p | true ↦ again p (repeat reduce fuel (joined p)) ]) .rows))
+    go : (b : Bool) → shorter (p .last) (p .first) ≡ b → (natAbs (total (joined p)) < natAbs (total rows) → SettledRows (vectors (repeat reduce fuel (joined p) .rows)))
+        → SettledRows (vectors ((elim b as (λ b. Counted) [ false ↦ stop p | true ↦ again p (repeat reduce fuel (joined p)) ]) .rows))
     go false q ih = round-settled m k low high reduce mv red (order rows) (sym (perm-length (order-perm rows)) ∙ e)
         (subst (λ s. pos 0 <ℤ s) (moves-keep m (exchange (order-perm rows))) v) q
     go true q ih = ih (size-falls (total (joined p)) (total rows) (total-nonneg (joined p)) (falls k reduce mv rows e q))
@@ -162,7 +164,7 @@ repeat-settled m k low high reduce mv red (suc fuel) rows e f v =
 nearest-none : (b : Vec) → Zero (nearest [] b)
 nearest-none b i = List·getD-eq-default (nearest [] b) (pos 0) (omega (arith, nearest-count [] b))
 
-one-settled : (m : ℕ) (rows : List Row) → length rows ≡ 1 → pos 0 <ℤ squaredVolume m (vectors rows) → Settled (vectors rows)
+one-settled : (m : ℕ) (rows : List Row) → length rows ≡ 1 → pos 0 <ℤ squaredVolume m (vectors rows) → SettledRows (vectors rows)
 one-settled m [] e v = absurd (omega arith)
 one-settled m (r ∷ s ∷ rows) e v = absurd (omega arith)
 one-settled m (r ∷ []) e v = (
@@ -178,7 +180,7 @@ one-settled m (r ∷ []) e v = (
 )
 
 -- the output of the greedy steps is settled
-pub greedy-settled : (m d : ℕ) → d ≤ 4 → (rows : List Row) → length rows ≡ d → pos 0 <ℤ squaredVolume m (vectors rows) → Settled (vectors (greedy d rows .rows))
+pub greedy-settled : (m d : ℕ) → d ≤ 4 → (rows : List Row) → length rows ≡ d → pos 0 <ℤ squaredVolume m (vectors rows) → SettledRows (vectors (greedy d rows .rows))
 unfolding greedy
 greedy-settled m zero h [] e v = (tt, tt)
 greedy-settled m zero h (r ∷ rows) e v = absurd (omega arith)

@@ -8,17 +8,18 @@ use native.Mathlib.Omega.{arith}
 use lib.IntN.{ℤ, pos, negsuc, natAbs, _+ℤ_, _*ℤ_}
 use lib.Signed.{ltZ, leZ}
 use lib.ListN.{length}
-use Rattle.integers.specs.Lists.{same, nth-⊕, nth-⊙, length-⊕, length-⊙}
+use Rattle.integers.specs.ListLaws.{same, nth-⊕, nth-⊙, length-⊕, length-⊙}
 use Rattle.lattices.specs.Vector.{Vec, N, _⊕_, _⊙_, _⊖_, comb}
-use Rattle.lattices.specs.VectorLaws.{_≈_, ≈-refl, ≈-sym, ≈-trans, ≈-⊕, ≈-⊙, ≈-≡, ≈-N}
-use Rattle.lattices.specs.Permutation.{perm-length}
+use Rattle.lattices.specs.Laws.Vector.{_≈_, ≈-refl, ≈-sym, ≈-trans, ≈-⊕, ≈-⊙, ≈-≡, ≈-N}
+use Rattle.lattices.specs.Laws.Permutation.{perm-length}
 use Rattle.lattices.specs.Nearest.{outward, least, nearest}
 use Rattle.lattices.specs.Greedy.{Row, vectors, insert, order, lastOf, before, less, credited, Counted, Pass, pass, round, shorter, joined, repeat, total, greedy}
 use Rattle.lattices.specs.Answer.{padded}
-use Rattle.lattices.specs.AnswerLaws.{length-padded, nth-padded, padded-≈}
+use Rattle.lattices.specs.Laws.Answer.{length-padded, nth-padded, padded-≈}
 use Rattle.greedy_reduction.specs.Moves.{Moves, Moving, order-perm, before-last, length-before, moves-length, ordered-moves, greedy-moves}
 use Rattle.greedy_reduction.specs.Fuel.{stop, again}
-use Rattle.integers.specs.All.{All, all-left, all-right, map-append}
+use Rattle.integers.specs.All.{All}
+use Rattle.integers.specs.AllLaws.{all-left, all-right, map-append}
 use Rattle.greedy_reduction.specs.Every.{all-perm}
 use Rattle.greedy_reduction.specs.Start.{Sized, Coordinates, comb-places, sized-vectors, sized-us, moves-sized}
 

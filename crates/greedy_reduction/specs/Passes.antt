@@ -12,10 +12,10 @@ use lib.ListN.{length}
 use Rattle.integers.specs.Certificate.{NN}
 use Rattle.integers.specs.Size.{size-add}
 use Rattle.lattices.specs.Vector.{N}
-use Rattle.lattices.specs.VectorLaws.{N-nonneg}
-use Rattle.lattices.specs.Permutation.{perm-length}
+use Rattle.lattices.specs.Laws.Vector.{N-nonneg}
+use Rattle.lattices.specs.Laws.Permutation.{perm-length}
 use Rattle.lattices.specs.Greedy.{Row, vectors, order, lastOf, before, Counted, Pass, pass, round, shorter, joined, repeat, total, greedy}
-use Rattle.successive_minima.specs.NearestLaws.{nearest-shorter}
+use Rattle.successive_minima.specs.Laws.NearestLaws.{nearest-shorter}
 use Rattle.greedy_reduction.specs.Moves.{Moves, Moving, order-perm, before-last, length-before, moves-length, ordered-moves, greedy-moves}
 use Rattle.greedy_reduction.specs.Lengths.{NoLonger, total-append, total-credited, total-nonneg, perm-total, moves-total}
 use Rattle.greedy_reduction.specs.Fuel.{stop, again, falls, size-falls}

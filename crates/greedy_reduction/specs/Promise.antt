@@ -12,15 +12,16 @@ use lib.Signed.{_≤ℤ_, _<ℤ_}
 use lib.ListN.{length, getD}
 use borrow.Author.Tests.{le-ltb}
 use Rattle.lattices.specs.Vector.{Vec, N, nth, comb}
-use Rattle.lattices.specs.VectorLaws.{nil-dot}
+use Rattle.lattices.specs.Laws.Vector.{nil-dot}
 use Rattle.lattices.specs.Volume.{squaredVolume}
 use Rattle.lattices.specs.Nearest.{nearest}
 use Rattle.lattices.specs.Greedy.{Row, vectors, units, start, reduction}
-use Rattle.lattices.specs.Refusal.{Input, basis, firstOf, vectorChecks, targetChecks, any, tooLong, mostSquare, mostSize}
+use Rattle.lattices.specs.Refusal.{Input, basis, firstOf, vectorChecks, targetChecks, tooLong, mostSquare, mostSize}
+use Rattle.integers.specs.Every.{any}
 use Rattle.lattices.specs.Answer.{padded, table, rowOfV, rowsOfV, reductionOf, nearestOf}
-use Rattle.lattices.specs.AnswerLaws.{padded-same, length-vectorsOf}
+use Rattle.lattices.specs.Laws.Answer.{padded-same, length-vectorsOf}
 use Rattle.integers.specs.All.{All}
-use Rattle.successive_minima.specs.NearestLaws.{nearest-count, nearest-shorter}
+use Rattle.successive_minima.specs.Laws.NearestLaws.{nearest-count, nearest-shorter}
 use Rattle.exterior_algebra.specs.Sizes.{Short, near-le}
 use Rattle.integers.specs.Order.{≤ℤ-trans, ≤ℤ-ltZ, *ℤ-mono, pos-nonneg}
 use Rattle.greedy_reduction.specs.Moves.{Moves, length-vectors}

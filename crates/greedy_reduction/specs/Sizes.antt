@@ -12,19 +12,20 @@ use Rattle.integers.specs.Identity.{by-ring, reads}
 use Rattle.integers.specs.Order.{≤ℤ-trans, ≤ℤ-of-≡, *ℤ-mono}
 use Rattle.integers.specs.Certificate.{NN, nn-pos}
 use Rattle.integers.specs.Size.{load, size-sub, root}
-use Rattle.integers.specs.Lists.{nth-⊕, nth-⊙}
+use Rattle.integers.specs.ListLaws.{nth-⊕, nth-⊙}
 use Rattle.lattices.specs.Vector.{Vec, N, nth, dot, _⊕_, _⊙_, comb}
-use Rattle.lattices.specs.VectorLaws.{_≈_, ≈-N, ≈-trans, ≈-⊙, square-≤, nil-dot, comb-≈, comb-⊙}
+use Rattle.lattices.specs.Laws.Vector.{_≈_, ≈-N, ≈-trans, ≈-⊙, square-≤, nil-dot, comb-≈, comb-⊙}
 use Rattle.lattices.specs.Volume.{squaredVolume}
 use Rattle.lattices.specs.Nearest.{nearest}
 use Rattle.lattices.specs.Greedy.{Row, vectors, less, credited, units, start}
 use Rattle.lattices.specs.Answer.{padded, rowOfV}
-use Rattle.lattices.specs.AnswerLaws.{nth-padded, padded-≈}
+use Rattle.lattices.specs.Laws.Answer.{nth-padded, padded-≈}
 use Rattle.exterior_algebra.specs.Sizes.{Short, coefficient-≤, near-le}
 use Rattle.successive_minima.specs.Reduced.{Reduced}
-use Rattle.successive_minima.specs.NearestLaws.{nearest-count, nearest-shorter}
+use Rattle.successive_minima.specs.Laws.NearestLaws.{nearest-count, nearest-shorter}
 use Rattle.greedy_reduction.specs.Moves.{Moves, moves-length, after, subtract, length-vectors, vectors-append}
-use Rattle.integers.specs.All.{All, all-left, all-right, all-both}
+use Rattle.integers.specs.All.{All}
+use Rattle.integers.specs.AllLaws.{all-left, all-right, all-both}
 use Rattle.greedy_reduction.specs.Every.{moves-all}
 use Rattle.greedy_reduction.specs.Lengths.{NoLonger, moves-no-longer}
 use Rattle.greedy_reduction.specs.Tables.{Exact, moves-exact, spread, moves-spread}

@@ -6,12 +6,13 @@ use native.Mathlib.Omega.{arith}
 use lib.IntN.{ℤ, pos, negsuc, _+ℤ_, _*ℤ_, +ℤ-idl, +ℤ-idr, zero-*ℤ}
 use lib.ListN.{length, getD, replicate, length-replicate, length-map}
 use Rattle.integers.specs.Ring.{pos-one-*ℤ}
-use Rattle.integers.specs.Lists.{nth-replicate, length-⊕, length-⊙}
+use Rattle.integers.specs.ListLaws.{nth-replicate, length-⊕, length-⊙}
 use Rattle.lattices.specs.Vector.{Vec, nth, dot, _⊙_, _⊖_, comb}
-use Rattle.lattices.specs.VectorLaws.{_≈_, ≈-trans, nil-dot, dot-⊕, dot-⊙, comb-cons, comb-zero}
+use Rattle.lattices.specs.Laws.Vector.{_≈_, ≈-trans, nil-dot, dot-⊕, dot-⊙, comb-cons, comb-zero}
 use Rattle.lattices.specs.Greedy.{Row, vectors, units, start}
 use Rattle.greedy_reduction.specs.Moves.{Moves}
-use Rattle.integers.specs.All.{All, all-imp, getD-map}
+use Rattle.integers.specs.All.{All}
+use Rattle.integers.specs.AllLaws.{all-imp, getD-map}
 use Rattle.greedy_reduction.specs.Every.{moves-all}
 use Rattle.greedy_reduction.specs.Tables.{Exact, spread}
 

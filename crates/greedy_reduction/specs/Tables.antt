@@ -7,10 +7,10 @@ use lib.IntN.{ℤ, pos, negsuc, _+ℤ_, _*ℤ_, +ℤ-idl, +ℤ-assoc, *ℤ-zero}
 use lib.ListN.{length}
 use Rattle.integers.specs.Ring.{+ℤ-left-comm}
 use Rattle.integers.specs.Identity.{by-ring, reads}
-use Rattle.integers.specs.Lists.{nth-⊕, nth-⊙}
+use Rattle.integers.specs.ListLaws.{nth-⊕, nth-⊙}
 use Rattle.lattices.specs.Vector.{Vec, nth, dot, _⊕_, _⊙_, _⊖_, comb}
-use Rattle.lattices.specs.VectorLaws.{_≈_, ≈-refl, ≈-trans, ≈-⊕, ≈-⊙, nil-dot, dot-⊕, dot-⊙, comb-⊕, comb-⊙}
-use Rattle.lattices.specs.Permutation.{Perm, same, skip, swap, then}
+use Rattle.lattices.specs.Laws.Vector.{_≈_, ≈-refl, ≈-trans, ≈-⊕, ≈-⊙, nil-dot, dot-⊕, dot-⊙, comb-⊕, comb-⊙}
+use Rattle.lattices.specs.Laws.Permutation.{Perm, same, skip, swap, then}
 use Rattle.lattices.specs.Greedy.{Row, vectors, less, credited}
 use Rattle.integers.specs.All.{All}
 use Rattle.greedy_reduction.specs.Every.{moves-all}

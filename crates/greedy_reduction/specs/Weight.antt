@@ -12,13 +12,14 @@ use Rattle.integers.specs.Order.{≤ℤ-trans, *ℤ-mono, *ℤ-cancel-≤}
 use Rattle.integers.specs.Certificate.{nn-pos, _⊞_, _⊠_, le, eq, by-nn}
 use Rattle.integers.specs.Size.{load, load-snoc}
 use Rattle.lattices.specs.Vector.{Vec, N, nth, dot, _⊕_, _⊙_, _⊖_, comb}
-use Rattle.lattices.specs.VectorLaws.{N-⊖, _≈_, ≈-N, ≈-refl, ≈-sym, ≈-trans, ≈-⊕, bilinear, dot-comm, N-nonneg, comb-cons, comb-snoc, comb-reverse}
+use Rattle.lattices.specs.Laws.Vector.{N-⊖, _≈_, ≈-N, ≈-refl, ≈-sym, ≈-trans, ≈-⊕, bilinear, dot-comm, N-nonneg, comb-cons, comb-snoc, comb-reverse}
 use Rattle.lattices.specs.Greedy.{Row, vectors, lastOf, before}
 use Rattle.successive_minima.specs.Reduced.{Top, Descending, Reduced}
-use Rattle.successive_minima.specs.ReducedLaws.{pinned}
-use Rattle.successive_minima.specs.NearestLaws.{ended}
+use Rattle.successive_minima.specs.Laws.ReducedLaws.{pinned}
+use Rattle.successive_minima.specs.Laws.NearestLaws.{ended}
 use Rattle.greedy_reduction.specs.Moves.{before-last, length-before, length-vectors, vectors-append}
-use Rattle.integers.specs.All.{All, all-left, all-right, map-append}
+use Rattle.integers.specs.All.{All}
+use Rattle.integers.specs.AllLaws.{all-left, all-right, map-append}
 
 -- ---- the parts of a combination of reduced vectors
 -- a difference of vectors of lengths a and 2·a is at most 3·a long

@@ -14,7 +14,8 @@ use borrow.Author.Tests.{ltb-true, ltb-false, lt-ltb, le-ltb}
 use Rattle.integers.specs.Size.{Within}
 use Rattle.lattices.specs.Vector.{Vec, nth}
 use Rattle.integers.specs.Tests.{neither}
-use Rattle.lattices.specs.Refusal.{any, mostSize}
+use Rattle.integers.specs.Every.{any}
+use Rattle.lattices.specs.Refusal.{mostSize}
 
 -- ---- from place i on
 

@@ -126,14 +126,14 @@ module _ (a : Vec) (w : List ℤ) (A W : ℕ) (f : (i : ℕ) → Within A (nth a
       (within-le (omega arith) (expansion-within s k))
 
 -- the numbers of a turn, for entries up to 20,000 and 20,000³
-pub record Turn (a : Vec) (w : List ℤ) (s k : ℕ) : Type 0 where
+pub record MinorTurn (a : Vec) (w : List ℤ) (s k : ℕ) : Type 0 where
   pub coordinate : SFits w64 (nth a (3 - k))
   pub minor : SFits w64 (nth w (s - 2 ^ k))
   pub product : SFits w64 (nth a (3 - k) *ℤ nth w (s - 2 ^ k))
   pub sum : SFits w64 (expansion a w s k)
   pub next : SFits w64 (nth a (3 - k) *ℤ nth w (s - 2 ^ k) -ℤ expansion a w s k)
 
-pub turn : (a : Vec) (w : List ℤ) → ((i : ℕ) → Within 20000 (nth a i)) → ((i : ℕ) → Within 8000000000000 (nth w i)) → (s k : ℕ) → k ≤ 4 → Turn a w s k
+pub turn : (a : Vec) (w : List ℤ) → ((i : ℕ) → Within 20000 (nth a i)) → ((i : ℕ) → Within 8000000000000 (nth w i)) → (s k : ℕ) → k ≤ 4 → MinorTurn a w s k
 turn a w f g s k h =
     let p = within-mul (f (3 - k)) (g (s - 2 ^ k)) in
     let q : Within 640000000000000000 (expansion a w s k) = within-le (omega arith) (expansion-within a w 20000 8000000000000 f g s k) in

@@ -14,11 +14,12 @@ use lib.Seq.{take-all, drop-drop, getD-drop}
 use lib.Dec.{ltb}
 use lib.Signed.{ltZ}
 use Rattle.lattices.specs.Vector.{Vec, nth, comb, Dependent}
-use Rattle.lattices.specs.VectorLaws.{_≈_, ≈-refl, ≈-⊕, ≈-⊙, ≈-N, ≈-nth}
+use Rattle.lattices.specs.Laws.Vector.{_≈_, ≈-refl, ≈-⊕, ≈-⊙, ≈-N, ≈-nth}
 use Rattle.lattices.specs.Volume.{isDependent}
-use Rattle.lattices.specs.Refusal.{vectorsOf, any, tooLong, mostSize, mostSquare}
+use Rattle.lattices.specs.Refusal.{vectorsOf, tooLong, mostSize, mostSquare}
+use Rattle.integers.specs.Every.{any}
 use Rattle.lattices.specs.Answer.{padded, table}
-use Rattle.lattices.specs.AnswerLaws.{length-padded, padded-≈}
+use Rattle.lattices.specs.Laws.Answer.{length-padded, padded-≈}
 use Rattle.exterior_algebra.specs.Dependence.{Fit, dependent-exactly}
 
 -- ---- one coordinate more, one row more, as code stores them

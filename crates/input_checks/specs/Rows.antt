@@ -11,13 +11,14 @@ use lib.Signed.{_≤ℤ_}
 use Rattle.integers.specs.Order.{ltZ-false}
 use Rattle.lattices.specs.Vector.{Vec, N, dot}
 use Rattle.lattices.specs.Volume.{isDependent}
-use Rattle.lattices.specs.Refusal.{any, tooLong, vectorsOf}
+use Rattle.integers.specs.Every.{any}
+use Rattle.lattices.specs.Refusal.{tooLong, vectorsOf}
 use Rattle.lattices.specs.Answer.{padded, table}
 use Rattle.exterior_algebra.specs.Dependence.{Fit}
 use Rattle.input_checks.specs.Any.{beyond, any-none}
 use Rattle.integers.specs.Tests.{neither}
 use Rattle.input_checks.specs.Padded.{fit-vectorsOf, any-long-padded, isDependent-padded}
-use Rattle.lattices.specs.AnswerLaws.{length-vectorsOf, table-rows}
+use Rattle.lattices.specs.Laws.Answer.{length-vectorsOf, table-rows}
 
 nil-short : tooLong [] ≡ false
 unfolding dot

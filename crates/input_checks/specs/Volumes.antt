@@ -17,9 +17,9 @@ use Rattle.integers.specs.Order.{≤ℤ-trans, pos-nonneg}
 use Rattle.integers.specs.Certificate.{NN}
 use Rattle.integers.specs.Size.{Within, root-within}
 use Rattle.lattices.specs.Vector.{Vec, N, nth, dot, _⊙_}
-use Rattle.lattices.specs.VectorLaws.{square-≤}
+use Rattle.lattices.specs.Laws.Vector.{square-≤}
 use Rattle.lattices.specs.Volume.{Index, Form, wedge, volume, inner, squaredVolume, isDependent}
-use Rattle.lattices.specs.Refusal.{any}
+use Rattle.integers.specs.Every.{any}
 use Rattle.exterior_algebra.specs.Forms.{half}
 use Rattle.exterior_algebra.specs.Exterior.{inner-nonneg}
 use Rattle.exterior_algebra.specs.Hadamard.{minor}

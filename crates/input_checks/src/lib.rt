@@ -8,7 +8,8 @@ ghost use lib.Signed.{_≤ℤ_};
 ghost use Rattle.integers.specs.Size.{Within};
 ghost use Rattle.lattices.specs.Vector.{N, nth};
 ghost use Rattle.lattices.specs.Volume.{isDependent};
-ghost use Rattle.lattices.specs.Refusal.{vectorsOf, any, tooLong, oneTo, firstOf, vectorChecks, targetChecks};
+ghost use Rattle.lattices.specs.Refusal.{vectorsOf, tooLong, oneTo, firstOf, vectorChecks, targetChecks};
+ghost use Rattle.integers.specs.Every.{any};
 ghost use Rattle.lattices.specs.Answer.{padded, table};
 ghost use Rattle.input_checks.specs.Any.{beyond};
 ghost use Rattle.input_checks.specs.Minors.{wedged};
@@ -18,6 +19,9 @@ ghost use Rattle.input_checks.specs.Volumes.{minors, nonzero};
 const MOST_VECTORS: usize = 4;
 
 const MOST_COORDINATES: usize = 4;
+
+// No refusal applies.
+const ACCEPTED: u64 = 0;
 
 // The limits of a coordinate's size and of a squared length.
 const MOST_SIZE: i64 = 20000;
@@ -201,7 +205,7 @@ pub fn refusal(numbers: &[i64], d: usize, m: usize) -> u64
     if dependent(b, d) {
         return 5;
     }
-    0
+    ACCEPTED
 }
 
 // The first refusal that applies to a target of vectors of m coordinates, and 0 for none.

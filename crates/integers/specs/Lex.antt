@@ -1,4 +1,4 @@
--- Lists of integers compared from the first entry on as signed numbers: the order of the tie rule. First the definitions, then the laws.
+-- Laws of the order in which lists of integers are compared from the first entry on.
 use mathlib.Core.Path.{_≡_, refl, sym, _∙_, ap, ap₂, subst}
 use mathlib.Core.Logic.{_⊎_, inl, inr, ⊎-elim}
 use mathlib.Core.Bool.{Bool, true, false}
@@ -12,13 +12,9 @@ use lib.Signed.{ltZ, _<ℤ_, _≤ℤ_, <ℤ-≤ℤ-trans, <ℤ-irrefl, clashℤ}
 use Rattle.integers.specs.Identity.{reads, by-ring, by-eq}
 use Rattle.integers.specs.Order.{≤ℤ-of-<ℤ, ≤ℤ-of-≡, ≤ℤ-antisymm, ≤ℤ-or-<ℤ, *ℤ-mono, *ℤ-mono-<, *ℤ-cancel-≤, <ℤ-ltZ, ≤ℤ-ltZ}
 use Rattle.integers.specs.Certificate.{_⊞_, lt, by-lt}
-use Rattle.integers.specs.Lists.{nth, _⊕_, _⊙_, _⊖_, nth-⊙, entries, same}
-
--- is the first list below the second?
-abbrev pub below : List ℤ → List ℤ → Bool
-below [] l = false
-below (x ∷ k) [] = false
-below (x ∷ k) (y ∷ l) = elim (ltZ x y) [ true ↦ true | false ↦ elim (ltZ y x) [ true ↦ false | false ↦ below k l ] ]
+use Rattle.integers.specs.Lists.{nth, _⊕_, _⊙_, _⊖_}
+use Rattle.integers.specs.ListLaws.{nth-⊙, entries, same}
+use Rattle.integers.specs.Below.{below}
 
 -- at or above the list of zeros: the first entry that is not 0, if there is one, is positive
 abbrev pub Nonneg : List ℤ → Type 0

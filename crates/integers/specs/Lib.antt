@@ -1,4 +1,11 @@
--- Integer mathematics over the library's ℤ and its orders. Examples shows how each part is used.
+-- Integer mathematics over the library's ℤ and its orders. Definitions: Every, All, Lists, Below, Filled, Decimal. Examples shows how the
+-- rest is used.
+pub mod Every
+pub mod All
+pub mod Lists
+pub mod Below
+pub mod Filled
+pub mod Decimal
 pub mod Ring
 pub mod Polynomial
 pub mod Identity
@@ -8,10 +15,11 @@ pub mod Linear
 pub mod Division
 pub mod Sign
 pub mod Size
-pub mod All
+pub mod AllLaws
 pub mod Tests
-pub mod Lists
+pub mod ListLaws
+pub mod FilledLaws
 pub mod Runs
-pub mod Decimal
+pub mod DecimalLaws
 pub mod Lex
 pub mod Examples

@@ -134,29 +134,12 @@ pub <ℤ-leZ : {a b : ℤ} → b <ℤ a → leZ a b ≡ false
 
 -- ---- comparing two integers
 
-pub ≤ℤ-total : (a b : ℤ) → (a ≤ℤ b) ⊎ (b ≤ℤ a)
-≤ℤ-total a b = pick (≤ℤ-or-<ℤ a b)
-  where
-    pick : (a ≤ℤ b) ⊎ (b <ℤ a) → (a ≤ℤ b) ⊎ (b ≤ℤ a)
-    pick (inl h) = inl h
-    pick (inr h) = inr (≤ℤ-of-<ℤ h)
-
-pub <ℤ-of-≤ℤ-≢ : {a b : ℤ} → a ≤ℤ b → a ≢ b → a <ℤ b
-<ℤ-of-≤ℤ-≢ {a} {b} h f = pick (≤ℤ-or-<ℤ b a)
-  where
-    pick : (b ≤ℤ a) ⊎ (a <ℤ b) → a <ℤ b
-    pick (inl k) = absurd (f (≤ℤ-antisymm h k))
-    pick (inr k) = k
-
 pub ≤ℤ-<ℤ-trans : {a b c : ℤ} → a ≤ℤ b → b <ℤ c → a <ℤ c
 ≤ℤ-<ℤ-trans {a} {b} {c} h k = pick (≤ℤ-or-<ℤ c a)
   where
     pick : (c ≤ℤ a) ⊎ (a <ℤ c) → a <ℤ c
     pick (inl l) = clashℤ k (≤ℤ-trans l h)
     pick (inr l) = l
-
-pub <ℤ-trans : {a b c : ℤ} → a <ℤ b → b <ℤ c → a <ℤ c
-<ℤ-trans h k = <ℤ-≤ℤ-trans h (≤ℤ-of-<ℤ k)
 
 pub zero-or-not : (x : ℤ) → (x ≡ pos 0) ⊎ (x ≢ pos 0)
 zero-or-not x = pick (ℤ-discrete x (pos 0))

@@ -45,15 +45,6 @@ pub *ℤ-+ℤ : (a b c : ℤ) → a *ℤ (b +ℤ c) ≡ a *ℤ b +ℤ a *ℤ c
 pub negℤ-*ℤ : (a b : ℤ) → negℤ a *ℤ b ≡ negℤ (a *ℤ b)
 negℤ-*ℤ a b = +ℤ-cancel-r (a *ℤ b) (sym (+ℤ-*ℤ (negℤ a) a b) ∙ ap (λ x. x *ℤ b) (+ℤ-invl a) ∙ zero-*ℤ b ∙ sym (+ℤ-invl (a *ℤ b)))
 
-pub *ℤ-negℤ : (a b : ℤ) → a *ℤ negℤ b ≡ negℤ (a *ℤ b)
-*ℤ-negℤ a b = *ℤ-comm a (negℤ b) ∙ negℤ-*ℤ b a ∙ ap negℤ (*ℤ-comm b a)
-
-pub -ℤ-*ℤ : (a b c : ℤ) → (a -ℤ b) *ℤ c ≡ a *ℤ c -ℤ b *ℤ c
--ℤ-*ℤ a b c = +ℤ-*ℤ a (negℤ b) c ∙ ap (λ x. a *ℤ c +ℤ x) (negℤ-*ℤ b c)
-
-pub *ℤ--ℤ : (a b c : ℤ) → a *ℤ (b -ℤ c) ≡ a *ℤ b -ℤ a *ℤ c
-*ℤ--ℤ a b c = *ℤ-+ℤ a b (negℤ c) ∙ ap (λ x. a *ℤ b +ℤ x) (*ℤ-negℤ a c)
-
 -- ---- products
 pub *ℤ-assoc : (a b c : ℤ) → (a *ℤ b) *ℤ c ≡ a *ℤ (b *ℤ c)
 *ℤ-assoc a b c = sucℤ-predℤ-ind (λ x. (x *ℤ b) *ℤ c ≡ x *ℤ (b *ℤ c))

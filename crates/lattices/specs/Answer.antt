@@ -4,6 +4,7 @@ use mathlib.Core.List.{List, [], _∷_, _++_, map}
 use Prim.Native.Nat.{ℕ, zero, suc}
 use lib.IntN.{ℤ, pos}
 use lib.ListN.{length}
+use Rattle.integers.specs.Filled.{filled}
 use Rattle.lattices.specs.Vector.{Vec, N, nth, comb, distance}
 use Rattle.lattices.specs.Nearest.{nearest}
 use Rattle.lattices.specs.Greedy.{Row, Counted, vectors, reduction}
@@ -11,9 +12,7 @@ use Rattle.lattices.specs.Refusal.{Input, basis, firstOf, vectorChecks, 
 
 -- a list of n numbers: the given ones, then zeros
 abbrev pub padded : ℕ → List ℤ → List ℤ
-padded zero l = []
-padded (suc n) [] = pos 0 ∷ padded n []
-padded (suc n) (x ∷ l) = x ∷ padded n l
+padded n l = filled (pos 0) n l
 
 -- a table of h rows of w numbers: the given rows, then zeros
 abbrev pub table : ℕ → ℕ → List (List ℤ) → List (List ℤ)

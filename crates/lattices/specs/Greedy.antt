@@ -79,7 +79,7 @@ shorter r (s ∷ rows) = ltZ (N (r .vector)) (N (lastOf s rows .vector))
 abbrev pub joined : Pass → List Row
 joined p = p .first ++ (p .last ∷ [])
 
--- steps 2 to 6, repeated until the last vector is kept; the fuel is always enough (proved in the crate `minima`)
+-- steps 2 to 6, repeated until the last vector is kept; the fuel is always enough (`greedy-steps` of greedy_reduction/specs/Fuel.antt)
 abbrev pub repeat : (List Row → Counted) → ℕ → List Row → Counted
 repeat reduce zero rows = record { rows = rows; passes = 0 }
 repeat reduce (suc fuel) rows =

@@ -3,6 +3,7 @@ use mathlib.Core.Path.{_≡_, refl}
 use mathlib.Core.List.{List, [], _∷_}
 use Prim.Native.Nat.{ℕ}
 use lib.IntN.{ℤ, pos, negℤ}
+use Rattle.integers.specs.All.{All}
 use Rattle.lattices.specs.Vector.{dot, _⊕_, _⊙_, comb}
 use Rattle.lattices.specs.Volume.{squaredVolume, isDependent}
 use Rattle.lattices.specs.Nearest.{least, nearest}
@@ -10,12 +11,9 @@ use Rattle.lattices.specs.Greedy.{insert, order, credited, greedy}
 use Rattle.lattices.specs.Refusal.{mostVectors, mostCoordinates}
 use Rattle.lattices.specs.Answer.{Reduction, Nearest, padded, table, noReduction, reductionOf, nearestOf}
 
--- numbers as document 01 writes them
-abbrev pub + : ℕ → ℤ
-+ n = pos n
-
-abbrev pub − : ℕ → ℤ
-− n = negℤ (pos n)
+-- −n, n being at least 1
+abbrev pub minus : ℕ → ℤ
+minus n = negℤ (pos n)
 
 pub data Known : Type 0 where
   reduces : (d m : ℕ) → List ℤ → Reduction → Known
@@ -43,59 +41,55 @@ found vector coefficients square = record {
 }
 
 abbrev pub unit1 : List (List ℤ)
-unit1 = (+ 1 ∷ []) ∷ []
+unit1 = (pos 1 ∷ []) ∷ []
 
 abbrev pub unit2 : List (List ℤ)
-unit2 = (+ 1 ∷ + 0 ∷ []) ∷ (+ 0 ∷ + 1 ∷ []) ∷ []
+unit2 = (pos 1 ∷ pos 0 ∷ []) ∷ (pos 0 ∷ pos 1 ∷ []) ∷ []
 
 abbrev pub unit4 : List (List ℤ)
 unit4 =
-    (+ 1 ∷ + 0 ∷ + 0 ∷ + 0 ∷ [])
-    ∷ (+ 0 ∷ + 1 ∷ + 0 ∷ + 0 ∷ [])
-    ∷ (+ 0 ∷ + 0 ∷ + 1 ∷ + 0 ∷ [])
-    ∷ (+ 0 ∷ + 0 ∷ + 0 ∷ + 1 ∷ [])
+    (pos 1 ∷ pos 0 ∷ pos 0 ∷ pos 0 ∷ [])
+    ∷ (pos 0 ∷ pos 1 ∷ pos 0 ∷ pos 0 ∷ [])
+    ∷ (pos 0 ∷ pos 0 ∷ pos 1 ∷ pos 0 ∷ [])
+    ∷ (pos 0 ∷ pos 0 ∷ pos 0 ∷ pos 1 ∷ [])
     ∷ []
 
 abbrev pub known : List Known
 known =
     -- P1
-    reduces 1 1 (− 3 ∷ []) (reduced ((− 3 ∷ []) ∷ []) unit1 unit1 (+ 9 ∷ []) 0)
+    reduces 1 1 (minus 3 ∷ []) (reduced ((minus 3 ∷ []) ∷ []) unit1 unit1 (pos 9 ∷ []) 0)
     -- P2
-    ∷ reduces 2 2 (+ 1 ∷ + 0 ∷ + 4 ∷ + 1 ∷ [])
-    (reduced ((+ 1 ∷ + 0 ∷ []) ∷ (+ 0 ∷ + 1 ∷ []) ∷ []) ((+ 1 ∷ + 0 ∷ []) ∷ (− 4 ∷ + 1 ∷ []) ∷ [])
-    ((+ 1 ∷ + 0 ∷ []) ∷ (+ 4 ∷ + 1 ∷ []) ∷ []) (+ 1 ∷ + 1 ∷ []) 1)
+    ∷ reduces 2 2 (pos 1 ∷ pos 0 ∷ pos 4 ∷ pos 1 ∷ [])
+    (reduced ((pos 1 ∷ pos 0 ∷ []) ∷ (pos 0 ∷ pos 1 ∷ []) ∷ []) ((pos 1 ∷ pos 0 ∷ []) ∷ (minus 4 ∷ pos 1 ∷ []) ∷ [])
+    ((pos 1 ∷ pos 0 ∷ []) ∷ (pos 4 ∷ pos 1 ∷ []) ∷ []) (pos 1 ∷ pos 1 ∷ []) 1)
     -- P3
-    ∷ reduces 2 2 (+ 2 ∷ + 0 ∷ + 1 ∷ + 3 ∷ [])
-    (reduced ((+ 2 ∷ + 0 ∷ []) ∷ (+ 1 ∷ + 3 ∷ []) ∷ []) unit2 unit2 (+ 4 ∷ + 10 ∷ []) 1)
+    ∷ reduces 2 2 (pos 2 ∷ pos 0 ∷ pos 1 ∷ pos 3 ∷ [])
+    (reduced ((pos 2 ∷ pos 0 ∷ []) ∷ (pos 1 ∷ pos 3 ∷ []) ∷ []) unit2 unit2 (pos 4 ∷ pos 10 ∷ []) 1)
     -- P4
-    ∷ reduces 2 2 (+ 2 ∷ + 0 ∷ − 1 ∷ + 3 ∷ [])
-    (reduced ((+ 2 ∷ + 0 ∷ []) ∷ (+ 1 ∷ + 3 ∷ []) ∷ []) ((+ 1 ∷ + 0 ∷ []) ∷ (+ 1 ∷ + 1 ∷ []) ∷ [])
-    ((+ 1 ∷ + 0 ∷ []) ∷ (− 1 ∷ + 1 ∷ []) ∷ []) (+ 4 ∷ + 10 ∷ []) 1)
+    ∷ reduces 2 2 (pos 2 ∷ pos 0 ∷ minus 1 ∷ pos 3 ∷ [])
+    (reduced ((pos 2 ∷ pos 0 ∷ []) ∷ (pos 1 ∷ pos 3 ∷ []) ∷ []) ((pos 1 ∷ pos 0 ∷ []) ∷ (pos 1 ∷ pos 1 ∷ []) ∷ [])
+    ((pos 1 ∷ pos 0 ∷ []) ∷ (minus 1 ∷ pos 1 ∷ []) ∷ []) (pos 4 ∷ pos 10 ∷ []) 1)
     -- P5
-    ∷ reduces 2 2 (+ 5 ∷ + 8 ∷ + 8 ∷ + 13 ∷ [])
-    (reduced ((+ 0 ∷ − 1 ∷ []) ∷ (− 1 ∷ + 0 ∷ []) ∷ []) ((+ 8 ∷ − 5 ∷ []) ∷ (− 13 ∷ + 8 ∷ []) ∷ [])
-    ((− 8 ∷ − 5 ∷ []) ∷ (− 13 ∷ − 8 ∷ []) ∷ []) (+ 1 ∷ + 1 ∷ []) 4)
+    ∷ reduces 2 2 (pos 5 ∷ pos 8 ∷ pos 8 ∷ pos 13 ∷ [])
+    (reduced ((pos 0 ∷ minus 1 ∷ []) ∷ (minus 1 ∷ pos 0 ∷ []) ∷ []) ((pos 8 ∷ minus 5 ∷ []) ∷ (minus 13 ∷ pos 8 ∷ []) ∷ [])
+    ((minus 8 ∷ minus 5 ∷ []) ∷ (minus 13 ∷ minus 8 ∷ []) ∷ []) (pos 1 ∷ pos 1 ∷ []) 4)
     -- P6
-    ∷ reduces 4 4 (+ 2 ∷ + 0 ∷ + 0 ∷ + 0 ∷ + 0 ∷ + 2 ∷ + 0 ∷ + 0 ∷ + 0 ∷ + 0 ∷ + 2 ∷ + 0 ∷ + 1 ∷ + 1 ∷ + 1 ∷ + 1 ∷ [])
-    (reduced ((+ 2 ∷ + 0 ∷ + 0 ∷ + 0 ∷ []) ∷ (+ 0 ∷ + 2 ∷ + 0 ∷ + 0 ∷ []) ∷ (+ 0 ∷ + 0 ∷ + 2 ∷ + 0 ∷ []) ∷ (+ 1 ∷ + 1 ∷ + 1 ∷ + 1 ∷ []) ∷ [])
-    unit4 unit4 (+ 4 ∷ + 4 ∷ + 4 ∷ + 4 ∷ []) 3)
+    ∷ reduces 4 4 (pos 2 ∷ pos 0 ∷ pos 0 ∷ pos 0 ∷ pos 0 ∷ pos 2 ∷ pos 0 ∷ pos 0 ∷ pos 0 ∷ pos 0 ∷ pos 2 ∷ pos 0 ∷ pos 1 ∷ pos 1 ∷ pos 1 ∷ pos 1 ∷ [])
+    (reduced ((pos 2 ∷ pos 0 ∷ pos 0 ∷ pos 0 ∷ []) ∷ (pos 0 ∷ pos 2 ∷ pos 0 ∷ pos 0 ∷ []) ∷ (pos 0 ∷ pos 0 ∷ pos 2 ∷ pos 0 ∷ []) ∷ (pos 1 ∷ pos 1 ∷ pos 1 ∷ pos 1 ∷ []) ∷ [])
+    unit4 unit4 (pos 4 ∷ pos 4 ∷ pos 4 ∷ pos 4 ∷ []) 3)
     -- P7, P8
-    ∷ reduces 1 1 (+ 0 ∷ []) (noReduction 5)
-    ∷ reduces 2 2 (+ 1 ∷ + 2 ∷ + 2 ∷ + 4 ∷ []) (noReduction 5)
+    ∷ reduces 1 1 (pos 0 ∷ []) (noReduction 5)
+    ∷ reduces 2 2 (pos 1 ∷ pos 2 ∷ pos 2 ∷ pos 4 ∷ []) (noReduction 5)
     -- P9
-    ∷ nearest-to (+ 1 ∷ + 1 ∷ []) 2 2 (+ 2 ∷ + 0 ∷ + 0 ∷ + 2 ∷ []) (found (+ 0 ∷ + 0 ∷ []) (+ 0 ∷ + 0 ∷ []) 2)
+    ∷ nearest-to (pos 1 ∷ pos 1 ∷ []) 2 2 (pos 2 ∷ pos 0 ∷ pos 0 ∷ pos 2 ∷ []) (found (pos 0 ∷ pos 0 ∷ []) (pos 0 ∷ pos 0 ∷ []) 2)
     -- P10
-    ∷ nearest-to (+ 14 ∷ + 9 ∷ []) 2 2 (+ 20 ∷ + 0 ∷ + 10 ∷ + 20 ∷ []) (found (+ 20 ∷ + 0 ∷ []) (+ 1 ∷ + 0 ∷ []) 117)
+    ∷ nearest-to (pos 14 ∷ pos 9 ∷ []) 2 2 (pos 20 ∷ pos 0 ∷ pos 10 ∷ pos 20 ∷ []) (found (pos 20 ∷ pos 0 ∷ []) (pos 1 ∷ pos 0 ∷ []) 117)
     ∷ []
 
 abbrev pub Holds : Known → Type 0
 Holds (reduces d m numbers r) = reductionOf (record { numbers = numbers; d = d; m = m; target = [] }) ≡ r
 Holds (nearest-to t d m numbers r) = nearestOf (record { numbers = numbers; d = d; m = m; target = t }) ≡ r
 
-abbrev pub All : List Known → Type 0
-All [] = Unit {0}
-All (k ∷ ks) = Holds k × All ks
-
-pub known-results : All known
+pub known-results : All Holds known
 unfolding dot _⊕_ _⊙_ comb squaredVolume isDependent least nearest insert order credited greedy reductionOf nearestOf
 known-results = (refl, (refl, (refl, (refl, (refl, (refl, (refl, (refl, (refl, (refl, tt))))))))))

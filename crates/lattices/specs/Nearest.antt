@@ -6,7 +6,7 @@ use Prim.Native.Nat.{ℕ, zero, suc}
 use lib.IntN.{ℤ, pos, negℤ, natAbs, _*ℤ_}
 use lib.Signed.{leZ}
 -- lists compared from the first number on, as signed numbers
-pub use Rattle.integers.specs.Lex.{below}
+pub use Rattle.integers.specs.Below.{below}
 use Rattle.lattices.specs.Vector.{Vec, N, _⊖_, _⊙_, comb}
 
 -- value of a coefficient list for a target: squared distance first, then the list

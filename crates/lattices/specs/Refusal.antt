@@ -6,10 +6,11 @@ use lib.IntN.{ℤ, pos, natAbs}
 use lib.Signed.{ltZ}
 use lib.Dec.{leb, ltb, eqb}
 use lib.ListN.{length, take, drop}
+use Rattle.integers.specs.Every.{any}
 use Rattle.lattices.specs.Vector.{Vec, N}
 use Rattle.lattices.specs.Volume.{isDependent}
 
--- the limits of "What is sold"; only `mostCoordinates` knows how many coordinates a vector may have
+-- the limits of "What is sold"
 abbrev pub mostVectors : ℕ
 mostVectors = 4
 
@@ -39,10 +40,6 @@ basis i = vectorsOf (i .d) (i .m) (i .numbers)
 
 abbrev pub oneTo : ℕ → ℕ → Bool
 oneTo most n = leb 1 n && leb n most
-
-abbrev pub any {ℓ} : {A : Type ℓ} → (A → Bool) → List A → Bool
-any f [] = false
-any f (x ∷ l) = f x || any f l
 
 -- a coordinate beyond ±20,000, or over the length limit
 abbrev pub tooLong : Vec → Bool

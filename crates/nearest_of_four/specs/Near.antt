@@ -13,16 +13,16 @@ use Rattle.integers.specs.Order.{≤ℤ-trans, ≤ℤ-of-≡}
 use Rattle.integers.specs.Certificate.{NN, _⊞_, _⊠_, le, eq, nn-pos, nn-cancel, nn-ring, by-nn, le-of-nn}
 use Rattle.integers.specs.Size.{Within, within-mul, within-upper, root, root-within, load}
 use Rattle.lattices.specs.Vector.{Vec, N, nth, dot, comb, _⊕_, _⊙_, _⊖_}
-use Rattle.lattices.specs.VectorLaws.{_≈_, ≈-refl, ≈-sym, ≈-trans, ≈-⊕, ≈-⊙, ≈-N, bilinear, dot-comm, nil-dot, N-nonneg, square-≤, comb-cons, comb-none}
+use Rattle.lattices.specs.Laws.Vector.{_≈_, ≈-refl, ≈-sym, ≈-trans, ≈-⊕, ≈-⊙, ≈-N, bilinear, dot-comm, nil-dot, N-nonneg, square-≤, comb-cons, comb-none}
 use Rattle.lattices.specs.Nearest.{nearest}
 use Rattle.lattices.specs.Answer.{padded}
-use Rattle.lattices.specs.AnswerLaws.{nth-padded, take-padded}
+use Rattle.lattices.specs.Laws.Answer.{nth-padded, take-padded}
 use Rattle.exterior_algebra.specs.Cramer.{sizes}
 use Rattle.exterior_algebra.specs.Sizes.{Short, product-put-≤, near-le}
 use Rattle.successive_minima.specs.Reduced.{Reduced}
-use Rattle.successive_minima.specs.ReducedLaws.{reduced-last}
-use Rattle.successive_minima.specs.NearestLaws.{nearest-count, nearest-shorter}
-use Rattle.successive_minima.specs.Digits.{Bounded}
+use Rattle.successive_minima.specs.Laws.ReducedLaws.{reduced-last}
+use Rattle.successive_minima.specs.Laws.NearestLaws.{nearest-count, nearest-shorter}
+use Rattle.successive_minima.specs.Laws.Digits.{Bounded}
 use Rattle.nearest_of_three.specs.Searchable.{Searchable, Given, given, width, volume-positive, coordinates as long}
 use Rattle.nearest_of_three.specs.Gram.{behind}
 use Rattle.row_operations.specs.Minus.{room}
@@ -41,7 +41,7 @@ pub near-closer : {d : ℕ} {b : List Vec} {t r : Vec} → Near d b t → N r �
 near-closer n h = record { reduced = n .reduced; short = n .short; target = ≤ℤ-trans h (n .target) }
 
 -- the same of three vectors and the last one
-pub record Four (vs : List Vec) (b : Vec) : Type 0 where
+pub record FourVectors (vs : List Vec) (b : Vec) : Type 0 where
   pub count : length vs ≡ 3
   pub reduced : Reduced (vs ++ (b ∷ []))
   pub short : Short (pos 400000000) (vs ++ (b ∷ []))
@@ -51,7 +51,7 @@ module _ (b : List Vec) (e : length b ≡ 4) where
   pub four-is : take 4 b ≡ take 3 b ++ (getD b 3 [] ∷ [])
   four-is = take-suc b 3 [] (omega arith)
 
-  pub four : {t : Vec} → Near 4 b t → Four (take 3 b) (getD b 3 [])
+  pub four : {t : Vec} → Near 4 b t → FourVectors (take 3 b) (getD b 3 [])
   four n = record {
     count = omega (arith, length-take 3 b);
     reduced = subst Reduced four-is (n .reduced);

@@ -14,31 +14,31 @@ use Rattle.integers.specs.Identity.{by-ring, reads}
 use Rattle.integers.specs.Order.{≤ℤ-trans, ≤ℤ-of-≡, ≤ℤ-or-<ℤ}
 use Rattle.integers.specs.Certificate.{NN, _⊞_, _⊠_, le, lt, nn-pos, nn-ring, by-nn, by-lt}
 use Rattle.integers.specs.Size.{Within, within-lower, size-mul}
-use Rattle.integers.specs.Lists.{same, entries, length-⊙, length-⊕-same, nth-replicate}
+use Rattle.integers.specs.ListLaws.{same, entries, length-⊙, length-⊕-same, nth-replicate}
 use Rattle.integers.specs.Lex.{Nonneg, below->}
 use Rattle.lattices.specs.Vector.{Vec, N, nth, comb, _⊕_, _⊙_, _⊖_}
-use Rattle.lattices.specs.VectorLaws.{_≈_, ≈-refl, ≈-sym, ≈-trans, ≈-N, ≈-⊕, comb-zero, ⊖-zero, N-nonneg}
+use Rattle.lattices.specs.Laws.Vector.{_≈_, ≈-refl, ≈-sym, ≈-trans, ≈-N, ≈-⊕, comb-zero, ⊖-zero, N-nonneg}
 use Rattle.lattices.specs.Nearest.{nearest}
 use Rattle.exterior_algebra.specs.Sizes.{coefficient-≤, near-le}
-use Rattle.successive_minima.specs.Values.{gain, change}
-use Rattle.successive_minima.specs.ValueLaws.{gain-is, residual-⊕, least-of}
-use Rattle.successive_minima.specs.ReducedLaws.{reduced-last}
-use Rattle.successive_minima.specs.Digits.{Bounded, zeros, power, number, falls, power-nonneg}
-use Rattle.successive_minima.specs.Layers.{Layer, layers}
-use Rattle.successive_minima.specs.NearestLaws.{ended, nearest-only}
+use Rattle.successive_minima.specs.Laws.Values.{gain, change}
+use Rattle.successive_minima.specs.Laws.ValueLaws.{gain-is, residual-⊕, least-of}
+use Rattle.successive_minima.specs.Laws.ReducedLaws.{reduced-last}
+use Rattle.successive_minima.specs.Laws.Digits.{Bounded, zeros, power, number, falls, power-nonneg}
+use Rattle.successive_minima.specs.Laws.Layers.{Layer, layers}
+use Rattle.successive_minima.specs.Laws.NearestLaws.{ended, nearest-only}
 use Rattle.nearest_of_three.specs.State.{smaller, gain-residual}
 use Rattle.nearest_of_three.specs.Searchable.{width, volume-positive}
 use Rattle.row_operations.specs.Minus.{room}
 use Rattle.nearest_of_four.specs.declared.Step.{Step}
-use Rattle.nearest_of_four.specs.Near.{Near, Four, four, four-is}
+use Rattle.nearest_of_four.specs.Near.{Near, FourVectors, four, four-is}
 use Rattle.nearest_of_four.specs.Steps.{Better}
 
-pub record State (vs : List Vec) (b t : Vec) (x r : List ℤ) : Type 0 where
+pub record LayerState (vs : List Vec) (b t : Vec) (x r : List ℤ) : Type 0 where
   pub rest : r ≈ t ⊖ comb x (vs ++ (b ∷ []))
   pub count : length x ≡ 4
   pub closer : N r ≤ℤ N t
 
-pub start : (vs : List Vec) (b t : Vec) → State vs b t (replicate 4 (pos 0)) t
+pub start : (vs : List Vec) (b t : Vec) → LayerState vs b t (replicate 4 (pos 0)) t
 start vs b t = record { rest = ≈-sym (⊖-zero t (comb-zero (replicate 4 (pos 0)) (nth-replicate 4) (vs ++ (b ∷ [])))); count = refl; closer = ≤ℤ-refl (N t) }
 
 -- ---- the measure: the value as a number in a base above the entries of every step, lifted above 0
@@ -62,7 +62,7 @@ number-lower (y ∷ x) h = law y (pos 320000000000000000) (power base (length x)
     law : (y c p n l : ℤ) → negℤ c ≤ℤ y → NN p → NN (n +ℤ l) → NN (y *ℤ p +ℤ n +ℤ (c *ℤ p +ℤ l))
     law y c p n l h k m = nn-ring (y ∷ c ∷ p ∷ n ∷ l ∷ []) (le h ⊠ k ⊞ m) (search reads depth 8) (search reads depth 8) tt
 
-module _ (vs : List Vec) (b t : Vec) (v : Four vs b) (short : N t ≤ℤ pos 400000000) where
+module _ (vs : List Vec) (b t : Vec) (v : FourVectors vs b) (short : N t ≤ℤ pos 400000000) where
   bs : List Vec
   bs = vs ++ (b ∷ [])
 
@@ -70,7 +70,7 @@ module _ (vs : List Vec) (b t : Vec) (v : Four vs b) (short : N t ≤ℤ pos 400
   unfolding bs
   length-bs = length-append vs (b ∷ []) ∙ omega (arith, v .count)
 
-  pub small : (x r : List ℤ) → State vs b t x r → Bounded 320000000000000000 x
+  pub small : (x r : List ℤ) → LayerState vs b t x r → Bounded 320000000000000000 x
   unfolding bs
   small x r s j = pick (decLt j 4)
     where
@@ -85,7 +85,7 @@ module _ (vs : List Vec) (b t : Vec) (v : Four vs b) (short : N t ≤ℤ pos 400
       pick (no h) = subst (Within 320000000000000000) (sym (List·getD-eq-default x (pos 0) (omega (arith, s .count, h)))) (record { within = omega arith })
 
   -- ---- a step
-  module _ (x r : List ℤ) (s : State vs b t x r) (e : Step) (h : Better vs b r e) where
+  module _ (x r : List ℤ) (s : LayerState vs b t x r) (e : Step) (h : Better vs b r e) where
     shorter : N (e .rest) ≤ℤ N r
     shorter = ≤ℤ-trans (≤ℤ-of-≡ (≈-N (h .rest) ∙ gain-is r y)) (pick (≤ℤ-or-<ℤ (gain r y) (pos 0)))
       where
@@ -102,7 +102,7 @@ module _ (vs : List Vec) (b t : Vec) (v : Four vs b) (short : N t ≤ℤ pos 400
     counted : length x ≡ length (e .list)
     counted = omega (arith, s .count, h .count, v .count)
 
-    pub next : State vs b t (x ⊕ e .list) (e .rest)
+    pub next : LayerState vs b t (x ⊕ e .list) (e .rest)
     next = record {
       rest = ≈-trans (h .rest) (≈-trans (≈-⊕ (s .rest) ≈-refl) (≈-sym (residual-⊕ (vs ++ (b ∷ [])) t x (e .list))));
       count = length-⊕-same x (e .list) counted ∙ s .count;
@@ -125,7 +125,7 @@ module _ (vs : List Vec) (b t : Vec) (v : Four vs b) (short : N t ≤ℤ pos 400
         raised m n {k} {l} q p = rw q (by-lt (m ∷ n ∷ l ∷ []) (lt p) (search reads depth 8) (search reads depth 8) tt)
 
   -- ---- the end
-  pub nearest-is : (x r : List ℤ) → State vs b t x r → ((j : ℤ) → natAbs j ≤ 2 → Layer r vs b j) → x ≡ nearest (vs ++ (b ∷ [])) t
+  pub nearest-is : (x r : List ℤ) → LayerState vs b t x r → ((j : ℤ) → natAbs j ≤ 2 → Layer r vs b j) → x ≡ nearest (vs ++ (b ∷ [])) t
   unfolding bs
   nearest-is x r s f = nearest-only bs (v .reduced) (omega (arith, length-bs)) t x (least-of bs t x (s .count ∙ sym length-bs) none)
     where
@@ -136,7 +136,7 @@ module _ (vs : List Vec) (b t : Vec) (v : Four vs b) (short : N t ≤ℤ pos 400
           (subst (λ l. Nonneg (change r bs l)) (sym (o .is)) (layers r (reduced-last vs b (v .reduced) .0) (omega (arith, v .count)) f (o .end) (o .start) (o .count ∙ sym (v .count))))
 
 -- the same of four vectors in an array
-pub ends : (b : List Vec) → length b ≡ 4 → {t : Vec} → Near 4 b t → (x r : List ℤ) → State (take 3 b) (getD b 3 []) t x r → ((j : ℤ) → natAbs j ≤ 2 → Layer r (take 3 b) (getD b 3 []) j)
+pub ends : (b : List Vec) → length b ≡ 4 → {t : Vec} → Near 4 b t → (x r : List ℤ) → LayerState (take 3 b) (getD b 3 []) t x r → ((j : ℤ) → natAbs j ≤ 2 → Layer r (take 3 b) (getD b 3 []) j)
     → (x ≡ nearest (take 4 b) t) × (r ≈ t ⊖ comb (nearest (take 4 b) t) (take 4 b))
 ends b e {t} n x r s f =
     let p = nearest-is (take 3 b) (getD b 3 []) t (four b e n) (n .target) x r s f in

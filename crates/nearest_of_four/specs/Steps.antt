@@ -12,16 +12,17 @@ use Rattle.integers.specs.Identity.{by-ring, reads}
 use Rattle.integers.specs.Order.{≤ℤ-or-<ℤ, <ℤ-ltZ, ≤ℤ-ltZ}
 use Rattle.integers.specs.Certificate.{le, lt, by-nn, by-lt}
 use Rattle.integers.specs.Size.{Within}
-use Rattle.integers.specs.Lex.{below, Nonneg}
+use Rattle.integers.specs.Below.{below}
+use Rattle.integers.specs.Lex.{Nonneg}
 use Rattle.lattices.specs.Vector.{Vec, N, nth, dot, comb, _⊙_, _⊖_}
-use Rattle.lattices.specs.VectorLaws.{_≈_, ≈-trans, ≈-of-≡, ≈-N, bilinear, comb-snoc}
+use Rattle.lattices.specs.Laws.Vector.{_≈_, ≈-trans, ≈-of-≡, ≈-N, bilinear, comb-snoc}
 use Rattle.lattices.specs.Nearest.{nearest}
 use Rattle.lattices.specs.Answer.{padded}
-use Rattle.successive_minima.specs.Values.{gain, change}
-use Rattle.successive_minima.specs.ValueLaws.{gain-is, least-is}
-use Rattle.successive_minima.specs.NearestLaws.{nearest-least, nearest-count}
-use Rattle.successive_minima.specs.Digits.{Bounded, zeros, not-below-nonneg}
-use Rattle.successive_minima.specs.Layers.{Layer, layer-by-search}
+use Rattle.successive_minima.specs.Laws.Values.{gain, change}
+use Rattle.successive_minima.specs.Laws.ValueLaws.{gain-is, least-is}
+use Rattle.successive_minima.specs.Laws.NearestLaws.{nearest-least, nearest-count}
+use Rattle.successive_minima.specs.Laws.Digits.{Bounded, zeros, not-below-nonneg}
+use Rattle.successive_minima.specs.Laws.Layers.{Layer, layer-by-search}
 use Rattle.nearest_of_three.specs.Numbers.{negative}
 use Rattle.nearest_of_three.specs.State.{gain-residual}
 use Rattle.nearest_of_three.specs.Found.{no-such}

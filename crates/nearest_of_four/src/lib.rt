@@ -7,15 +7,15 @@ ghost use lib.IntN.{natAbs};
 ghost use lib.ListN.{getD, take};
 ghost use Rattle.integers.specs.Size.{load};
 ghost use Rattle.lattices.specs.Vector.{nth, N, comb, _⊖_};
-ghost use Rattle.lattices.specs.VectorLaws.{_≈_};
+ghost use Rattle.lattices.specs.Laws.Vector.{_≈_};
 ghost use Rattle.lattices.specs.Nearest.{nearest, below};
 ghost use Rattle.lattices.specs.Answer.{padded};
-ghost use Rattle.successive_minima.specs.Digits.{Bounded, zeros};
+ghost use Rattle.successive_minima.specs.Laws.Digits.{Bounded, zeros};
 ghost use Rattle.nearest_of_three.specs.Numbers.{negative};
 ghost use Rattle.row_operations.specs.Minus.{room};
 ghost use Rattle.nearest_of_four.specs.Near.{Near, Reachable};
 ghost use Rattle.nearest_of_four.specs.Steps.{Solved, Decided};
-ghost use Rattle.successive_minima.specs.Members.{isMember};
+ghost use Rattle.successive_minima.specs.Member.{isMember};
 
 // A step: the coefficients to add, what they leave of the residual, and whether that has a smaller value.
 struct Step {

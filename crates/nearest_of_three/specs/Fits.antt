@@ -11,12 +11,12 @@ use mir.Val.{SFits}
 use Rattle.integers.specs.Ring.{negsuc-zero-*ℤ}
 use Rattle.integers.specs.Identity.{by-ring, reads}
 use Rattle.integers.specs.Size.{Within, within-add, within-sub, within-neg, within-mul, within-le, fits-within}
-use Rattle.integers.specs.Lists.{entries, nth-⊕, length-⊕-same, length-⊖-same}
+use Rattle.integers.specs.ListLaws.{entries, nth-⊕, length-⊕-same, length-⊖-same}
 use Rattle.lattices.specs.Vector.{Vec, nth, dot, _⊕_, _⊙_}
-use Rattle.lattices.specs.VectorLaws.{against, bilinear, dot-comm, comb-dot}
-use Rattle.row_operations.specs.Dot.{dot-suc, Turn}
-use Rattle.successive_minima.specs.Digits.{Bounded}
-use Rattle.successive_minima.specs.Snoc.{length-against}
+use Rattle.lattices.specs.Laws.Vector.{against, bilinear, dot-comm, comb-dot}
+use Rattle.row_operations.specs.Dot.{dot-suc, DotTurn}
+use Rattle.successive_minima.specs.Laws.Digits.{Bounded}
+use Rattle.successive_minima.specs.Laws.Snoc.{length-against}
 use Rattle.nearest_of_three.specs.Numbers.{moved, gainOf, Sized}
 use Rattle.nearest_of_three.specs.Filled.{Filled}
 
@@ -28,7 +28,7 @@ sum-within {P} (suc i) a b f = rw dot-suc (within-le (omega arith) (within-add (
 
 -- what fits in turn i
 pub turn-at : (a b : List ℤ) → ((k : ℕ) → Within 3000000000000000000 (nth a k *ℤ nth b k)) → (i : ℕ) → i ≤ 2
-    → SFits w64 (nth a i) → SFits w64 (nth b i) → Turn a b i
+    → SFits w64 (nth a i) → SFits w64 (nth b i) → DotTurn a b i
 turn-at a b f i h p q = record { left = p; right = q; product = fits-within (f i) tt; sum = fits-within sum tt; next = fits-within (within-add sum (f i)) tt }
   where
     sum : Within (2 * 3000000000000000000) (dot (take i a) (take i b))

@@ -10,7 +10,7 @@ use lib.ListN.{getD}
 use native.Mathlib.Omega.{arith}
 use Rattle.integers.specs.Size.{within-le}
 use Rattle.lattices.specs.Vector.{nth}
-use Rattle.successive_minima.specs.Digits.{Bounded}
+use Rattle.successive_minima.specs.Laws.Digits.{Bounded}
 use Rattle.nearest_of_three.specs.declared.Step.{Step}
 use Rattle.nearest_of_three.specs.Numbers.{improvesOf}
 use Rattle.nearest_of_three.specs.Steps.{steps, count, steps-bounded, steps-behind}

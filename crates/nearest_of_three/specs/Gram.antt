@@ -8,12 +8,12 @@ use native.Mathlib.Decide.{decLt}
 use lib.IntN.{ℤ, pos, negℤ, _+ℤ_, _-ℤ_}
 use lib.ListN.{getD, take, replicate, length-take, List·getD-eq-default}
 use lib.Seq.{getD-take}
-use Rattle.integers.specs.Lists.{nth-replicate}
+use Rattle.integers.specs.ListLaws.{nth-replicate}
 use Rattle.integers.specs.Identity.{by-ring, reads}
 use Rattle.lattices.specs.Vector.{Vec, N, nth, dot, comb, _⊕_, _⊖_}
-use Rattle.lattices.specs.VectorLaws.{≈-refl, ≈-dot, nth-≈, bilinear, dot-comm, dot-nil, nil-dot, comb-dot, against}
-use Rattle.successive_minima.specs.Values.{gain}
-use Rattle.successive_minima.specs.Table.{improves}
+use Rattle.lattices.specs.Laws.Vector.{≈-refl, ≈-dot, nth-≈, bilinear, dot-comm, dot-nil, nil-dot, comb-dot, against}
+use Rattle.successive_minima.specs.Laws.Values.{gain}
+use Rattle.successive_minima.specs.Laws.Table.{improves}
 use Rattle.nearest_of_three.specs.Numbers.{moved, gainOf, negative, improvesOf}
 use Rattle.nearest_of_three.specs.Filled.{Filled}
 use Rattle.nearest_of_three.specs.Fits.{nth-against, nth-moved}

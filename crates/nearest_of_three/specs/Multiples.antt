@@ -16,11 +16,11 @@ use Rattle.integers.specs.Identity.{by-ring, reads}
 use Rattle.integers.specs.Certificate.{_⊞_, _⊠_, le, lt, by-lt, by-nn, nn-pos}
 use Rattle.integers.specs.Order.{≤ℤ-or-<ℤ, ≤ℤ-antisymm}
 use Rattle.integers.specs.Size.{Within, within-mul, within-sub, fits-within, size-neg}
-use Rattle.integers.specs.Lists.{nth-⊕, nth-replicate}
+use Rattle.integers.specs.ListLaws.{nth-⊕, nth-replicate}
 use Rattle.integers.specs.Lex.{below-<, below->, below-≡}
 use Rattle.lattices.specs.Vector.{nth, dot, _⊕_, _⊙_}
-use Rattle.lattices.specs.VectorLaws.{dot-comm, zero-dot}
-use Rattle.successive_minima.specs.Digits.{zeros}
+use Rattle.lattices.specs.Laws.Vector.{dot-comm, zero-dot}
+use Rattle.successive_minima.specs.Laws.Digits.{zeros}
 use Rattle.nearest_of_three.specs.Numbers.{moved, gainOf, negative, improvesOf}
 use Rattle.nearest_of_three.specs.Fits.{nth-moved}
 use Rattle.nearest_of_three.specs.Found.{Better, None}
@@ -140,7 +140,7 @@ module _ (g : List (List ℤ)) (c : List ℤ) (i : ℕ) (short : i < 3) (q : ℤ
 
 -- ---- where neither 1 nor −1 leads to a smaller value, the lists of one vector do not
 
-pub record Settled (k : ℕ) (g : List (List ℤ)) (c : List ℤ) : Type 0 where
+pub record SettledAlong (k : ℕ) (g : List (List ℤ)) (c : List ℤ) : Type 0 where
   pub still : (i : ℕ) → i < k → Still (nth (getD g i []) i) (nth c i)
 
 module _ (g : List (List ℤ)) (c : List ℤ) (i : ℕ) (short : i < 3) (s : Still (nth (getD g i []) i) (nth c i)) where
@@ -170,7 +170,7 @@ module _ (g : List (List ℤ)) (c : List ℤ) (i : ℕ) (short : i < 3) (s : Sti
       law n p h = by-lt (n ∷ p ∷ []) (lt h) (search reads depth 20) (search reads depth 20) tt
 
 -- the first two pairs of the table are those of the first two vectors alone
-pub singles-none : (k : ℕ) → k ≤ 2 → (g : List (List ℤ)) (c : List ℤ) → Settled k g c → None (2 * k) g (c ⊕ c)
+pub singles-none : (k : ℕ) → k ≤ 2 → (g : List (List ℤ)) (c : List ℤ) → SettledAlong k g c → None (2 * k) g (c ⊕ c)
 unfolding steps _⊙_
 singles-none zero h g c s i l = absurd (omega arith)
 singles-none (suc k) h g c s zero l = plus g c 0 (omega arith) (s .still 0 (omega arith))
@@ -179,7 +179,7 @@ singles-none (suc k) h g c s (suc (suc zero)) l = plus g c 1 (omega arith) (s .s
 singles-none (suc k) h g c s (suc (suc (suc zero))) l = minus g c 1 (omega arith) (s .still 1 (omega arith))
 singles-none (suc k) h g c s (suc (suc (suc (suc i)))) l = absurd (omega arith)
 
-pub fewer-settled : {k : ℕ} {g : List (List ℤ)} {c : List ℤ} (j : ℕ) → j ≤ k → Settled k g c → Settled j g c
+pub fewer-settled : {k : ℕ} {g : List (List ℤ)} {c : List ℤ} (j : ℕ) → j ≤ k → SettledAlong k g c → SettledAlong j g c
 fewer-settled j h s = record { still = λ i l. s .still i (omega arith) }
 
 -- ---- bits

@@ -6,10 +6,10 @@ use Prim.Native.Nat.{ℕ}
 use lib.IntN.{ℤ, negℤ}
 use lib.ListN.{getD}
 use Rattle.integers.specs.Lists.{_⊖_}
-use Rattle.integers.specs.Lex.{below}
+use Rattle.integers.specs.Below.{below}
 use Rattle.lattices.specs.Vector.{dot}
-use Rattle.lattices.specs.VectorLaws.{against}
-use Rattle.successive_minima.specs.Digits.{Bounded, zeros}
+use Rattle.lattices.specs.Laws.Vector.{against}
+use Rattle.successive_minima.specs.Laws.Digits.{Bounded, zeros}
 
 -- the inner products after the step e
 abbrev pub moved : List (List ℤ) → List ℤ → List ℤ → List ℤ

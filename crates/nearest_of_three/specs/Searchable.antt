@@ -13,13 +13,13 @@ use Rattle.integers.specs.Order.{≤ℤ-trans, leZ-false}
 use Rattle.integers.specs.Certificate.{NN, _⊞_, le, eq, nn-pos, nn-cancel, nn-ring, by-nn, le-of-nn}
 use Rattle.integers.specs.Size.{Within, within-le, within-of-bounds, root-within}
 use Rattle.lattices.specs.Vector.{Vec, N, dot, _⊕_, _⊖_}
-use Rattle.lattices.specs.VectorLaws.{bilinear, dot-comm, nil-dot, N-nonneg, square-≤}
+use Rattle.lattices.specs.Laws.Vector.{bilinear, dot-comm, nil-dot, N-nonneg, square-≤}
 use Rattle.lattices.specs.Volume.{squaredVolume, isDependent}
 use Rattle.exterior_algebra.specs.Dependence.{Fit, independent-exactly}
 use Rattle.exterior_algebra.specs.Sizes.{Short}
 use Rattle.successive_minima.specs.Reduced.{Descending, Reduced}
-use Rattle.successive_minima.specs.ReducedLaws.{reduced-independent}
-use Rattle.successive_minima.specs.Digits.{Bounded}
+use Rattle.successive_minima.specs.Laws.ReducedLaws.{reduced-independent}
+use Rattle.successive_minima.specs.Laws.Digits.{Bounded}
 use Rattle.nearest_of_three.specs.Gram.{behind}
 
 -- the first k vectors of b are reduced and no longer than 20,000, the target no longer than three times that

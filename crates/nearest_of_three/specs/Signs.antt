@@ -12,7 +12,7 @@ use lib.Signed.{ltZ}
 use Rattle.integers.specs.Order.{ltZ-true, ltZ-false, ≤ℤ-antisymm}
 use Rattle.integers.specs.Lex.{below-<, below->, below-≡}
 use Rattle.lattices.specs.Vector.{nth}
-use Rattle.successive_minima.specs.Digits.{zeros}
+use Rattle.successive_minima.specs.Laws.Digits.{zeros}
 use Rattle.nearest_of_three.specs.Numbers.{negative}
 
 pub negative-end : (i : ℕ) (l : List ℤ) → length l ≤ i → negative (drop i l) ≡ false

@@ -17,28 +17,28 @@ use Rattle.integers.specs.Identity.{by-ring, reads}
 use Rattle.integers.specs.Order.{≤ℤ-trans, ≤ℤ-of-≡, ≤ℤ-or-<ℤ}
 use Rattle.integers.specs.Certificate.{NN, _⊞_, _⊠_, le, lt, eq, nn-pos, nn-ring, by-nn, by-lt}
 use Rattle.integers.specs.Size.{Within, within-add, within-mul, within-lower}
-use Rattle.integers.specs.Lists.{same, nth-replicate, nth-⊕, length-⊕-same}
+use Rattle.integers.specs.ListLaws.{same, nth-replicate, nth-⊕, length-⊕-same}
 use Rattle.integers.specs.Lex.{below->, nonneg-ext}
 use Rattle.lattices.specs.Vector.{Vec, N, nth, comb, _⊕_, _⊖_}
-use Rattle.lattices.specs.VectorLaws.{_≈_, ≈-refl, ≈-sym, ≈-dot, ≈-N, ≈-⊕, ≈-⊙, nth-≈, comb-≈, comb-zero, ⊖-zero, N-nonneg}
+use Rattle.lattices.specs.Laws.Vector.{_≈_, ≈-refl, ≈-sym, ≈-dot, ≈-N, ≈-⊕, ≈-⊙, nth-≈, comb-≈, comb-zero, ⊖-zero, N-nonneg}
 use Rattle.lattices.specs.Nearest.{nearest, value}
-use Rattle.lattices.specs.AnswerLaws.{length-padded, nth-padded}
+use Rattle.lattices.specs.Laws.Answer.{length-padded, nth-padded}
 use Rattle.lattices.specs.Answer.{padded}
 use Rattle.exterior_algebra.specs.Sizes.{coefficient-≤, near-le}
-use Rattle.successive_minima.specs.Values.{Least, gain, change}
-use Rattle.successive_minima.specs.ValueLaws.{gain-≈, gain-is, residual-⊕}
-use Rattle.successive_minima.specs.Digits.{Bounded, zeros, power, number, falls, nonneg-not-below, not-below-nonneg}
-use Rattle.successive_minima.specs.Grid.{lists, lists-are}
-use Rattle.successive_minima.specs.Pairs.{pairs-reduced}
-use Rattle.successive_minima.specs.Table.{improves, table-least}
-use Rattle.successive_minima.specs.NearestLaws.{nearest-only}
+use Rattle.successive_minima.specs.Laws.Values.{Least, gain, change}
+use Rattle.successive_minima.specs.Laws.ValueLaws.{gain-≈, gain-is, residual-⊕}
+use Rattle.successive_minima.specs.Laws.Digits.{Bounded, zeros, power, number, falls, nonneg-not-below, not-below-nonneg}
+use Rattle.successive_minima.specs.Laws.Grid.{lists, lists-are}
+use Rattle.successive_minima.specs.Laws.Pairs.{pairs-reduced}
+use Rattle.successive_minima.specs.Laws.Table.{improves, table-least}
+use Rattle.successive_minima.specs.Laws.NearestLaws.{nearest-only}
 use Rattle.nearest_of_three.specs.Numbers.{moved, gainOf, improvesOf, Sized}
 use Rattle.nearest_of_three.specs.Steps.{count, steps-cover}
 use Rattle.nearest_of_three.specs.Found.{Better, None}
 use Rattle.nearest_of_three.specs.Gram.{Products, Gram, products-moved, gain-of, improves-is}
 use Rattle.nearest_of_three.specs.Searchable.{Given, inner-within, reduced-positive, width, volume-positive}
 
-pub record State (k : ℕ) (bs : List Vec) (t : Vec) (g : List (List ℤ)) (c x : List ℤ) : Type 0 where
+pub record SearchState (k : ℕ) (bs : List Vec) (t : Vec) (g : List (List ℤ)) (c x : List ℤ) : Type 0 where
   pub gram : Gram bs g
   pub products : Products bs (t ⊖ comb x bs) c
   pub count : length x ≡ 3
@@ -48,7 +48,7 @@ pub record State (k : ℕ) (bs : List Vec) (t : Vec) (g : List (List ℤ)) (c x 
 products-≈ : {bs : List Vec} {r s : Vec} {c : List ℤ} → r ≈ s → Products bs r c → Products bs s c
 products-≈ {bs} e p = record { at = λ i. p .at i ∙ ≈-dot (≈-refl {u = getD bs i []}) e }
 
-pub start : (k : ℕ) (bs : List Vec) (t : Vec) (g : List (List ℤ)) (c : List ℤ) → Gram bs g → Products bs t c → State k bs t g c (replicate 3 (pos 0))
+pub start : (k : ℕ) (bs : List Vec) (t : Vec) (g : List (List ℤ)) (c : List ℤ) → Gram bs g → Products bs t c → SearchState k bs t g c (replicate 3 (pos 0))
 start k bs t g c q p = record { gram = q; products = products-≈ {r = t} (≈-sym still) p; count = refl; behind = λ j h. nth-replicate 3 j; closer = ≤ℤ-of-≡ (≈-N still) }
   where
     still : t ⊖ comb (replicate 3 (pos 0)) bs ≈ t
@@ -90,7 +90,7 @@ gain-residual u e = ap (λ p. N u -ℤ pos 2 *ℤ p) (≈-dot (≈-refl {u = u})
 
 module _ (k : ℕ) (bs : List Vec) (t : Vec) (v : Given k bs t) (g : List (List ℤ)) where
   -- ---- sizes
-  pub sized : (c x : List ℤ) → State k bs t g c x → Sized 2000000000 g c
+  pub sized : (c x : List ℤ) → SearchState k bs t g c x → Sized 2000000000 g c
   sized c x s = record {
     gram = λ i j. subst (Within 400000000) (sym (s .gram .row i .at j)) (inner-within (getD bs j []) (getD bs i []) refl (v .short j) (v .short i));
     products = λ i. subst (Within 2000000000) (sym (s .products .at i)) (inner-within (getD bs i []) (t ⊖ comb x bs) refl (v .short i) (≤ℤ-trans (s .closer) (v .target)));
@@ -99,7 +99,7 @@ module _ (k : ℕ) (bs : List Vec) (t : Vec) (v : Given k bs t) (g : List (List 
   pub diagonal : Gram bs g → (i : ℕ) → i < k → pos 0 <ℤ nth (getD g i []) i
   diagonal q i h = subst (λ n. pos 0 <ℤ n) (sym (q .row i .at i)) (reduced-positive bs (v .reduced) i (omega (arith, v .count)))
 
-  pub small : (c x : List ℤ) → State k bs t g c x → Bounded 960000000000000000 x
+  pub small : (c x : List ℤ) → SearchState k bs t g c x → Bounded 960000000000000000 x
   small c x s j = pick (decLt j k)
     where
       near : N (comb x bs) ≤ℤ pos 14400000000
@@ -116,7 +116,7 @@ module _ (k : ℕ) (bs : List Vec) (t : Vec) (v : Given k bs t) (g : List (List 
       pick (no h) = subst (Within 960000000000000000) (sym (s .behind j (omega (arith, h)))) (record { within = omega arith })
 
   -- ---- a step
-  module _ (c x e : List ℤ) (s : State k bs t g c x) (l : length e ≡ 3) (b : Better k g (c ⊕ c) e) where
+  module _ (c x e : List ℤ) (s : SearchState k bs t g c x) (l : length e ≡ 3) (b : Better k g (c ⊕ c) e) where
     lower : improves (t ⊖ comb x bs) bs e ≡ true
     lower = sym (improves-is bs g (s .gram) (t ⊖ comb x bs) c e (s .products)) ∙ b .improves
 
@@ -130,7 +130,7 @@ module _ (k : ℕ) (bs : List Vec) (t : Vec) (v : Given k bs t) (g : List (List 
         pick (inl h) = law (N (t ⊖ comb x bs)) (gain (t ⊖ comb x bs) (comb e bs)) h
         pick (inr h) = absurd (subst T (sym lower ∙ below-> e (zeros e) h) tt)
 
-    pub next : State k bs t g (moved g c e) (x ⊕ e)
+    pub next : SearchState k bs t g (moved g c e) (x ⊕ e)
     next = record {
       gram = s .gram;
       products = products-≈ (≈-sym (residual-⊕ bs t x e)) (products-moved bs g (s .gram) (t ⊖ comb x bs) c e (s .products));
@@ -179,7 +179,7 @@ module _ (k : ℕ) (bs : List Vec) (t : Vec) (v : Given k bs t) (g : List (List 
         raised a b z h = by-lt (a ∷ b ∷ z ∷ []) (lt h) (search reads depth 8) (search reads depth 8) tt
 
   -- ---- the end
-  module _ (c x : List ℤ) (s : State k bs t g c x) (n : None (count k) g (c ⊕ c)) where
+  module _ (c x : List ℤ) (s : SearchState k bs t g c x) (n : None (count k) g (c ⊕ c)) where
     y : List ℤ
     y = take k x
 
@@ -223,7 +223,7 @@ module _ (k : ℕ) (bs : List Vec) (t : Vec) (v : Given k bs t) (g : List (List 
 -- ---- the same from the numbers at the start alone: whatever vectors and target they come from
 
 pub record Kept (k : ℕ) (g : List (List ℤ)) (c₀ c x : List ℤ) : Type 0 where
-  pub state : (bs : List Vec) (t : Vec) → Given k bs t → Gram bs g → Products bs t c₀ → State k bs t g c x
+  pub state : (bs : List Vec) (t : Vec) → Given k bs t → Gram bs g → Products bs t c₀ → SearchState k bs t g c x
 
 pub kept-start : (k : ℕ) (g : List (List ℤ)) (c : List ℤ) → Kept k g c c (replicate 3 (pos 0))
 kept-start k g c = record { state = λ bs t v q p. start k bs t g c q p }

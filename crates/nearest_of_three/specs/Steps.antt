@@ -9,11 +9,13 @@ use lib.Dec.{T, eqb, leb, leb→le, eqb→eq}
 use lib.IntN.{ℤ, pos, negsuc, natAbs}
 use lib.ListN.{length, getD, take, drop, length-take}
 use lib.Seq.{getD-take, getD-drop}
-use Rattle.integers.specs.Lex.{below, below-antisymm}
+use Rattle.integers.specs.Every.{every}
+use Rattle.integers.specs.Below.{below}
+use Rattle.integers.specs.Lex.{below-antisymm}
 use Rattle.lattices.specs.Vector.{nth, _⊙_}
 use Rattle.lattices.specs.Answer.{padded}
-use Rattle.successive_minima.specs.Grid.{lists}
-use Rattle.successive_minima.specs.Digits.{Bounded}
+use Rattle.successive_minima.specs.Laws.Grid.{lists}
+use Rattle.successive_minima.specs.Laws.Digits.{Bounded}
 
 -- each list before its opposite
 abbrev paired : List (List ℤ) → List (List ℤ)
@@ -86,19 +88,15 @@ both-right true b t = t
 both-right false b t = absurd t
 
 module _ {A : Type 0} (f : A → Bool) where
-  abbrev every : List A → Bool
-  every [] = true
-  every (x ∷ l) = f x && every l
-
-  every-at : (l : List A) (d : A) → T (f d) → T (every l) → (i : ℕ) → T (f (getD l i d))
+  every-at : (l : List A) (d : A) → T (f d) → T (every f l) → (i : ℕ) → T (f (getD l i d))
   every-at [] d t u i = t
-  every-at (x ∷ l) d t u zero = both-left (f x) (every l) u
-  every-at (x ∷ l) d t u (suc i) = every-at l d t (both-right (f x) (every l) u) i
+  every-at (x ∷ l) d t u zero = both-left (f x) (every f l) u
+  every-at (x ∷ l) d t u (suc i) = every-at l d t (both-right (f x) (every f l) u) i
 
-  every-in : (l : List A) (d : A) → T (every l) → (i : ℕ) → i < length l → T (f (getD l i d))
+  every-in : (l : List A) (d : A) → T (every f l) → (i : ℕ) → i < length l → T (f (getD l i d))
   every-in [] d u i h = absurd (omega arith)
-  every-in (x ∷ l) d u zero h = both-left (f x) (every l) u
-  every-in (x ∷ l) d u (suc i) h = every-in l d (both-right (f x) (every l) u) i (omega arith)
+  every-in (x ∷ l) d u zero h = both-left (f x) (every f l) u
+  every-in (x ∷ l) d u (suc i) h = every-in l d (both-right (f x) (every f l) u) i (omega arith)
 
 -- ---- sizes
 

@@ -11,10 +11,10 @@ ghost use Rattle.integers.specs.Size.{Within};
 ghost use Rattle.lattices.specs.Vector.{nth, dot, _⊕_};
 ghost use Rattle.lattices.specs.Nearest.{nearest};
 ghost use Rattle.lattices.specs.Answer.{padded};
-ghost use Rattle.successive_minima.specs.Digits.{Bounded};
+ghost use Rattle.successive_minima.specs.Laws.Digits.{Bounded};
 ghost use Rattle.nearest_of_three.specs.Numbers.{moved, gainOf, negative, Sized};
 ghost use Rattle.nearest_of_three.specs.Found.{Found, Decided, None};
-ghost use Rattle.nearest_of_three.specs.Multiples.{Lowers, Multiple, Settled};
+ghost use Rattle.nearest_of_three.specs.Multiples.{Lowers, Multiple, SettledAlong};
 ghost use Rattle.nearest_of_three.specs.Gram.{Products, Gram};
 ghost use Rattle.nearest_of_three.specs.Searchable.{Searchable};
 
@@ -227,7 +227,7 @@ fn along(g: [[i64; 3]; 3], c: [i64; 3], k: usize) -> Step
     requires { ⌜ Sized 2000000000 g c ⌝ }
     requires { ⌜ ((i : ℕ) → i < k → pos 0 <ℤ nth (getD g i []) i) ⌝ }
     ensures { λ r. ⌜ Found k g (c ⊕ c) r ⌝ }
-    ensures { λ r. ⌜ (r .better ≡ false → Settled k g c) ⌝ }
+    ensures { λ r. ⌜ (r .better ≡ false → SettledAlong k g c) ⌝ }
 {
     let mut i = k;
     while 0 < i {

@@ -10,7 +10,7 @@ use mir.Syntax.{w64}
 use mir.Val.{SFits}
 use Rattle.integers.specs.Size.{Within, within-add, within-mul, within-le, fits-within}
 use Rattle.lattices.specs.Vector.{nth, dot}
-use Rattle.lattices.specs.VectorLaws.{dot-nil}
+use Rattle.lattices.specs.Laws.Vector.{dot-nil}
 
 pub dot-suc : (i : ℕ) (a b : List ℤ) → dot (take (suc i) a) (take (suc i) b) ≡ dot (take i a) (take i b) +ℤ nth a i *ℤ nth b i
 unfolding dot
@@ -25,14 +25,14 @@ dot-within zero a b f g = record { within = omega arith }
 dot-within {A} {B} (suc i) a b f g = rw dot-suc (within-le (omega arith) (within-add (dot-within i a b f g) (within-mul (f i) (g i))))
 
 -- what fits in turn i: the entries, their product, the sum so far and the next
-pub record Turn (a b : List ℤ) (i : ℕ) : Type 0 where
+pub record DotTurn (a b : List ℤ) (i : ℕ) : Type 0 where
   pub left : SFits w64 (nth a i)
   pub right : SFits w64 (nth b i)
   pub product : SFits w64 (nth a i *ℤ nth b i)
   pub sum : SFits w64 (dot (take i a) (take i b))
   pub next : SFits w64 (dot (take i a) (take i b) +ℤ nth a i *ℤ nth b i)
 
-pub dot-turn : (a b : List ℤ) → ((k : ℕ) → Within 100000 (nth a k)) → ((k : ℕ) → Within 100000 (nth b k)) → (i : ℕ) → i ≤ 4 → Turn a b i
+pub dot-turn : (a b : List ℤ) → ((k : ℕ) → Within 100000 (nth a k)) → ((k : ℕ) → Within 100000 (nth b k)) → (i : ℕ) → i ≤ 4 → DotTurn a b i
 dot-turn a b f g i h = record {
   left = fits-within (f i) tt;
   right = fits-within (g i) tt;

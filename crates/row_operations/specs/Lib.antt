@@ -1,4 +1,5 @@
 -- Rows of numbers: what the engine's vectors and tables are made of.
+pub mod RowStructs
 pub mod Rows
 pub mod Dot
 pub mod Front

@@ -8,7 +8,7 @@ use lib.ListN.{length, getD, set, take}
 use lib.Seq.{set-getD}
 use Rattle.integers.specs.Ring.{*ℤ-+ℤ, negsuc-zero-*ℤ}
 use Rattle.integers.specs.Size.{load, size-add, size-sub}
-use Rattle.integers.specs.Lists.{entries}
+use Rattle.integers.specs.ListLaws.{entries}
 use Rattle.integers.specs.Identity.{by-ring, reads}
 use Rattle.lattices.specs.Vector.{nth, comb, _⊕_, _⊙_, _⊖_}
 

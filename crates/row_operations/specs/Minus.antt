@@ -9,7 +9,7 @@ use mir.Syntax.{w64}
 use mir.Val.{SFits}
 use Rattle.integers.specs.Ring.{negsuc-zero-*ℤ}
 use Rattle.integers.specs.Size.{size-sub, fits-within}
-use Rattle.integers.specs.Lists.{entries, length-⊖-same, length-⊙}
+use Rattle.integers.specs.ListLaws.{entries, length-⊖-same, length-⊙}
 use Rattle.lattices.specs.Vector.{nth, _⊖_, _⊙_}
 use Rattle.row_operations.specs.Front.{front, front-suc, getD-front}
 
@@ -27,12 +27,12 @@ fits : (z : ℤ) → natAbs z ≤ room → SFits w64 z
 fits z h = fits-within {B = room} (record { within = h }) tt
 
 -- what fits at place i: the entry, the multiple and the difference
-pub record Turn (a : List ℤ) (q : ℤ) (b : List ℤ) (i : ℕ) : Type 0 where
+pub record MinusTurn (a : List ℤ) (q : ℤ) (b : List ℤ) (i : ℕ) : Type 0 where
   pub entry : SFits w64 (nth a i)
   pub multiple : SFits w64 (q *ℤ nth b i)
   pub difference : SFits w64 (nth a i -ℤ q *ℤ nth b i)
 
-pub minus-turn : (a : List ℤ) (q : ℤ) (b : List ℤ) (i : ℕ) → natAbs (nth a i) + natAbs (q *ℤ nth b i) ≤ room → Turn a q b i
+pub minus-turn : (a : List ℤ) (q : ℤ) (b : List ℤ) (i : ℕ) → natAbs (nth a i) + natAbs (q *ℤ nth b i) ≤ room → MinusTurn a q b i
 minus-turn a q b i h = record {
   entry = fits (nth a i) (omega arith);
   multiple = fits (q *ℤ nth b i) (omega arith);

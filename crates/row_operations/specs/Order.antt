@@ -16,8 +16,8 @@ use Rattle.lattices.specs.Greedy.{Row, insert, order}
 use Rattle.row_operations.specs.Rows.{rowsOf}
 
 -- coordinates whose squares are far from 64 bits
-abbrev pub Small : List (List ℤ) → Type 0
-Small b = (i j : ℕ) → Within 100000 (nth (getD b i []) j)
+abbrev pub ShortRows : List (List ℤ) → Type 0
+ShortRows b = (i j : ℕ) → Within 100000 (nth (getD b i []) j)
 
 -- ---- neighbours that change places
 
@@ -52,7 +52,7 @@ module _ {A : Type 0} where
   length-exchanged zero (p ∷ q ∷ l) = refl
   length-exchanged (suc j) (p ∷ l) = ap suc (length-exchanged j l)
 
-pub exchanged-small : (j : ℕ) (b : List (List ℤ)) → Small b → Small (exchanged j b)
+pub exchanged-small : (j : ℕ) (b : List (List ℤ)) → ShortRows b → ShortRows (exchanged j b)
 exchanged-small j b f = exchanged-all (λ r. (k : ℕ) → Within 100000 (nth r k)) [] j b f
 
 -- a row changes places with all that it carries

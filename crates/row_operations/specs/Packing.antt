@@ -8,7 +8,8 @@ use lib.ListN.{length, getD, set, replicate, length-map, List·getD-map}
 use Rattle.row_operations.specs.declared.VectorRow.{VectorRow}
 use Rattle.row_operations.specs.declared.TableRow.{TableRow}
 use Rattle.row_operations.specs.declared.Work.{Work}
-use Rattle.row_operations.specs.Rows.{Four, rowsOf, workOf, vectorRow, tableRow, workOf-rowsOf}
+use Rattle.row_operations.specs.Rows.{FourRows, rowsOf, workOf, workOf-rowsOf}
+use Rattle.row_operations.specs.RowStructs.{vectorRow, tableRow}
 use Rattle.row_operations.specs.Front.{front, front-suc, front-all}
 
 -- four rows of zeros
@@ -28,7 +29,7 @@ module _ {A : Type 0} (f : List ℤ → A) (t : List (List ℤ)) (i : ℕ) {l : 
 abbrev work : List VectorRow → List TableRow → List TableRow → ℕ → Work
 work x y z n = record { vectors = x; u = y; v = z; passes = n }
 
-pub work-packed : {b u v : List (List ℤ)} {w : Work} {n : ℕ} → Four b u v →
+pub work-packed : {b u v : List (List ℤ)} {w : Work} {n : ℕ} → FourRows b u v →
     w .vectors ≡ map vectorRow b → w .u ≡ map tableRow u → w .v ≡ map tableRow v → w .passes ≡ n → w ≡ workOf (rowsOf b u v) n
 work-packed {b} {u} {v} {w} {n} f p q r e =
     ap₂ (λ x y. work x y (w .v) (w .passes)) p q

@@ -7,9 +7,8 @@ use lib.IntN.{ℤ}
 use lib.ListN.{length, getD, set, take, drop, length-map}
 use Rattle.lattices.specs.Vector.{nth, _⊕_, _⊙_}
 use Rattle.lattices.specs.Greedy.{Row, credited}
-use Rattle.row_operations.specs.declared.VectorRow.{VectorRow}
-use Rattle.row_operations.specs.declared.TableRow.{TableRow}
 use Rattle.row_operations.specs.declared.Work.{Work}
+use Rattle.row_operations.specs.RowStructs.{vectorRow, tableRow}
 
 -- row i has vector b[i], row u[i] of U and column v[i] of V; as many rows as the shortest of the three lists has
 unfoldable pub rowsOf : List (List ℤ) → List (List ℤ) → List (List ℤ) → List Row
@@ -17,12 +16,6 @@ rowsOf [] us vs = []
 rowsOf (b ∷ bs) [] vs = []
 rowsOf (b ∷ bs) (u ∷ us) [] = []
 rowsOf (b ∷ bs) (u ∷ us) (v ∷ vs) = record { vector = b; u = u; v = v } ∷ rowsOf bs us vs
-
-abbrev pub vectorRow : List ℤ → VectorRow
-vectorRow l = record { at = l }
-
-abbrev pub tableRow : List ℤ → TableRow
-tableRow l = record { at = l }
 
 -- the rows packed, with the count of passes
 abbrev pub workOf : List Row → ℕ → Work
@@ -44,7 +37,7 @@ unfoldable pub transposed : List (List ℤ) → List (List ℤ)
 transposed t = map (λ i. map (λ r. nth r i) t) (0 ∷ 1 ∷ 2 ∷ 3 ∷ [])
 
 -- three tables of four rows
-pub record Four (bs us vs : List (List ℤ)) : Type 0 where
+pub record FourRows (bs us vs : List (List ℤ)) : Type 0 where
   pub vectors : length bs ≡ 4
   pub u : length us ≡ 4
   pub v : length vs ≡ 4
@@ -67,7 +60,7 @@ rowsOf-tables (b ∷ bs) (u ∷ us) (v ∷ vs) e f =
     let t = rowsOf-tables bs us vs (omega arith) (omega arith) in
     record { vectors = ap (λ l. b ∷ l) (t .vectors); u = ap (λ l. u ∷ l) (t .u); v = ap (λ l. v ∷ l) (t .v) }
 
-pub four-rows : {bs us vs : List (List ℤ)} → Four bs us vs → length (rowsOf bs us vs) ≡ 4
+pub four-rows : {bs us vs : List (List ℤ)} → FourRows bs us vs → length (rowsOf bs us vs) ≡ 4
 four-rows {bs} {us} {vs} f =
     sym (length-map (rowsOf bs us vs) (λ r. r .vector))
     ∙ ap length (rowsOf-tables bs us vs (f .u ∙ sym (f .vectors)) (f .v ∙ sym (f .vectors)) .vectors)

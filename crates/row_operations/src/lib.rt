@@ -10,11 +10,12 @@ ghost use Rattle.integers.specs.Size.{Within, load};
 ghost use Rattle.lattices.specs.Vector.{dot, N, comb, _⊖_, _⊙_};
 ghost use Rattle.lattices.specs.Greedy.{order, units};
 ghost use Rattle.lattices.specs.Answer.{table};
-ghost use Rattle.row_operations.specs.Rows.{Four, rowsOf, workOf, gained, transposed, tableRow};
-ghost use Rattle.row_operations.specs.Order.{Small, exchanged, insertAt};
+ghost use Rattle.row_operations.specs.Rows.{FourRows, rowsOf, workOf, gained, transposed};
+ghost use Rattle.row_operations.specs.RowStructs.{tableRow};
+ghost use Rattle.row_operations.specs.Order.{ShortRows, exchanged, insertAt};
 ghost use Rattle.row_operations.specs.Minus.{room};
 
-// One vector. Its width is the only place that knows how many coordinates there may be.
+// One vector.
 pub struct VectorRow {
     pub at: [i64; 4],
 }
@@ -114,7 +115,7 @@ pub fn transposed(t: [[i64; 4]; 4]) -> [[i64; 4]; 4]
 
 // Tables are packed in row structs, which a struct can hold, and unpacked to be worked on.
 pub fn packed(b: &[[i64; 4]; 4], u: &[[i64; 4]; 4], v: &[[i64; 4]; 4], passes: u64) -> Work
-    requires { ⌜ Four (now b) (now u) (now v) ⌝ }
+    requires { ⌜ FourRows (now b) (now u) (now v) ⌝ }
     ensures { λ r. ⌜ r ≡ workOf (rowsOf (now (b .entry)) (now (u .entry)) (now (v .entry))) passes ⌝ }
 {
     let mut w = Work {
@@ -197,7 +198,7 @@ pub fn tables_of(rows: [TableRow; 4]) -> [[i64; 4]; 4]
 
 // The squared lengths of the vectors.
 pub fn squared_lengths(b: [[i64; 4]; 4]) -> [i64; 4]
-    requires { ⌜ Small b ⌝ }
+    requires { ⌜ ShortRows b ⌝ }
     ensures { λ r. ⌜ r ≡ map N b ⌝ }
 {
     let mut r = [0; 4];
@@ -221,10 +222,10 @@ fn exchange(t: &mut [[i64; 4]; 4], j: usize)
 // Row i goes past those behind it, up to n, that are shorter: neighbours change places.
 fn insert(b: &mut [[i64; 4]; 4], u: &mut [[i64; 4]; 4], v: &mut [[i64; 4]; 4], i: usize, n: usize)
     requires { ⌜ (i < n) × (n ≤ 4) ⌝ }
-    requires { ⌜ Four (now b) (now u) (now v) ⌝ }
-    requires { ⌜ Small (now b) ⌝ }
-    ensures { λ _. ⌜ Four (now (b .exit)) (now (u .exit)) (now (v .exit)) ⌝ }
-    ensures { λ _. ⌜ Small (now (b .exit)) ⌝ }
+    requires { ⌜ FourRows (now b) (now u) (now v) ⌝ }
+    requires { ⌜ ShortRows (now b) ⌝ }
+    ensures { λ _. ⌜ FourRows (now (b .exit)) (now (u .exit)) (now (v .exit)) ⌝ }
+    ensures { λ _. ⌜ ShortRows (now (b .exit)) ⌝ }
     ensures { λ _. ⌜ rowsOf (now (b .exit)) (now (u .exit)) (now (v .exit)) ≡ insertAt i (n - suc i) (rowsOf (now (b .entry)) (now (u .entry)) (now (v .entry))) ⌝ }
 {
     let mut j = i;
@@ -244,9 +245,9 @@ fn insert(b: &mut [[i64; 4]; 4], u: &mut [[i64; 4]; 4], v: &mut [[i64; 4]; 4], i
 // The first n rows in order of length, shortest first and equal lengths in their order; the rows from n on stay.
 pub fn order(b: &mut [[i64; 4]; 4], u: &mut [[i64; 4]; 4], v: &mut [[i64; 4]; 4], n: usize)
     requires { ⌜ n ≤ 4 ⌝ }
-    requires { ⌜ Four (now b) (now u) (now v) ⌝ }
-    requires { ⌜ Small (now b) ⌝ }
-    ensures { λ _. ⌜ Four (now (b .exit)) (now (u .exit)) (now (v .exit)) ⌝ }
+    requires { ⌜ FourRows (now b) (now u) (now v) ⌝ }
+    requires { ⌜ ShortRows (now b) ⌝ }
+    ensures { λ _. ⌜ FourRows (now (b .exit)) (now (u .exit)) (now (v .exit)) ⌝ }
     ensures { λ _. ⌜ rowsOf (now (b .exit)) (now (u .exit)) (now (v .exit)) ≡ order (take n (rowsOf (now (b .entry)) (now (u .entry)) (now (v .entry)))) ++ drop n (rowsOf (now (b .entry)) (now (u .entry)) (now (v .entry))) ⌝ }
 {
     let mut i = n;

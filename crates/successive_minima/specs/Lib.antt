@@ -1,18 +1,4 @@
--- Theorems about reduced lists: least values, interpolation and rounding, successive minima, the nearest vector.
-pub mod Values
-pub mod ValueLaws
-pub mod Rounding
+-- Reduced lists. To be believed: Reduced, Member. Laws: least values, interpolation and rounding, successive minima, the nearest vector.
 pub mod Reduced
-pub mod Snoc
-pub mod ReducedLaws
-pub mod Digits
-pub mod Grid
-pub mod Descent
-pub mod Pairs
-pub mod Table
-pub mod Layers
-pub mod NearestLaws
-pub mod NearestRest
-pub mod Minima
-pub mod Invariants
-pub mod Members
+pub mod Member
+pub mod Laws

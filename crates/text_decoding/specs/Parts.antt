@@ -10,7 +10,7 @@ use Rattle.catalogue_rules.specs.Catalogue.{coordinates}
 use Rattle.catalogue_rules.specs.Form.{EntryFits}
 use Rattle.fold_rules.specs.Listing.{after}
 use Rattle.catalogue_records.specs.declared.Entry.{Entry}
-use Rattle.catalogue_records.specs.Entries.{seeIn, entryIn}
+use Rattle.catalogue_records.specs.EntriesIn.{seeIn, entryIn}
 use Rattle.catalogue_records.specs.Coordinates.{same}
 use Rattle.text_output.specs.Joined.{joined}
 use Rattle.text_fields.specs.Blank.{blank, joined-then}

@@ -10,17 +10,19 @@ use lib.IntN.{ℤ, natAbs}
 use lib.ListN.{length, length-append}
 use borrow.Author.Tests.{ltb-false}
 use Rattle.integers.specs.All.{All}
-use Rattle.integers.specs.Decimal.{decimal, signed, decimal-length}
+use Rattle.integers.specs.Decimal.{decimal, signed}
+use Rattle.integers.specs.DecimalLaws.{decimal-length}
 use Rattle.integers.specs.Tests.{neither}
-use Rattle.lattices.specs.Refusal.{any, mostSize, mostVectors, mostCoordinates}
-use Rattle.lattices.specs.RefusalLaws.{one-to}
+use Rattle.integers.specs.Every.{any}
+use Rattle.lattices.specs.Refusal.{mostSize, mostVectors, mostCoordinates}
+use Rattle.lattices.specs.Laws.Refusal.{one-to}
 use Rattle.catalogue_rules.specs.Catalogue.{See, Entry, coordinates}
 use Rattle.catalogue_rules.specs.Form.{EntryFits, WellFormed, mostNumber}
-use Rattle.catalogue_rules.specs.ReadEntries.{SeeFits}
-use Rattle.catalogue_rules.specs.ReadBack.{sees-fit}
-use Rattle.catalogue_rules.specs.EntriesAccepted.{few-coordinates, all-near}
+use Rattle.catalogue_rules.specs.Laws.ReadEntries.{SeeFits}
+use Rattle.catalogue_rules.specs.Laws.ReadBack.{sees-fit}
+use Rattle.catalogue_rules.specs.Laws.EntriesAccepted.{few-coordinates, all-near}
 use Rattle.fold_rules.specs.Listing.{after}
-use Rattle.fold_rules.specs.ListingSize.{signed-length}
+use Rattle.fold_rules.specs.Laws.ListingSize.{signed-length}
 use Rattle.text_rules.specs.Text.{semicolon, seeFields, entryFields, entryText, textOf}
 
 see-length : (o : Option See) → SeeFits o → length (after (seeFields o)) ≤ 13

@@ -3,7 +3,7 @@ ghost use Prim.Native.Nat.{_+_, _≤_};
 ghost use lib.ListN.{length};
 ghost use Rattle.integers.specs.All.{All};
 ghost use Rattle.catalogue_rules.specs.Form.{EntryFits};
-ghost use Rattle.catalogue_records.specs.Entries.{entryIn, entriesIn};
+ghost use Rattle.catalogue_records.specs.EntriesIn.{entryIn, entriesIn};
 ghost use Rattle.text_rules.specs.Text.{entryText, textOf};
 ghost use Rattle.text_output.specs.Puts.{Puts};
 ghost use Rattle.text_decoding.specs.Parts.{headText, lastText};

@@ -11,7 +11,7 @@ use lib.ListN.{length, drop}
 use borrow.Author.Tests.{eq-eqb, ne-eqb}
 use Rattle.integers.specs.Tests.{neither, both}
 use Rattle.lattices.specs.Vector.{nth}
-use Rattle.lattices.specs.Refusal.{any}
+use Rattle.integers.specs.Every.{any}
 use Rattle.catalogue_rules.specs.Word.{Word, head, see, encode}
 use Rattle.catalogue_rules.specs.Write.{coordinateWord}
 use Rattle.input_checks.specs.Any.{beyond}

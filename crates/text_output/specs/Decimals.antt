@@ -6,7 +6,8 @@ use Prim.Native.Nat.{ℕ, zero, suc, _+_, _/_, _%_, _^_, _-_, _≤_}
 use native.Mathlib.Nat.{pow-suc}
 use native.Mathlib.Omega.{arith}
 use borrow.Author.Tests.{lt-ltb}
-use Rattle.integers.specs.Decimal.{decimal, decimal-one, decimal-more}
+use Rattle.integers.specs.Decimal.{decimal}
+use Rattle.integers.specs.DecimalLaws.{decimal-one, decimal-more}
 use Rattle.io.specs.Digits.{glyph, digits, Fewest}
 
 glyph-digit : (n : ℕ) → glyph (n % 10) ≡ 48 + n % 10

@@ -7,8 +7,10 @@ use native.Mathlib.Decide.{decLt}
 use native.Mathlib.Omega.{arith}
 use lib.ListN.{length, length-append}
 use borrow.Author.Tests.{le-leb}
-use Rattle.integers.specs.All.{All, all-append}
-use Rattle.integers.specs.Decimal.{decimal, decimal-one, decimal-more}
+use Rattle.integers.specs.All.{All}
+use Rattle.integers.specs.AllLaws.{all-append}
+use Rattle.integers.specs.Decimal.{decimal}
+use Rattle.integers.specs.DecimalLaws.{decimal-one, decimal-more}
 use Rattle.text_parts.specs.Numbers.{isDigit, value}
 
 abbrev pub Digits : List ℕ → Type 0

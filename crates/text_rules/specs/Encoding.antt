@@ -7,7 +7,8 @@ use lib.Dec.{eqb, leb, ltb}
 use lib.IntN.{ℤ, pos, negsuc, natAbs}
 use lib.ListN.{length, drop}
 use Rattle.lattices.specs.Vector.{nth}
-use Rattle.lattices.specs.Refusal.{any, mostSize}
+use Rattle.integers.specs.Every.{any}
+use Rattle.lattices.specs.Refusal.{mostSize}
 use Rattle.catalogue_rules.specs.Word.{Word, head, see, end}
 use Rattle.catalogue_rules.specs.Write.{coordinateWord}
 use Rattle.text_parts.specs.declared.Kind.{Kind}

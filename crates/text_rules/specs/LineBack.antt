@@ -13,13 +13,14 @@ use borrow.Author.Tests.{eq-eqb, le-leb, ltb-false}
 use Rattle.integers.specs.All.{All}
 use Rattle.integers.specs.Tests.{neither}
 use Rattle.integers.specs.Decimal.{decimal, signed}
-use Rattle.lattices.specs.Refusal.{any, mostSize}
+use Rattle.integers.specs.Every.{any}
+use Rattle.lattices.specs.Refusal.{mostSize}
 use Rattle.catalogue_rules.specs.Catalogue.{Head, See, Entry, coordinates}
 use Rattle.catalogue_rules.specs.Word.{Word, see}
 use Rattle.catalogue_rules.specs.Write.{headWord, coordinateWord, seeWords, entryWords}
 use Rattle.catalogue_rules.specs.Form.{HeadFits, EntryFits}
-use Rattle.catalogue_rules.specs.EntriesAccepted.{count-coordinates, few-coordinates, all-near}
-use Rattle.catalogue_rules.specs.ReadEntries.{SeeFits, head-range}
+use Rattle.catalogue_rules.specs.Laws.EntriesAccepted.{count-coordinates, few-coordinates, all-near}
+use Rattle.catalogue_rules.specs.Laws.ReadEntries.{SeeFits, head-range}
 use Rattle.text_parts.specs.declared.Kind.{Kind}
 use Rattle.text_parts.specs.declared.Kind.the-variants.{Semicolon, End}
 use Rattle.text_parts.specs.Numbers.{read}

@@ -10,7 +10,8 @@ use lib.Dec.{eqb}
 use lib.IntN.{ℤ, pos, negsuc}
 use lib.ListN.{length}
 use borrow.Author.Tests.{ne-eqb}
-use Rattle.integers.specs.All.{All, all-append, all-imp}
+use Rattle.integers.specs.All.{All}
+use Rattle.integers.specs.AllLaws.{all-append, all-imp}
 use Rattle.integers.specs.Decimal.{decimal, signed}
 use Rattle.catalogue_rules.specs.Catalogue.{See, Entry, coordinates}
 use Rattle.text_parts.specs.Numbers.{leading}

@@ -11,10 +11,10 @@ use Rattle.catalogue_rules.specs.Catalogue.{Entry, accepted}
 use Rattle.catalogue_rules.specs.Read.{read}
 use Rattle.catalogue_rules.specs.Write.{entryWords, entriesWords, catalogueWords, write}
 use Rattle.catalogue_rules.specs.Form.{EntryFits}
-use Rattle.catalogue_rules.specs.WellFormed.{well-formed}
-use Rattle.catalogue_rules.specs.ReadEntries.{SeeFits}
-use Rattle.catalogue_rules.specs.ReadBack.{sees-fit}
-use Rattle.catalogue_rules.specs.RoundTrip.{same-bytes}
+use Rattle.catalogue_rules.specs.Laws.WellFormed.{well-formed}
+use Rattle.catalogue_rules.specs.Laws.ReadEntries.{SeeFits}
+use Rattle.catalogue_rules.specs.Laws.ReadBack.{sees-fit}
+use Rattle.catalogue_rules.specs.Laws.RoundTrip.{same-bytes}
 use Rattle.text_rules.specs.Text.{textOf}
 use Rattle.text_rules.specs.Encoding.{lineFrom, linesOf, ofLine, entriesFrom, joined, ended, encoded}
 use Rattle.text_rules.specs.LineBack.{lineOf, text-line, line-back}

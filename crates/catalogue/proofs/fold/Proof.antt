@@ -1,7 +1,7 @@
 -- The catalogue's own refusals first; the list is closed, then folded, then written.
 use mathlib.Core.Path.{ap, _∙_}
 use Rattle.catalogue_records.specs.Catalogues.{writtenOf}
-use Rattle.catalogue_standing.specs.ReducedEntries.{Ready, ready, keeps-fair}
+use Rattle.catalogue_standing.specs.ReducedEntries.{WasRead, ready, keeps-fair}
 use Rattle.catalogue.specs.Outcome.{not-folded, few-folded, formed-folded, fold-written}
 use borrow.Author.Needs.{needs}
 use Rattle.catalogue.proofs.fold.Statement.{statement}
@@ -17,7 +17,7 @@ returns c =
     let o = not-folded (a .bytes .now) (r .read .ensures) (a .out .now) (c .if1 .taken) in
     (ap writtenOf o, ap (λ o. o .lent) o)
 
-prepared : (c : tie.Else1) → Ready (c .before .before .read .result)
+prepared : (c : tie.Else1) → WasRead (c .before .before .read .result)
 prepared c = let r = c .before .before in ready (r .before .before .before .args .bytes .now) (r .read .ensures) (c .if1 .left)
 
 reduce-all-requires : tie.Need-reduce-all-requires

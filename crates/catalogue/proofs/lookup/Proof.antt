@@ -7,10 +7,11 @@ use lib.Dec.{eqb}
 use lib.ListN.{length, getD}
 use borrow.Author.Needs.{needs}
 use Rattle.catalogue_rules.specs.Catalogue.{Entry}
-use Rattle.catalogue_records.specs.Entries.{entryIn, entriesIn, beyond}
+use Rattle.catalogue_records.specs.EntriesIn.{entryIn, entriesIn}
+use Rattle.catalogue_records.specs.Entries.{beyond}
 use Rattle.catalogue_standing.specs.Places.{First}
 use Rattle.catalogue_standing.specs.Standing.{Held, Numbers, place-below}
-use Rattle.catalogue_standing.specs.ReducedEntries.{Ready, ready, ready-length, ready-numbers, keeps-fair, keeps-held}
+use Rattle.catalogue_standing.specs.ReducedEntries.{WasRead, ready, ready-length, ready-numbers, keeps-fair, keeps-held}
 use Rattle.catalogue.specs.Finding.{looked-refused, looked-up}
 use Rattle.catalogue_standing.specs.Looking.{lookup-found, lookup-lost}
 use Rattle.catalogue.proofs.lookup.Statement.{statement}
@@ -24,7 +25,7 @@ returns c =
     let r = c .before .before in
     looked-refused (r .before .before .args .bytes .now) (r .read .ensures) _ (c .if1 .taken)
 
-prepared : (c : tie.Else1) → Ready (c .before .before .read .result)
+prepared : (c : tie.Else1) → WasRead (c .before .before .read .result)
 prepared c = let r = c .before .before in ready (r .before .before .args .bytes .now) (r .read .ensures) (c .if1 .left)
 
 reduce-all-requires : tie.Need-reduce-all-requires

@@ -3,9 +3,10 @@ use mathlib.Core.Path.{_≡_, sym, subst}
 use mathlib.Core.Logic.{⊎-elim}
 use Prim.Native.Nat.{_-_, _≤_, _<_}
 use native.Mathlib.Omega.{arith}
-use lib.ListN.{length, replicate}
+use lib.ListN.{length}
 use borrow.Author.Needs.{needs}
-use Rattle.catalogue_records.specs.Entries.{entriesIn}
+use Rattle.catalogue_records.specs.declared.Catalogue.{Catalogue}
+use Rattle.catalogue_records.specs.EntriesIn.{entriesIn}
 use Rattle.catalogue_fold.specs.Folding.{Folds, folds-none}
 use Rattle.catalogue_fold.specs.Steps.{full, passed-over, printed-next, all-printed}
 use Rattle.catalogue_fold.proofs.folded.Statement.{statement}
@@ -26,7 +27,7 @@ empty-requires c κs = search needs
 loop-holds : tie.Need-loop-holds Inv-loop μ-loop
 loop-holds c =
     let es = entriesIn (c .before .before .before .args .t1) in
-    (search needs, subst (λ e. Folds es 0 0 (replicate 256 e)) (sym (c .empty .ensures)) (folds-none es))
+    (search needs, subst (λ (start : Catalogue). Folds es 0 0 (start .entries)) (sym (c .empty .ensures)) (folds-none es))
 
 -- place k is one of the arrays'
 small : (c : tie.In-loop Inv-loop μ-loop) → c .before .loop .k < 256

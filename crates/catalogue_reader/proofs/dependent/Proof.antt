@@ -4,11 +4,12 @@ use Prim.Native.Nat.{_*_, _≤_}
 use native.Mathlib.Omega.{arith}
 use lib.ListN.{length, take}
 use mathlib.Core.Bool.{false}
-use Rattle.lattices.specs.Refusal.{any, tooLong}
-use Rattle.lattices.specs.RefusalLaws.{one-to}
-use Rattle.catalogue_rules.specs.EntriesAccepted.{all-short}
+use Rattle.integers.specs.Every.{any}
+use Rattle.lattices.specs.Refusal.{tooLong}
+use Rattle.lattices.specs.Laws.Refusal.{one-to}
+use Rattle.catalogue_rules.specs.Laws.EntriesAccepted.{all-short}
 use Rattle.input_checks.specs.Rows.{short, long-rows, dependent-rows}
-use Rattle.catalogue_records.specs.Entries.{entryIn}
+use Rattle.catalogue_records.specs.EntriesIn.{entryIn}
 use Rattle.catalogue_records.specs.Coordinates.{most, cut}
 use borrow.Author.Needs.{needs}
 use Rattle.catalogue_reader.proofs.dependent.Statement.{statement}

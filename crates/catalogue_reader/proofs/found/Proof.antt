@@ -4,11 +4,12 @@ use mathlib.Core.Bool.{not, _&&_}
 use Prim.Native.Nat.{_-_}
 use native.Mathlib.Omega.{arith}
 use lib.ListN.{length, take, drop, length-map}
-use Rattle.lattices.specs.Refusal.{any}
+use Rattle.integers.specs.Every.{any}
 use Rattle.catalogue_rules.specs.Read.{firstPlace, lostAt}
 use Rattle.catalogue_reader.specs.Readings.{isNumber}
 use Rattle.catalogue_records.specs.Catalogues.{unless}
-use Rattle.catalogue_records.specs.Entries.{entryIn, entriesIn, all-stored, entryAt, Says, first-here, first-later, first-end}
+use Rattle.catalogue_records.specs.EntriesIn.{entryIn, entriesIn}
+use Rattle.catalogue_records.specs.Entries.{all-stored, entryAt, Says, first-here, first-later, first-end}
 use Rattle.catalogue_reader.specs.Ended.{lost-at}
 use borrow.Author.Needs.{needs}
 use Rattle.catalogue_reader.proofs.found.Statement.{statement}

@@ -5,7 +5,8 @@ use lib.ListN.{length, drop}
 use Rattle.catalogue_rules.specs.Read.{firstPlace, dependentAt}
 use Rattle.catalogue_rules.specs.Form.{EntryFits}
 use Rattle.catalogue_records.specs.Catalogues.{unless}
-use Rattle.catalogue_records.specs.Entries.{entryIn, entriesIn, all-stored, entryAt, Says, entry-has, first-here, first-later, first-end}
+use Rattle.catalogue_records.specs.EntriesIn.{entryIn, entriesIn}
+use Rattle.catalogue_records.specs.Entries.{all-stored, entryAt, Says, entry-has, first-here, first-later, first-end}
 use Rattle.catalogue_reader.specs.Ended.{dependent-at}
 use borrow.Author.Needs.{needs}
 use Rattle.catalogue_reader.proofs.independent.Statement.{statement}

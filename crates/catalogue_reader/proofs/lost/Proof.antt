@@ -1,7 +1,7 @@
 -- The see word is there and names none of the numbers.
 use mathlib.Core.Path.{sym, ap, _∙_}
 use mathlib.Core.Bool.{not, _&&_}
-use Rattle.lattices.specs.Refusal.{any}
+use Rattle.integers.specs.Every.{any}
 use Rattle.catalogue_reader.specs.Readings.{isNumber}
 use lib.ListN.{take}
 use borrow.Author.Needs.{needs}

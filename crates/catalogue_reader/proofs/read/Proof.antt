@@ -3,7 +3,7 @@ use mathlib.Core.Path.{_≡_, _∙_}
 use Prim.Native.Nat.{ℕ, _≤_}
 use mathlib.Core.List.{List}
 use Rattle.catalogue_rules.specs.Word.{wordsOf}
-use Rattle.catalogue_rules.specs.WellFormed.{words-entered}
+use Rattle.catalogue_rules.specs.Laws.WellFormed.{words-entered}
 use Rattle.catalogue_rules.specs.Read.{afterWords, read}
 use Rattle.catalogue_records.specs.Catalogues.{catalogueOf}
 use Rattle.catalogue_reader.specs.Whole.{words, ended, few-entries, entries-fit, stays-refused, after-words, ended-5, ended-12, refused-8, refused-9, by-words}

@@ -4,13 +4,15 @@ use mathlib.Core.Logic.{_⊎_, ⊎-elim}
 use mathlib.Core.List.{[]}
 use Prim.Native.Nat.{ℕ, _-_, _/_, _≤_, _<_}
 use native.Mathlib.Omega.{arith}
-use lib.ListN.{length, getD, replicate}
+use lib.ListN.{length, getD}
 use borrow.Author.Needs.{needs}
 use borrow.Author.Tests.{not-true, not-false}
 use Rattle.catalogue_rules.specs.Word.{decode, wordsOf}
-use Rattle.catalogue_rules.specs.WordLaws.{length-words}
+use Rattle.catalogue_rules.specs.Laws.Word.{length-words}
 use Rattle.catalogue_reader.specs.Words.{wordIn}
-use Rattle.catalogue_records.specs.Filled.{filled, length-filled}
+use Rattle.integers.specs.Filled.{filled}
+use Rattle.integers.specs.FilledLaws.{length-filled}
+use Rattle.catalogue_records.specs.declared.Catalogue.{Catalogue}
 use Rattle.catalogue_records.specs.Catalogues.{noCatalogue, stored, catalogueOf}
 use Rattle.catalogue_reader.specs.States.{numbersOf}
 use Rattle.catalogue_reader.specs.Store.{put}
@@ -34,7 +36,7 @@ loop-holds : tie.Need-loop-holds Inv-loop μ-loop
 loop-holds c =
     let words = wordsOf (c .before .before .before .args .bytes .now) in
     let none = sym (c .before .empty .ensures) in
-    (search needs, subst (λ e. Reached words 0 (replicate 256 e) (filled 0 256 []) (c .start .result)) none (subst (Reached words 0 (stored []) (filled 0 256 [])) (sym (c .start .ensures)) (at-start words)))
+    (search needs, subst (λ (empty : Catalogue). Reached words 0 (empty .entries) (filled 0 256 []) (c .start .result)) none (subst (Reached words 0 (stored []) (filled 0 256 [])) (sym (c .start .ensures)) (at-start words)))
 
 word-at-requires : tie.Need-word-at-requires Inv-loop μ-loop
 word-at-requires c κs = search needs

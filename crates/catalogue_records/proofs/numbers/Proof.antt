@@ -5,7 +5,8 @@ use Prim.Native.Nat.{_-_, _≤_}
 use native.Mathlib.Omega.{arith}
 use lib.ListN.{length, getD, set, take, length-map}
 use lib.Seq.{take-all}
-use Rattle.catalogue_records.specs.Filled.{filled, filled-all, filled-more}
+use Rattle.integers.specs.Filled.{filled}
+use Rattle.integers.specs.FilledLaws.{filled-all, filled-more}
 use Rattle.catalogue_records.specs.Entries.{all-stored}
 use borrow.Author.Needs.{needs}
 use Rattle.catalogue_records.proofs.numbers.Statement.{statement}

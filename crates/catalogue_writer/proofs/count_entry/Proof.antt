@@ -4,7 +4,7 @@ use Prim.Native.Nat.{_+_, _*_, _≤_}
 use native.Mathlib.Omega.{arith}
 use lib.ListN.{length}
 use Rattle.catalogue_rules.specs.Write.{seeWords, entryWords}
-use Rattle.catalogue_records.specs.Entries.{seeIn, entryIn}
+use Rattle.catalogue_records.specs.EntriesIn.{seeIn, entryIn}
 use Rattle.catalogue_writer.specs.Loads.{length-basis, basis-and-see}
 use Rattle.catalogue_records.specs.Coordinates.{most}
 use borrow.Author.Needs.{needs}

@@ -6,10 +6,10 @@ use native.Mathlib.Omega.{arith}
 use lib.ListN.{length, take}
 use Rattle.catalogue_rules.specs.Word.{encode}
 use Rattle.catalogue_rules.specs.Write.{headWord}
-use Rattle.catalogue_rules.specs.ReadEntries.{head-range}
-use Rattle.catalogue_rules.specs.ReadVectors.{encoded}
+use Rattle.catalogue_rules.specs.Laws.ReadEntries.{head-range}
+use Rattle.catalogue_rules.specs.Laws.ReadVectors.{encoded}
 use Rattle.catalogue_writer.specs.Over.{overWords, over-more}
-use Rattle.catalogue_records.specs.Entries.{entryIn}
+use Rattle.catalogue_records.specs.EntriesIn.{entryIn}
 use Rattle.catalogue_writer.specs.Loads.{near, length-basis, basis-encoded}
 use Rattle.catalogue_records.specs.Coordinates.{most, cut}
 use borrow.Author.Needs.{needs}

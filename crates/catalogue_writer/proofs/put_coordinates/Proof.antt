@@ -13,7 +13,7 @@ use Rattle.integers.specs.Size.{Within, fits-within}
 use Rattle.input_checks.specs.Any.{within-limit}
 use Rattle.catalogue_rules.specs.Word.{encode}
 use Rattle.catalogue_rules.specs.Write.{coordinateWord}
-use Rattle.catalogue_rules.specs.ReadVectors.{encoded}
+use Rattle.catalogue_rules.specs.Laws.ReadVectors.{encoded}
 use Rattle.catalogue_writer.specs.Over.{overWords, length-over, over-more, over-none}
 use Rattle.catalogue_writer.specs.Loads.{length-first, encoded-more}
 use borrow.Author.Needs.{needs}

@@ -7,9 +7,10 @@ use lib.ListN.{length, length-map}
 use Rattle.catalogue_rules.specs.Word.{encode}
 use Rattle.catalogue_rules.specs.Write.{entryWords}
 use Rattle.catalogue_rules.specs.Form.{EntryFits}
-use Rattle.catalogue_rules.specs.ReadEntries.{SeeFits}
+use Rattle.catalogue_rules.specs.Laws.ReadEntries.{SeeFits}
 use Rattle.catalogue_writer.specs.Over.{overWords, length-over, over-more}
-use Rattle.catalogue_records.specs.Entries.{entryIn, entryAt, all-stored, entry-has}
+use Rattle.catalogue_records.specs.EntriesIn.{entryIn}
+use Rattle.catalogue_records.specs.Entries.{entryAt, all-stored, entry-has}
 use Rattle.catalogue_writer.specs.Upto.{upTo, up-to-most, up-to-next, length-next, up-to-all}
 use borrow.Author.Needs.{needs}
 use Rattle.catalogue_writer.proofs.put_entries.Statement.{statement}

@@ -7,7 +7,7 @@ use lib.ListN.{length, length-map}
 use Rattle.catalogue_rules.specs.Word.{encode}
 use Rattle.catalogue_rules.specs.Write.{seeWords, entryWords}
 use Rattle.catalogue_writer.specs.Over.{overWords, over-more}
-use Rattle.catalogue_records.specs.Entries.{entryIn}
+use Rattle.catalogue_records.specs.EntriesIn.{entryIn}
 use Rattle.catalogue_writer.specs.Loads.{basisWords, basis-and-see}
 use borrow.Author.Needs.{needs}
 use Rattle.catalogue_writer.proofs.put_entry.Statement.{statement}

@@ -7,9 +7,9 @@ use lib.ListN.{length}
 use borrow.Author.Tests.{not-true, not-false}
 use Rattle.catalogue_rules.specs.Word.{encode}
 use Rattle.catalogue_rules.specs.Write.{seeWords}
-use Rattle.catalogue_rules.specs.ReadEntries.{SeeFits}
+use Rattle.catalogue_rules.specs.Laws.ReadEntries.{SeeFits}
 use Rattle.catalogue_writer.specs.Over.{overWords, over-none}
-use Rattle.catalogue_records.specs.Entries.{seeIn, entryIn}
+use Rattle.catalogue_records.specs.EntriesIn.{seeIn, entryIn}
 use borrow.Author.Needs.{needs}
 use Rattle.catalogue_writer.proofs.put_see.Statement.{statement}
 use Rattle.catalogue_writer.proofs.put_see.Tie as tie

@@ -5,9 +5,10 @@ use Prim.Native.Nat.{_+_, _*_, _≤_}
 use native.Mathlib.Omega.{arith}
 use lib.ListN.{length}
 use Rattle.catalogue_rules.specs.Write.{write}
-use Rattle.catalogue_rules.specs.OutputLaws.{too-short, long-enough}
-use Rattle.catalogue_rules.specs.ReadBack.{sees-fit}
-use Rattle.catalogue_records.specs.Entries.{entriesIn, all-stored, length-entries}
+use Rattle.catalogue_rules.specs.Laws.Output.{too-short, long-enough}
+use Rattle.catalogue_rules.specs.Laws.ReadBack.{sees-fit}
+use Rattle.catalogue_records.specs.EntriesIn.{entriesIn}
+use Rattle.catalogue_records.specs.Entries.{all-stored, length-entries}
 use Rattle.catalogue_writer.specs.Over.{overWords}
 use Rattle.catalogue_writer.specs.Upto.{few-words}
 use Rattle.catalogue_writer.specs.Writing.{length-write, end-written}

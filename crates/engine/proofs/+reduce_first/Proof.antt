@@ -7,15 +7,15 @@ use borrow.Author.Needs.{needs}
 use borrow.Author.Tests.{not-true, not-false}
 use borrow.Fn.Kinds.{In}
 use borrow.Fn.PlainCycle.{Measures, is, falls, and}
-use Rattle.row_operations.specs.Rows.{Four, rowsOf}
-use Rattle.engine.specs.State.{rowsIn, ordered, passed, reduced}
-use Rattle.engine.specs.Fine.{Fine}
-use Rattle.engine.specs.Room.{Ready}
-use Rattle.engine.specs.Turn.{rowsIn-workOf}
+use Rattle.row_operations.specs.Rows.{FourRows, rowsOf}
+use Rattle.engine.specs.Laws.State.{rowsIn, ordered, passed, reduced}
+use Rattle.engine.specs.Laws.Fine.{Fine}
+use Rattle.engine.specs.Laws.Room.{PassReady}
+use Rattle.engine.specs.Laws.Turn.{rowsIn-workOf}
 use lib.ListN.{length, length-map}
-use Rattle.engine.specs.Whole.{Whole, whole-of, packed}
-use Rattle.engine.specs.Repeat.{Step, Going, next, step, shorterAt, size, reduced-few}
-use Rattle.engine.specs.Loop.{workIn, whole-in, ordered-work, passed-work, passes-are, small-in, shorter-in}
+use Rattle.engine.specs.Laws.Whole.{Whole, whole-of, packed}
+use Rattle.engine.specs.Laws.Repeat.{Round, Going, next, step, shorterAt, size, reduced-few}
+use Rattle.engine.specs.Laws.Loop.{workIn, whole-in, ordered-work, passed-work, passes-are, small-in, shorter-in}
 use Rattle.engine.proofs.reduce_first.Reads as reads
 use Rattle.engine.proofs.reduce_first.Kinds as kinds
 use Rattle.engine.proofs.+reduce_first.Lts-reduce_first as lts
@@ -33,7 +33,7 @@ abbrev μ : Measures 0 kinds.ps ℕ
 μ κs a = a .1 .1 .1 .0
 
 abbrev Inv-loop : lts.InvT-loop
-Inv-loop n before b₀ u₀ v₀ passes₀ b u v passes = Four b u v × Going n (workIn b₀ u₀ v₀ passes₀) (workIn b u v passes)
+Inv-loop n before b₀ u₀ v₀ passes₀ b u v passes = FourRows b u v × Going n (workIn b₀ u₀ v₀ passes₀) (workIn b u v passes)
 
 abbrev μ-loop : lts.MeasureT-loop
 μ-loop n before b₀ u₀ v₀ passes₀ b u v passes = size n (workIn b u v passes)
@@ -60,7 +60,7 @@ module _ (t : ℕ) where
     shorter-reads.Learnt,
   )
 
-  four : (s : lts.Start claims given reads.Post Inv-loop μ-loop) → Four (s .args .vectors) (s .args .us) (s .args .vs)
+  four : (s : lts.Start claims given reads.Post Inv-loop μ-loop) → FourRows (s .args .vectors) (s .args .us) (s .args .vs)
   four s = record { vectors = search needs; u = search needs; v = search needs }
 
   packed-requires : lts.Need-packed-requires claims given reads.Post Inv-loop μ-loop
@@ -78,7 +78,7 @@ module _ (t : ℕ) where
 
   -- this turn
   turn : (c : lts.At-loop claims given reads.Post Inv-loop μ-loop)
-      → let s = c .before .before in let l = c .loop in Step (s .args .n) (s .args .n - 1) 1000000000000 (workIn (l .b) (l .u) (l .v) (l .passes))
+      → let s = c .before .before in let l = c .loop in Round (s .args .n) (s .args .n - 1) 1000000000000 (workIn (l .b) (l .u) (l .v) (l .passes))
   turn c =
       let s = c .before .before in
       let l = c .loop in
@@ -143,7 +143,7 @@ module _ (t : ℕ) where
       let a = c .before .before .before .before .before in
       let l = a .loop in
       let n = a .before .before .args .n in
-      let j = c .if2 in Four (j .b) (j .u) (j .v) × (workIn (j .b) (j .u) (j .v) (j .passes) ≡ reduced (n - 1) (ordered n (workIn (l .b) (l .u) (l .v) (l .passes))))
+      let j = c .if2 in FourRows (j .b) (j .u) (j .v) × (workIn (j .b) (j .u) (j .v) (j .passes) ≡ reduced (n - 1) (ordered n (workIn (l .b) (l .u) (l .v) (l .passes))))
   first c =
       let r = c .before in
       let k = r .before .before .before .before .before .before .args .n - 1 in
@@ -175,7 +175,7 @@ module _ (t : ℕ) where
       let a = q .before .before .before .before .before in
       let k = a .before .before .args .n - 1 in
       let j = q .if2 in
-      (omega arith, (first q .0, subst (Ready k) (rowsIn-workOf (rowsOf (j .b) (j .u) (j .v)) (j .passes)) (subst (λ w. Ready k (rowsIn w)) (sym (first q .1)) (turn a .ready))))
+      (omega arith, (first q .0, subst (PassReady k) (rowsIn-workOf (rowsOf (j .b) (j .u) (j .v)) (j .passes)) (subst (λ w. PassReady k (rowsIn w)) (sym (first q .1)) (turn a .ready))))
 
   -- the work after the pass
   after : (c : lts.After-pass claims given reads.Post Inv-loop μ-loop) →

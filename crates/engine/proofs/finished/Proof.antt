@@ -5,8 +5,8 @@ use lib.ListN.{getD}
 use Rattle.integers.specs.Size.{Within}
 use Rattle.lattices.specs.Vector.{nth}
 use Rattle.row_operations.specs.Rows.{transposed}
-use Rattle.engine.specs.Whole.{Whole, whole-of, small}
-use Rattle.engine.specs.Answer.{finished}
+use Rattle.engine.specs.Laws.Whole.{Whole, whole-of, small}
+use Rattle.engine.specs.Laws.Answer.{finished}
 use borrow.Author.Needs.{needs}
 use Rattle.engine.proofs.finished.Statement.{statement}
 use Rattle.engine.proofs.finished.Tie as tie

@@ -2,7 +2,7 @@
 use mir.Facts.{toZ-ofZ}
 use mir.Syntax.{w64}
 use borrow.Author.Needs.{needs}
-use Rattle.engine.specs.Named.{named, named-room}
+use Rattle.engine.specs.Laws.Named.{named, named-room}
 use Rattle.engine.proofs.named.Statement.{statement}
 use Rattle.engine.proofs.named.Tie as tie
 

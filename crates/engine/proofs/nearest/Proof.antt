@@ -6,15 +6,15 @@ use lib.ListN.{length, take}
 use denote.Ref.{now}
 use borrow.Author.Needs.{needs}
 use Rattle.lattices.specs.Vector.{comb, _⊖_}
-use Rattle.lattices.specs.VectorLaws.{_≈_}
+use Rattle.lattices.specs.Laws.Vector.{_≈_}
 use Rattle.lattices.specs.Nearest.{nearest}
 use Rattle.lattices.specs.Answer.{padded}
 use Rattle.lattices.specs.Refusal.{Input, firstOf, vectorChecks, targetChecks}
 use Rattle.greedy_reduction.specs.Accepted.{accepted, targeted}
 use Rattle.greedy_reduction.specs.Demand.{accepted-reduction, first-refused, first-passed}
 use Rattle.nearest_of_four.specs.Near.{Near, coordinates, left-bounded}
-use Rattle.engine.specs.Answer.{vectors-back}
-use Rattle.engine.specs.Named.{named, array, target, target-read, near, nearest-answer, refused-nearest-with, refusal-is}
+use Rattle.engine.specs.Laws.Answer.{vectors-back}
+use Rattle.engine.specs.Laws.Named.{named, array, target, target-read, near, nearest-answer, refused-nearest-with, refusal-is}
 use Rattle.engine.proofs.nearest.Statement.{statement}
 use Rattle.engine.proofs.nearest.Tie as tie
 

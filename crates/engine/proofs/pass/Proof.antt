@@ -1,6 +1,6 @@
 -- `pass` is the row operations of one pass on the three tables.
 use denote.Ref.{now}
-use Rattle.engine.specs.Tables.{Given, searchable, vectors-room, u-room, coefficients-room, v-room, passed-four, passed-rows}
+use Rattle.engine.specs.Laws.Tables.{Given, searchable, vectors-room, u-room, coefficients-room, v-room, passed-four, passed-rows}
 use borrow.Author.Needs.{needs}
 use Rattle.engine.proofs.pass.Statement.{statement}
 use Rattle.engine.proofs.pass.Tie as tie

@@ -6,10 +6,10 @@ use denote.Ref.{now}
 use Rattle.row_operations.specs.Rows.{rowsOf, workOf}
 use Rattle.lattices.specs.Refusal.{Input, firstOf, vectorChecks}
 use Rattle.greedy_reduction.specs.Accepted.{Accepted, accepted}
-use Rattle.engine.specs.State.{rowsIn, greedyPasses, reduced}
-use Rattle.engine.specs.Fine.{Fine}
-use Rattle.engine.specs.Begin.{first, first-fine}
-use Rattle.engine.specs.Answer.{finished, begun, begun-few, reduced-fine, accepted-answer, refused-with}
+use Rattle.engine.specs.Laws.State.{rowsIn, greedyPasses, reduced}
+use Rattle.engine.specs.Laws.Fine.{Fine}
+use Rattle.engine.specs.Laws.Begin.{first, first-fine}
+use Rattle.engine.specs.Laws.Answer.{finished, begun, begun-few, reduced-fine, accepted-answer, refused-with}
 use borrow.Author.Needs.{needs}
 use Rattle.engine.proofs.reduce.Statement.{statement}
 use Rattle.engine.proofs.reduce.Tie as tie

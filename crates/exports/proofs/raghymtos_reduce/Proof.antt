@@ -12,7 +12,7 @@ use denote.Ref.{now}
 use borrow.Author.Tests.{le-leb, lt-leb}
 use Rattle.lattices.specs.Refusal.{Input}
 use Rattle.lattices.specs.Answer.{reductionOf}
-use Rattle.row_operations.specs.Rows.{vectorRow, tableRow}
+use Rattle.row_operations.specs.RowStructs.{vectorRow, tableRow}
 use Rattle.exports.specs.Layout.{flat, head, layout}
 use Rattle.exports.specs.Runs.{written-short}
 use Rattle.exports.specs.Shape.{shape, unpacked, answer-stored}

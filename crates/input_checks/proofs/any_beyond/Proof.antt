@@ -7,7 +7,7 @@ use mir.Syntax.{w64}
 use mir.Facts.{toZ-ofZ}
 use borrow.Author.Needs.{needs}
 use Rattle.lattices.specs.Vector.{nth}
-use Rattle.lattices.specs.Refusal.{any}
+use Rattle.integers.specs.Every.{any}
 use Rattle.input_checks.specs.Any.{beyond, any-here, any-later, any-end}
 use Rattle.input_checks.proofs.any_beyond.Statement.{statement}
 use Rattle.input_checks.proofs.any_beyond.Tie as tie

@@ -7,7 +7,8 @@ use lib.Seq.{getD-take}
 use lib.ListN.{take, drop, getD, length, length-take}
 use borrow.Author.Needs.{needs}
 use Rattle.lattices.specs.Vector.{Vec}
-use Rattle.lattices.specs.Refusal.{any, tooLong}
+use Rattle.integers.specs.Every.{any}
+use Rattle.lattices.specs.Refusal.{tooLong}
 use Rattle.input_checks.specs.Any.{any-here, any-later, any-end}
 use Rattle.input_checks.proofs.any_long.Statement.{statement}
 use Rattle.input_checks.proofs.any_long.Tie as tie

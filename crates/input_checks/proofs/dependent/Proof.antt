@@ -3,7 +3,7 @@ use mathlib.Core.Path.{sym, ap, _∙_}
 use mathlib.Core.Bool.{not}
 use lib.ListN.{take}
 use borrow.Author.Needs.{needs}
-use Rattle.lattices.specs.Refusal.{any}
+use Rattle.integers.specs.Every.{any}
 use Rattle.input_checks.specs.Volumes.{nonzero, dependent-test}
 use Rattle.input_checks.proofs.dependent.Statement.{statement}
 use Rattle.input_checks.proofs.dependent.Tie as tie

@@ -10,7 +10,7 @@ use mir.Val.{ofZ, toZ}
 use mir.Syntax.{w64}
 use borrow.Author.Needs.{needs}
 use denote.Ref.{now}
-use Rattle.input_checks.specs.Minors.{halves, expansion, Turn, turn, bit-≤, expansion-taken, expansion-left, expansion-entry}
+use Rattle.input_checks.specs.Minors.{halves, expansion, MinorTurn, turn, bit-≤, expansion-taken, expansion-left, expansion-entry}
 use Rattle.input_checks.proofs.entry.Statement.{statement}
 use Rattle.input_checks.proofs.entry.Tie as tie
 
@@ -36,7 +36,7 @@ array-copy-out-sum c = search needs
 odd : (c : tie.Then1 Inv-loop μ-loop) → halves (c .before .before .loop .k) (c .before .before .before .args .s) % 2 ≡ 1
 odd c = ap (λ n. n % 2) (sym (c .before .before .loop .inv .1 .1 .0)) ∙ c .if1 .taken
 
-facts : (c : tie.At-loop Inv-loop μ-loop) → Turn (c .before .args .t1) (now (c .before .args .w)) (c .before .args .s) (c .loop .k)
+facts : (c : tie.At-loop Inv-loop μ-loop) → MinorTurn (c .before .args .t1) (now (c .before .args .w)) (c .before .args .s) (c .loop .k)
 facts c = turn _ _ (c .before .pre .0) (c .before .pre .1 .0) _ _ (c .loop .inv .0)
 
 sub-sum-2 : tie.Need-sub-sum-2 Inv-loop μ-loop

@@ -10,7 +10,8 @@ use mir.Syntax.{w64}
 use borrow.Author.Needs.{needs}
 use Rattle.integers.specs.Size.{Within, within-le}
 use Rattle.lattices.specs.Vector.{N, nth}
-use Rattle.lattices.specs.Refusal.{any, mostSquare}
+use Rattle.integers.specs.Every.{any}
+use Rattle.lattices.specs.Refusal.{mostSquare}
 use Rattle.input_checks.specs.Any.{beyond, within-limit}
 use Rattle.input_checks.proofs.long.Statement.{statement}
 use Rattle.input_checks.proofs.long.Tie as tie

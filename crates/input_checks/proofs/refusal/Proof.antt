@@ -8,8 +8,9 @@ use native.Mathlib.Omega.{arith}
 use lib.ListN.{drop}
 use borrow.Author.Needs.{needs}
 use borrow.Author.Tests.{not-false, eq-eqb, ne-eqb}
-use Rattle.lattices.specs.RefusalLaws.{one-to}
-use Rattle.lattices.specs.Refusal.{Input, basis, vectorChecks, any, tooLong, oneTo, mostVectors, mostCoordinates}
+use Rattle.lattices.specs.Laws.Refusal.{one-to}
+use Rattle.lattices.specs.Refusal.{Input, basis, vectorChecks, tooLong, oneTo, mostVectors, mostCoordinates}
+use Rattle.integers.specs.Every.{any}
 use Rattle.lattices.specs.Volume.{isDependent}
 use Rattle.input_checks.specs.First.{First, found, none, here, later}
 use Rattle.input_checks.specs.Rows.{short, long-rows, dependent-rows}
@@ -19,6 +20,12 @@ use Rattle.input_checks.proofs.refusal.Tie as tie
 -- the checks that were passed
 abbrev given : tie.Start → Input
 given c = record { numbers = c .args .numbers .now; d = c .args .d; m = c .args .m; target = [] }
+
+one-to-requires : tie.Need-one-to-requires
+one-to-requires c κs = search needs
+
+returns : tie.Need-returns
+returns c = found (given (c .before .before)) vectorChecks (here (ap not (sym (c .before .one-to .ensures)) ∙ c .if1 .taken))
 
 counted : (c : tie.Else1) → not (oneTo mostVectors (c .before .before .args .d)) ≡ false
 counted c = ap not (sym (c .before .one-to .ensures)) ∙ c .if1 .left
@@ -46,12 +53,6 @@ dependence c =
     let e = c .before .before .before .before .before in
     let a = e .before .before .before .before .args in
     sym (c .dependent .ensures ∙ dependent-rows (a .d) (a .m) (a .numbers .now) (few e) (narrow e) (c .before .before .before .basis .ensures))
-
-one-to-requires : tie.Need-one-to-requires
-one-to-requires c κs = search needs
-
-returns : tie.Need-returns
-returns c = found (given (c .before .before)) vectorChecks (here (ap not (sym (c .before .one-to .ensures)) ∙ c .if1 .taken))
 
 one-to-requires-2 : tie.Need-one-to-requires-2
 one-to-requires-2 c κs = search needs

@@ -8,10 +8,10 @@ use mir.Syntax.{w64}
 use mir.Val.{SFits}
 use mir.Facts.{toZ-ofZ}
 use Rattle.lattices.specs.Vector.{nth}
-use Rattle.lattices.specs.VectorLaws.{≈-of-≡}
+use Rattle.lattices.specs.Laws.Vector.{≈-of-≡}
 use Rattle.lattices.specs.Nearest.{nearest}
-use Rattle.lattices.specs.AnswerLaws.{padded-same}
-use Rattle.successive_minima.specs.NearestLaws.{nearest-count}
+use Rattle.lattices.specs.Laws.Answer.{padded-same}
+use Rattle.successive_minima.specs.Laws.NearestLaws.{nearest-count}
 use Rattle.nearest_of_three.specs.Searchable.{Given, given}
 use Rattle.nearest_of_four.specs.Near.{Near, searchable, taken, left-room}
 use Rattle.nearest_of_four.specs.Steps.{listed-few}

@@ -5,14 +5,14 @@ use mathlib.Core.Path.{_≡_, _∙_}
 use mathlib.Core.List.{[]}
 use lib.ListN.{length, getD, take}
 use Rattle.lattices.specs.Vector.{_⊕_}
-use Rattle.nearest_of_four.specs.Near.{Four, four, near-closer}
+use Rattle.nearest_of_four.specs.Near.{FourVectors, four, near-closer}
 use Rattle.nearest_of_four.specs.Steps.{Better}
-use Rattle.nearest_of_four.specs.State.{State, start, measure, small, next, descends, ends, sum-is, sum-room}
+use Rattle.nearest_of_four.specs.State.{LayerState, start, measure, small, next, descends, ends, sum-is, sum-room}
 use Rattle.nearest_of_four.proofs.closest_of_four.Statement.{statement}
 use Rattle.nearest_of_four.proofs.closest_of_four.Tie as tie
 
 abbrev Inv-loop : tie.InvT-loop
-Inv-loop b x₀ r₀ x r = State (take 3 b) (getD b 3 []) r₀ x r
+Inv-loop b x₀ r₀ x r = LayerState (take 3 b) (getD b 3 []) r₀ x r
 
 abbrev μ-loop : tie.MeasureT-loop
 μ-loop b x₀ r₀ x r = measure x r
@@ -23,7 +23,7 @@ loop-holds c = start _ _ _
 count : (s : tie.Start Inv-loop μ-loop) → length (s .args .b) ≡ 4
 count s = search needs
 
-vectors : (s : tie.Start Inv-loop μ-loop) → Four (take 3 (s .args .b)) (getD (s .args .b) 3 [])
+vectors : (s : tie.Start Inv-loop μ-loop) → FourVectors (take 3 (s .args .b)) (getD (s .args .b) 3 [])
 vectors s = four (s .args .b) (count s) (s .pre)
 
 next-step-requires : tie.Need-next-step-requires Inv-loop μ-loop

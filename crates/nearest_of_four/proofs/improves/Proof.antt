@@ -7,7 +7,7 @@ use mir.Val.{SFits}
 use mir.Facts.{toZ-ofZ}
 use Rattle.integers.specs.Order.{ltZ-true, ltZ-false, ≤ℤ-antisymm}
 use Rattle.integers.specs.Lex.{below-<, below->, below-≡}
-use Rattle.successive_minima.specs.Digits.{zeros}
+use Rattle.successive_minima.specs.Laws.Digits.{zeros}
 use Rattle.nearest_of_four.proofs.improves.Statement.{statement}
 use Rattle.nearest_of_four.proofs.improves.Tie as tie
 

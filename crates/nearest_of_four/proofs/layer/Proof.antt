@@ -11,7 +11,7 @@ use Rattle.integers.specs.Size.{within-le}
 use Rattle.lattices.specs.Vector.{nth, comb, _⊙_, _⊖_}
 use Rattle.lattices.specs.Nearest.{nearest}
 use Rattle.lattices.specs.Answer.{padded}
-use Rattle.successive_minima.specs.NearestLaws.{nearest-count}
+use Rattle.successive_minima.specs.Laws.NearestLaws.{nearest-count}
 use Rattle.nearest_of_three.specs.Searchable.{Given}
 use Rattle.nearest_of_four.specs.Near.{three, coordinates, layer-given, layer-room, taken, left-room, rest-bounded}
 use Rattle.nearest_of_four.specs.Steps.{listed}

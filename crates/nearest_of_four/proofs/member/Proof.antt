@@ -6,9 +6,9 @@ use lib.Signed.{leZ}
 use mir.Syntax.{w64}
 use mir.Val.{SFits}
 use mir.Facts.{toZ-ofZ}
-use Rattle.lattices.specs.VectorLaws.{≈-N}
+use Rattle.lattices.specs.Laws.Vector.{≈-N}
 use Rattle.nearest_of_four.specs.Near.{left-bounded}
-use Rattle.successive_minima.specs.Members.{isMember}
+use Rattle.successive_minima.specs.Member.{isMember}
 use Rattle.nearest_of_four.proofs.member.Statement.{statement}
 use Rattle.nearest_of_four.proofs.member.Tie as tie
 

@@ -11,7 +11,7 @@ use mir.Val.{SFits}
 use mir.Facts.{toZ-ofZ}
 use Rattle.integers.specs.Size.{fits-within}
 use Rattle.lattices.specs.Vector.{nth}
-use Rattle.successive_minima.specs.Layers.{Layer}
+use Rattle.successive_minima.specs.Laws.Layers.{Layer}
 use Rattle.nearest_of_four.specs.Near.{Reachable, near-layer, layer-given}
 use Rattle.nearest_of_four.specs.Steps.{Solved, fiveLayers, fiveLayers-small, solved-better, solved-none, decided-found, decided-none}
 use Rattle.nearest_of_four.proofs.walk.Statement.{statement}

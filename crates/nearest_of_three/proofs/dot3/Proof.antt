@@ -12,7 +12,7 @@ use mir.Facts.{toZ-ofZ}
 use Rattle.integers.specs.Size.{within-le, fits-within}
 use Rattle.lattices.specs.Vector.{dot}
 use Rattle.row_operations.specs.Dot.{dot-suc}
-use Rattle.row_operations.specs.Dot.{Turn}
+use Rattle.row_operations.specs.Dot.{DotTurn}
 use Rattle.nearest_of_three.specs.Fits.{sum-within, turn-at}
 use Rattle.nearest_of_three.proofs.dot3.Statement.{statement}
 use Rattle.nearest_of_three.proofs.dot3.Tie as tie
@@ -27,7 +27,7 @@ loop-holds : tie.Need-loop-holds Inv-loop μ-loop
 unfolding dot
 loop-holds c = (search needs, refl)
 
-turn : (c : tie.After-sum2 Inv-loop μ-loop) → Turn (c .before .before .before .before .args .t1) (c .before .before .before .before .args .t2) (c .before .before .before .loop .i)
+turn : (c : tie.After-sum2 Inv-loop μ-loop) → DotTurn (c .before .before .before .before .args .t1) (c .before .before .before .before .args .t2) (c .before .before .before .loop .i)
 turn c = turn-at _ _ (c .before .before .before .before .pre) _ (search needs) (record { sfits = c .before .sum .given }) (record { sfits = c .sum2 .given })
 
 mul-sum : tie.Need-mul-sum Inv-loop μ-loop

@@ -4,7 +4,7 @@ use lib.IntN.{pos}
 use mir.Facts.{toZ-ofZ}
 use Rattle.integers.specs.Order.{ltZ-true, ltZ-false, ≤ℤ-antisymm}
 use Rattle.integers.specs.Lex.{below-<, below->, below-≡}
-use Rattle.successive_minima.specs.Digits.{zeros}
+use Rattle.successive_minima.specs.Laws.Digits.{zeros}
 use borrow.Author.Needs.{needs}
 use Rattle.nearest_of_three.proofs.improves.Statement.{statement}
 use Rattle.nearest_of_three.proofs.improves.Tie as tie

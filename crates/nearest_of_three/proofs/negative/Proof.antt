@@ -18,56 +18,45 @@ Inv-loop e i₀ i = (i ≤ 3) × (negative e ≡ negative (drop i e))
 abbrev μ-loop : tie.MeasureT-loop
 μ-loop e i₀ i = 3 - i
 
--- src/lib.rt:49:5
 loop-holds : tie.Need-loop-holds Inv-loop μ-loop
 loop-holds c = (search needs, refl)
 
--- src/lib.rt:50:12
 mul-if1 : tie.Need-mul-if1 Inv-loop μ-loop
 mul-if1 c = search needs
 
--- src/lib.rt:50:12
 array-copy-out-if1 : tie.Need-array-copy-out-if1 Inv-loop μ-loop
 array-copy-out-if1 c = search needs
 
--- src/lib.rt:51:13
 returns : tie.Need-returns Inv-loop μ-loop
 returns c =
     let b = c .before .before .before in
     let p : SFits w64 (nth (b .before .args .t1) (b .loop .i)) = record { sfits = c .before .if12 .given } in
     sym (b .loop .inv .1 ∙ negative-below (b .before .args .t1) (b .loop .i) (search needs) (simp (toZ-ofZ, p) at (c .if1 .taken)))
 
--- src/lib.rt:53:16
 mul-if2 : tie.Need-mul-if2 Inv-loop μ-loop
 mul-if2 c = search needs
 
--- src/lib.rt:53:16
 array-copy-out-if2 : tie.Need-array-copy-out-if2 Inv-loop μ-loop
 array-copy-out-if2 c = search needs
 
--- src/lib.rt:54:13
 returns-2 : tie.Need-returns-2 Inv-loop μ-loop
 returns-2 c =
     let b = c .before .before .before .before .before in
     let p : SFits w64 (nth (b .before .args .t1) (b .loop .i)) = record { sfits = c .before .if22 .given } in
     sym (b .loop .inv .1 ∙ negative-above (b .before .args .t1) (b .loop .i) (search needs) (simp (toZ-ofZ, p) at (c .if2 .taken)))
 
--- src/lib.rt:49:9
 add-i : tie.Need-add-i Inv-loop μ-loop
 add-i c = search needs
 
--- src/lib.rt:49:5
 loop-less : tie.Need-loop-less Inv-loop μ-loop
 loop-less c = search needs
 
--- src/lib.rt:49:5
 loop-again : tie.Need-loop-again Inv-loop μ-loop
 loop-again c =
     let b = c .before .before .before .before .before in
     let p : SFits w64 (nth (b .before .args .t1) (b .loop .i)) = record { sfits = c .before .if22 .given } in
     (search needs, b .loop .inv .1 ∙ negative-next (b .before .args .t1) (b .loop .i) (search needs) (simp (toZ-ofZ, p) at (c .before .before .if1 .left)) (simp (toZ-ofZ, p) at (c .if2 .left)))
 
--- src/lib.rt:46:1
 returns-3 : tie.Need-returns-3 Inv-loop μ-loop
 returns-3 c = let b = c .before in sym (b .loop .inv .1 ∙ negative-end (b .loop .i) (b .before .args .t1) (search needs))
 

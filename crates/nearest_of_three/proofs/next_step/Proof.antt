@@ -8,7 +8,7 @@ use Rattle.lattices.specs.Vector.{_⊕_}
 use Rattle.integers.specs.Size.{within-le}
 use Rattle.nearest_of_three.specs.Fits.{sized-twice}
 use Rattle.nearest_of_three.specs.Found.{None, decided-found}
-use Rattle.nearest_of_three.specs.Multiples.{Settled, singles-none, fewer-settled}
+use Rattle.nearest_of_three.specs.Multiples.{SettledAlong, singles-none, fewer-settled}
 use Rattle.nearest_of_three.specs.Steps.{count}
 use Rattle.nearest_of_three.proofs.next_step.Statement.{statement}
 use Rattle.nearest_of_three.proofs.next_step.Tie as tie
@@ -20,7 +20,7 @@ returns : tie.Need-returns
 returns c = decided-found (c .before .before .args .k) _ _ _ (c .if1 .taken) (c .before .along .ensures .0)
 
 -- the lists of at most one vector are the first pair
-one : (k : ℕ) → k < 2 → (g : List (List ℤ)) (c : List ℤ) → Settled k g c → None (count k) g (c ⊕ c)
+one : (k : ℕ) → k < 2 → (g : List (List ℤ)) (c : List ℤ) → SettledAlong k g c → None (count k) g (c ⊕ c)
 one zero h g c s = singles-none 0 (omega arith) g c s
 one (suc zero) h g c s = singles-none 1 (omega arith) g c s
 one (suc (suc k)) h g c s = absurd (omega arith)

@@ -9,7 +9,7 @@ use Rattle.lattices.specs.Vector.{_⊕_}
 use Rattle.nearest_of_three.specs.Fits.{sized-wide}
 use Rattle.nearest_of_three.specs.Found.{Better}
 use Rattle.nearest_of_three.specs.Searchable.{Given, given, coordinates, rows-bounded}
-use Rattle.nearest_of_three.specs.State.{State, Kept, kept-start, kept-next, sized, diagonal, small, measure, descends, nearest-is}
+use Rattle.nearest_of_three.specs.State.{SearchState, Kept, kept-start, kept-next, sized, diagonal, small, measure, descends, nearest-is}
 use Rattle.nearest_of_three.proofs.search.Statement.{statement}
 use Rattle.nearest_of_three.proofs.search.Tie as tie
 
@@ -34,7 +34,7 @@ vectors : (c : tie.At-loop Inv-loop μ-loop) → let s = c .before .before .befo
 vectors c = let s = c .before .before .before .before in given (s .args .k) (now (s .args .b)) (s .args .t) (s .pre .0) (s .pre .1)
 
 state : (c : tie.At-loop Inv-loop μ-loop)
-    → let s = c .before .before .before .before in State (s .args .k) (take (s .args .k) (now (s .args .b))) (s .args .t) (c .before .before .before .gram .result) (c .loop .c) (c .loop .x)
+    → let s = c .before .before .before .before in SearchState (s .args .k) (take (s .args .k) (now (s .args .b))) (s .args .t) (c .before .before .before .gram .result) (c .loop .c) (c .loop .x)
 state c = c .loop .inv .state _ _ (vectors c) (c .before .before .before .gram .ensures) (c .before .products .ensures)
 
 next-step-requires : tie.Need-next-step-requires Inv-loop μ-loop

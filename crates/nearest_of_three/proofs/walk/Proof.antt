@@ -11,7 +11,7 @@ use mir.Val.{SFits, ofZ, toZ}
 use mir.Facts.{toZ-ofZ}
 use Rattle.integers.specs.Size.{Within, within-le, within-add, within-mul, fits-within}
 use Rattle.lattices.specs.Vector.{dot, _⊙_}
-use Rattle.successive_minima.specs.Digits.{Bounded}
+use Rattle.successive_minima.specs.Laws.Digits.{Bounded}
 use Rattle.nearest_of_three.specs.Numbers.{gainOf, negative, improvesOf}
 use Rattle.nearest_of_three.specs.Fits.{change-within, pair-within, gain-opposite}
 use Rattle.nearest_of_three.specs.Multiples.{within-twice}

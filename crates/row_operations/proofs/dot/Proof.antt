@@ -9,7 +9,7 @@ use mir.Syntax.{w64}
 use mir.Val.{ofZ, toZ}
 use mir.Facts.{toZ-ofZ}
 use Rattle.lattices.specs.Vector.{dot}
-use Rattle.row_operations.specs.Dot.{Turn, dot-suc, dot-turn}
+use Rattle.row_operations.specs.Dot.{DotTurn, dot-suc, dot-turn}
 use Rattle.row_operations.proofs.dot.Statement.{statement}
 use Rattle.row_operations.proofs.dot.Tie as tie
 
@@ -23,7 +23,7 @@ loop-holds : tie.Need-loop-holds Inv-loop μ-loop
 unfolding dot
 loop-holds c = (search needs, refl)
 
-turn : (c : tie.After-sum2 Inv-loop μ-loop) → Turn (c .before .before .before .before .args .t1) (c .before .before .before .before .args .t2) (c .before .before .before .loop .i)
+turn : (c : tie.After-sum2 Inv-loop μ-loop) → DotTurn (c .before .before .before .before .args .t1) (c .before .before .before .before .args .t2) (c .before .before .before .loop .i)
 turn c = let s = c .before .before .before .before in dot-turn _ _ (s .pre .0) (s .pre .1) _ (search needs)
 
 mul-sum : tie.Need-mul-sum Inv-loop μ-loop

@@ -9,8 +9,8 @@ use mir.Syntax.{w64}
 use mir.Val.{ofZ, toZ}
 use mir.Facts.{toZ-ofZ}
 use Rattle.lattices.specs.Vector.{N}
-use Rattle.row_operations.specs.Rows.{Four, rowsOf}
-use Rattle.row_operations.specs.Order.{Small, insertAt, insertAt-stop, insertAt-go, insertAt-done, exchanged-small, length-exchanged}
+use Rattle.row_operations.specs.Rows.{FourRows, rowsOf}
+use Rattle.row_operations.specs.Order.{ShortRows, insertAt, insertAt-stop, insertAt-go, insertAt-done, exchanged-small, length-exchanged}
 use borrow.Author.Needs.{needs}
 use Rattle.row_operations.proofs.insert.Statement.{statement}
 use Rattle.row_operations.proofs.insert.Tie as tie
@@ -19,7 +19,7 @@ use Rattle.row_operations.proofs.exchange.Reads as exchange-reads
 
 abbrev Inv-loop : tie.InvT-loop
 Inv-loop b₀ u₀ v₀ i n j₀ b u v j =
-    (j < n) × (Four b u v × (Small b × (insertAt j (n - suc j) (rowsOf b u v) ≡ insertAt i (n - suc i) (rowsOf b₀ u₀ v₀))))
+    (j < n) × (FourRows b u v × (ShortRows b × (insertAt j (n - suc j) (rowsOf b u v) ≡ insertAt i (n - suc i) (rowsOf b₀ u₀ v₀))))
 
 abbrev μ-loop : tie.MeasureT-loop
 μ-loop b₀ u₀ v₀ i n j₀ b u v j = n - j

@@ -12,7 +12,7 @@ use mir.Facts.{toZ-ofZ}
 use Rattle.lattices.specs.Vector.{_⊖_, _⊙_}
 use Rattle.row_operations.specs.Front.{front, front-all}
 use Rattle.row_operations.specs.Loss.{⊖-nothing}
-use Rattle.row_operations.specs.Minus.{Turn, minus-turn, minus-entry, minus-next, length-minus}
+use Rattle.row_operations.specs.Minus.{MinusTurn, minus-turn, minus-entry, minus-next, length-minus}
 use Rattle.row_operations.proofs.minus_multiple.Statement.{statement}
 use Rattle.row_operations.proofs.minus_multiple.Tie as tie
 
@@ -34,7 +34,7 @@ loop-holds : tie.Need-loop-holds Inv-loop μ-loop
 loop-holds c = (search needs, refl)
 
 -- what fits in a turn, and the entry that it reads
-turn : (c : tie.After-r Inv-loop μ-loop) → Turn (c .before .before .before .before .args .a) (c .before .before .before .before .args .q) (c .before .before .before .before .args .t3) (c .before .before .loop .i)
+turn : (c : tie.After-r Inv-loop μ-loop) → MinusTurn (c .before .before .before .before .args .a) (c .before .before .before .before .args .q) (c .before .before .before .before .args .t3) (c .before .before .loop .i)
 turn c = minus-turn _ _ _ _ (c .before .before .before .before .pre (c .before .before .loop .i))
 
 as-it-was : (c : tie.After-r Inv-loop μ-loop) → getD (c .before .before .loop .r) (c .before .before .loop .i) (pos 0) ≡ getD (c .before .before .before .before .args .a) (c .before .before .loop .i) (pos 0)

@@ -3,8 +3,8 @@ use mathlib.Core.Path.{_≡_, sym, ap, _∙_}
 use Prim.Native.Nat.{_≤_, _-_, suc}
 use native.Mathlib.Omega.{arith}
 use denote.Ref.{now}
-use Rattle.row_operations.specs.Rows.{Four, rowsOf, four-rows}
-use Rattle.row_operations.specs.Order.{Small, insertAt, orderedFrom, orderedFrom-last, orderedFrom-next}
+use Rattle.row_operations.specs.Rows.{FourRows, rowsOf, four-rows}
+use Rattle.row_operations.specs.Order.{ShortRows, insertAt, orderedFrom, orderedFrom-last, orderedFrom-next}
 use borrow.Author.Needs.{needs}
 use Rattle.row_operations.proofs.order.Statement.{statement}
 use Rattle.row_operations.proofs.order.Tie as tie
@@ -12,7 +12,7 @@ use Rattle.row_operations.proofs.insert.Reads as insert-reads
 
 abbrev Inv-loop : tie.InvT-loop
 Inv-loop b₀ u₀ v₀ n i₀ b u v i =
-    (i ≤ n) × (Four b u v × (Small b × (rowsOf b u v ≡ orderedFrom n i (rowsOf b₀ u₀ v₀))))
+    (i ≤ n) × (FourRows b u v × (ShortRows b × (rowsOf b u v ≡ orderedFrom n i (rowsOf b₀ u₀ v₀))))
 
 abbrev μ-loop : tie.MeasureT-loop
 μ-loop b₀ u₀ v₀ n i₀ b u v i = i

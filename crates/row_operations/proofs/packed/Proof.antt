@@ -4,7 +4,7 @@ use mathlib.Core.List.{map}
 use Prim.Native.Nat.{_≤_, _<_, _-_}
 use native.Mathlib.Numerals.{add-one}
 use denote.Ref.{now}
-use Rattle.row_operations.specs.Rows.{vectorRow, tableRow}
+use Rattle.row_operations.specs.RowStructs.{vectorRow, tableRow}
 use Rattle.row_operations.specs.Front.{front}
 use Rattle.row_operations.specs.Packing.{blanks, row-packed, rows-packed, work-packed}
 use borrow.Author.Needs.{needs}

@@ -1,6 +1,7 @@
 -- The four rows packed one by one are `map` of the table.
 use mathlib.Core.List.{[]}
-use Rattle.row_operations.specs.Rows.{tableRow, map-four}
+use Rattle.row_operations.specs.RowStructs.{tableRow}
+use Rattle.row_operations.specs.Rows.{map-four}
 use borrow.Author.Needs.{needs}
 use Rattle.row_operations.proofs.table_rows.Statement.{statement}
 use Rattle.row_operations.proofs.table_rows.Tie as tie

@@ -2,7 +2,8 @@
 use mathlib.Core.Path.{_∙_}
 use mathlib.Core.List.{[]}
 use denote.Ref.{now}
-use Rattle.row_operations.specs.Rows.{tableRow, set-four, map-four}
+use Rattle.row_operations.specs.RowStructs.{tableRow}
+use Rattle.row_operations.specs.Rows.{set-four, map-four}
 use borrow.Author.Needs.{needs}
 use Rattle.row_operations.proofs.take_table.Statement.{statement}
 use Rattle.row_operations.proofs.take_table.Tie as tie

@@ -2,7 +2,8 @@
 use mathlib.Core.Path.{_∙_}
 use mathlib.Core.List.{[]}
 use denote.Ref.{now}
-use Rattle.row_operations.specs.Rows.{vectorRow, set-four, map-four}
+use Rattle.row_operations.specs.RowStructs.{vectorRow}
+use Rattle.row_operations.specs.Rows.{set-four, map-four}
 use borrow.Author.Needs.{needs}
 use Rattle.row_operations.proofs.take_vectors.Statement.{statement}
 use Rattle.row_operations.proofs.take_vectors.Tie as tie

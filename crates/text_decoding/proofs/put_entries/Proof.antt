@@ -5,7 +5,8 @@ use native.Mathlib.Omega.{arith}
 use lib.ListN.{length, take}
 use borrow.Author.Needs.{needs}
 use Rattle.catalogue_rules.specs.Form.{EntryFits}
-use Rattle.catalogue_records.specs.Entries.{entryIn, entriesIn, beyond, all-stored, length-entries, inside, at-place, entry-has}
+use Rattle.catalogue_records.specs.EntriesIn.{entryIn, entriesIn}
+use Rattle.catalogue_records.specs.Entries.{beyond, all-stored, length-entries, inside, at-place, entry-has}
 use Rattle.text_rules.specs.Text.{entryText}
 use Rattle.text_output.specs.Puts.{Puts, puts-none, puts-length}
 use Rattle.text_output.specs.Joined.{joined, joined-room, puts-next, puts-all}

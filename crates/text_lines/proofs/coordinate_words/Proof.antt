@@ -14,10 +14,10 @@ use mir.Facts.{toZ-ofZ}
 use borrow.Author.Needs.{needs}
 use borrow.Author.Tests.{ltb-false}
 use Rattle.lattices.specs.Vector.{nth}
-use Rattle.lattices.specs.Refusal.{any}
+use Rattle.integers.specs.Every.{any}
 use Rattle.catalogue_rules.specs.Word.{encode}
 use Rattle.catalogue_rules.specs.Write.{coordinateWord}
-use Rattle.catalogue_rules.specs.ReadVectors.{encoded}
+use Rattle.catalogue_rules.specs.Laws.ReadVectors.{encoded}
 use Rattle.input_checks.specs.Any.{beyond, any-here, any-later, any-end}
 use Rattle.catalogue_writer.specs.Loads.{encoded-more}
 use Rattle.text_lines.proofs.coordinate_words.Statement.{statement}

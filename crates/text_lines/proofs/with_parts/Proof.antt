@@ -8,10 +8,10 @@ use lib.ListN.{length, take, drop}
 use lib.Seq.{take-at}
 use borrow.Author.Needs.{needs}
 use borrow.Author.Tests.{not-true, not-false}
-use Rattle.lattices.specs.Refusal.{any}
+use Rattle.integers.specs.Every.{any}
 use Rattle.catalogue_rules.specs.Word.{see}
 use Rattle.catalogue_rules.specs.Write.{coordinateWord}
-use Rattle.catalogue_rules.specs.ReadVectors.{encoded}
+use Rattle.catalogue_rules.specs.Laws.ReadVectors.{encoded}
 use Rattle.input_checks.specs.Any.{beyond}
 use Rattle.text_parts.specs.Parts.{isEnd, takenAt}
 use Rattle.text_rules.specs.Encoding.{at}

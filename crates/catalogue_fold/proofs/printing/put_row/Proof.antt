@@ -6,12 +6,13 @@ use lib.ListN.{length, set, take}
 use mir.Syntax.{w64}
 use mir.Facts.{toZ-ofZ}
 use borrow.Author.Needs.{needs}
-use Rattle.catalogue_fold.specs.Spread.{putAll, length-put, put-more}
+use lib.Seq.{sets, length-sets}
+use Rattle.catalogue_fold.specs.Spread.{sets-more}
 use Rattle.catalogue_fold.proofs.printing.put_row.Statement.{statement}
 use Rattle.catalogue_fold.proofs.printing.put_row.Tie as tie
 
 abbrev Inv-loop : tie.InvT-loop
-Inv-loop out₀ n m v j₀ out j = (j ≤ m) × (out ≡ putAll out₀ n (take j v))
+Inv-loop out₀ n m v j₀ out j = (j ≤ m) × (out ≡ sets out₀ n (take j v))
 
 abbrev μ-loop : tie.MeasureT-loop
 μ-loop out₀ n m v j₀ out j = m - j
@@ -26,7 +27,7 @@ array-copy-out-out : tie.Need-array-copy-out-out Inv-loop μ-loop
 array-copy-out-out c = search needs
 
 long : (c : tie.At-loop Inv-loop μ-loop) → length (c .loop .out) ≡ length (c .before .args .out .now)
-long c = let a = c .before .args in ap length (c .loop .inv .1) ∙ length-put (a .out .now) (a .n) (take (c .loop .j) (a .t3))
+long c = let a = c .before .args in ap length (c .loop .inv .1) ∙ length-sets (a .out .now) (a .n) (take (c .loop .j) (a .t3))
 
 wide : (c : tie.Start Inv-loop μ-loop) → length (c .args .t3) ≡ 4
 wide c = search needs
@@ -52,7 +53,7 @@ loop-again c =
     let a = l .before .args in (
       search needs,
       ap₂ (λ o x. set o (a .n + l .loop .j) x) (l .loop .inv .1) (toZ-ofZ {w = w64} (record { sfits = c .out .given }))
-          ∙ put-more (a .out .now) (a .n) (a .t3) (l .loop .j) (omega (arith, wide (l .before), l .before .pre .0, c .before .loop-test .taken)),
+          ∙ sets-more (a .out .now) (a .n) (a .t3) (l .loop .j) (omega (arith, wide (l .before), l .before .pre .0, c .before .loop-test .taken)),
     )
 
 same-length : tie.Need-same-length Inv-loop μ-loop
@@ -63,7 +64,7 @@ returns c =
     let l = c .before in
     let a = l .before .args in
     let end : l .loop .j ≡ a .m = omega (arith, l .loop .inv .0, c .loop-test .left) in
-    l .loop .inv .1 ∙ ap (λ j. putAll (a .out .now) (a .n) (take j (a .t3))) end
+    l .loop .inv .1 ∙ ap (λ j. sets (a .out .now) (a .n) (take j (a .t3))) end
 
 pub put-row-spec : {M : Type 1} → statement M
 put-row-spec =

@@ -8,8 +8,10 @@ use lib.IntN.{pos}
 use lib.ListN.{length, getD, take}
 use lib.Seq.{length-take-le}
 use borrow.Author.Needs.{needs}
-use Rattle.catalogue_records.specs.Filled.{filled, length-filled}
-use Rattle.catalogue_fold.specs.Spread.{putAll, cut, cut-more, length-cut, put-filled}
+use lib.Seq.{sets}
+use Rattle.integers.specs.Filled.{filled}
+use Rattle.integers.specs.FilledLaws.{length-filled}
+use Rattle.catalogue_fold.specs.Spread.{cut, cut-more, length-cut, put-filled}
 use Rattle.catalogue_fold.proofs.printing.spread.Statement.{statement}
 use Rattle.catalogue_fold.proofs.printing.spread.Tie as tie
 
@@ -85,7 +87,7 @@ loop-again c =
     let done : length (cut m rows i) ≡ i * m = length-cut m rows i (omega arith) (λ j h. wider l j (omega (arith, h, test))) in (
       search needs,
       c .before .put-row .ensures
-          ∙ ap₂ (λ o n. putAll o n v) (l .loop .inv .1) (sym done)
+          ∙ ap₂ (λ o n. sets o n v) (l .loop .inv .1) (sym done)
           ∙ put-filled (pos 0) 16 (cut m rows i) v (omega (arith, done, wide, fits (c .before .before .before .before .before)))
           ∙ ap (filled (pos 0) 16) (sym (cut-more m rows i below)),
     )

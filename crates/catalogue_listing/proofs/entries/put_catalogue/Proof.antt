@@ -5,7 +5,7 @@ use native.Mathlib.Omega.{arith}
 use lib.ListN.{length, length-append}
 use Rattle.fold_rules.specs.Fold.{standingIn, closedList}
 use Rattle.fold_rules.specs.Listing.{entryLines}
-use Rattle.catalogue_records.specs.Entries.{entriesIn}
+use Rattle.catalogue_records.specs.EntriesIn.{entriesIn}
 use Rattle.catalogue_standing.specs.ReducedEntries.{keeps-fair}
 use Rattle.text_output.specs.Puts.{Puts, puts-then}
 use Rattle.catalogue_listing.specs.Counts.{countsLine, counts-text}

@@ -4,7 +4,8 @@ use Prim.Native.Nat.{_-_, _≤_, _<_}
 use native.Mathlib.Omega.{arith}
 use lib.ListN.{length, getD, take, length-map}
 use Rattle.fold_rules.specs.Fold.{stoodOf, closedList}
-use Rattle.catalogue_records.specs.Entries.{entryIn, entriesIn, beyond}
+use Rattle.catalogue_records.specs.EntriesIn.{entryIn, entriesIn}
+use Rattle.catalogue_records.specs.Entries.{beyond}
 use Rattle.catalogue_standing.specs.ReducedEntries.{ready-length}
 use Rattle.text_output.specs.Puts.{Puts, puts-none, puts-length}
 use Rattle.text_output.specs.Joined.{joined, joined-room, puts-next, puts-all}

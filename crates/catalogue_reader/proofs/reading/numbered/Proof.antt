@@ -7,7 +7,7 @@ use lib.ListN.{length, take, drop, length-take}
 use lib.Seq.{getD-take}
 use borrow.Author.Needs.{needs}
 use borrow.Author.Tests.{eq-eqb, ne-eqb}
-use Rattle.lattices.specs.Refusal.{any}
+use Rattle.integers.specs.Every.{any}
 use Rattle.input_checks.specs.Any.{any-here, any-later, any-end}
 use Rattle.catalogue_reader.specs.Readings.{isNumber}
 use Rattle.catalogue_reader.proofs.reading.numbered.Statement.{statement}

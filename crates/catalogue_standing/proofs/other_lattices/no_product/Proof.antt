@@ -6,7 +6,7 @@ use mir.Facts.{toZ-ofZ}
 use mir.Syntax.{w64}
 use borrow.Author.Needs.{needs}
 use Rattle.integers.specs.Size.{Within, fits-within}
-use Rattle.integers.specs.Lists.{nth-⊙}
+use Rattle.integers.specs.ListLaws.{nth-⊙}
 use Rattle.lattices.specs.Vector.{nth}
 use Rattle.catalogue_standing.proofs.other_lattices.no_product.Statement.{statement}
 use Rattle.catalogue_standing.proofs.other_lattices.no_product.Tie as tie

@@ -7,9 +7,9 @@ use lib.ListN.{length, getD, take, drop, length-take}
 use lib.Seq.{getD-take, length-take-le}
 use borrow.Author.Needs.{needs}
 use borrow.Author.Tests.{not-true, not-false}
-use Rattle.successive_minima.specs.Members.{isMember}
+use Rattle.successive_minima.specs.Member.{isMember}
 use Rattle.nearest_of_four.specs.Near.{Near}
-use Rattle.fold_rules.specs.Fold.{every}
+use Rattle.integers.specs.Every.{every}
 use Rattle.catalogue_standing.specs.Every.{every-here, every-later, every-end}
 use Rattle.catalogue_standing.specs.ReducedEntry.{rowsIn, fair-near, heldIn}
 use Rattle.catalogue_standing.proofs.reduced_entry.holds.Statement.{statement}

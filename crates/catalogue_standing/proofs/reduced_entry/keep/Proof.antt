@@ -5,10 +5,10 @@ use Prim.Native.Nat.{_*_, _≤_}
 use native.Mathlib.Omega.{arith}
 use lib.ListN.{length, take}
 use Rattle.lattices.specs.Answer.{reductionOf}
-use Rattle.row_operations.specs.Rows.{vectorRow}
+use Rattle.row_operations.specs.RowStructs.{vectorRow}
 use Rattle.catalogue_rules.specs.Catalogue.{coordinates}
-use Rattle.catalogue_rules.specs.EntriesAccepted.{numbers-back}
-use Rattle.catalogue_records.specs.Entries.{entryIn}
+use Rattle.catalogue_rules.specs.Laws.EntriesAccepted.{numbers-back}
+use Rattle.catalogue_records.specs.EntriesIn.{entryIn}
 use Rattle.catalogue_records.specs.Coordinates.{most, cut}
 use Rattle.catalogue_standing.specs.declared.reduced_entry.ReducedEntry.{ReducedEntry}
 use borrow.Author.Needs.{needs}

@@ -1,0 +1,114 @@
+-- Well-formed entries, written and read again, are accepted as they are, each head and see word at its place; and accepted entries stand at their places.
+use mathlib.Core.Path.{_≡_, refl, sym, ap, _∙_}
+use mathlib.Core.Bool.{Bool, true, false, not, _||_, false≢true}
+use mathlib.Core.List.{List, [], _∷_, map, map-append}
+use mathlib.Core.Option.{Option, none, some}
+use Prim.Native.Nat.{ℕ, _%_, _≤_, _<_}
+use native.Mathlib.Omega.{arith}
+use lib.ListN.{length, getD}
+use borrow.Author.Tests.{eqb-true, eq-eqb, le-ltb}
+use Rattle.integers.specs.Every.{any}
+use Rattle.integers.specs.All.{All}
+use Rattle.catalogue_rules.specs.Word.{end, encode, bytesOf}
+use Rattle.catalogue_rules.specs.Laws.Word.{words-bytes, length-bytes}
+use Rattle.catalogue_rules.specs.Catalogue.{See, Entry, refused, accepted, entries, mostBytes, mostEntries}
+use Rattle.catalogue_rules.specs.Read.{State, step, outside, closed, fileRows, isNumbered, firstPlace, dependentAt, lostAt, afterReading, afterWords, readWords, read}
+use Rattle.catalogue_rules.specs.Write.{entriesWords, catalogueWords, write}
+use Rattle.catalogue_rules.specs.Form.{mostNumber, EntryFits, EntryIndependent, Names, WellFormed, seeAt, pastSee, pastVectors, entryAt, placed}
+use Rattle.catalogue_rules.specs.Laws.Placed.{length-placed}
+use Rattle.catalogue_rules.specs.Laws.Moves.{Between, between}
+use Rattle.catalogue_rules.specs.Laws.RoundTrip.{same-entries}
+use Rattle.catalogue_rules.specs.Laws.WellFormed.{well-formed}
+use Rattle.catalogue_rules.specs.Laws.ReadVectors.{passes, one-word, at-end}
+use Rattle.lattices.specs.Laws.Refusal.{one-to}
+use Rattle.catalogue_rules.specs.Laws.ReadEntries.{SeeFits, pastEntries, New, entries-read}
+use Rattle.catalogue_rules.specs.Laws.WrittenSize.{words-small, length-written}
+
+-- ---- see words
+
+number-of : (es : List Entry) (n : ℕ) → All EntryFits es → any (isNumbered n) es ≡ true → n ≤ mostNumber
+number-of [] n p e = absurd (false≢true e)
+number-of (x ∷ es) n p e = go (isNumbered n x) refl e (number-of es n (p .1))
+  where
+    go : (t : Bool) → isNumbered n x ≡ t → (t || any (isNumbered n) es) ≡ true → (any (isNumbered n) es ≡ true → n ≤ mostNumber) → n ≤ mostNumber
+    go true q e more = let r = one-to mostNumber (x .head .number) (p .0 .head .number) in omega (arith, eqb-true (x .head .number) n q)
+    go false q e more = more e
+
+see-fits : (es : List Entry) → All EntryFits es → (o : Option See) → Names es o → SeeFits o
+see-fits es p none q = tt
+see-fits es p (some s) q = let r = number-of es (s .number) p q in omega arith
+
+pub sees-fit : (all es : List Entry) → All EntryFits all → All (λ e. Names all (e .see)) es → All (λ e. SeeFits (e .see)) es
+sees-fit all [] p q = tt
+sees-fit all (e ∷ es) p q = (see-fits all p (e .see) (q .0), sees-fit all es p (q .1))
+
+-- ---- the end
+
+numbered-placed : (n i : ℕ) (es : List Entry) → any (isNumbered n) (placed i es) ≡ any (isNumbered n) es
+numbered-placed n i [] = refl
+numbered-placed n i (e ∷ es) = ap (λ t. isNumbered n e || t) (numbered-placed n _ es)
+
+nowhere : (f : Entry → Option ℕ) (i : ℕ) (es : List Entry) → All (λ e. (j : ℕ) → f (entryAt j e) ≡ none) es → firstPlace f (placed i es) ≡ none
+nowhere f i [] p = refl
+nowhere f i (e ∷ es) p = ap (λ o. elim o [ some q ↦ some q | none ↦ firstPlace f (placed (pastSee (pastVectors i (e .vectors)) (e .see)) es) ]) (p .0 i) ∙ nowhere f _ es (p .1)
+
+all-independent : (es : List Entry) → All EntryIndependent es → All (λ e. (j : ℕ) → dependentAt (entryAt j e) ≡ none) es
+all-independent [] p = tt
+all-independent (e ∷ es) p = ((λ j. ap (λ t. elim t [ true ↦ some j | false ↦ none ]) (p .0)), all-independent es (p .1))
+
+found : (all fs : List Entry) → ((n : ℕ) → any (isNumbered n) fs ≡ any (isNumbered n) all) → (e : Entry) → Names all (e .see) → (j : ℕ) → lostAt fs (entryAt j e) ≡ none
+found all fs same e p j = go (e .see) p (pastVectors j (e .vectors))
+  where
+    go : (o : Option See) → Names all o → (k : ℕ)
+        → _≡_ {A = Option ℕ} (elim (seeAt k o) [ none ↦ none | some s ↦ elim (any (isNumbered (s .number)) fs) [ true ↦ none | false ↦ some (s .place) ] ]) none
+    go none p k = refl
+    go (some s) p k = ap (λ t. elim t [ true ↦ none | false ↦ some k ]) (same (s .number) ∙ p)
+
+all-found : (all fs : List Entry) → ((n : ℕ) → any (isNumbered n) fs ≡ any (isNumbered n) all) → (es : List Entry) → All (λ e. Names all (e .see)) es → All (λ e. (j : ℕ) → lostAt fs (entryAt j e) ≡ none) es
+all-found all fs same [] p = tt
+all-found all fs same (e ∷ es) p = (found all fs same e (p .0), all-found all fs same es (p .1))
+
+after-passes : (es : List Entry) → firstPlace dependentAt es ≡ none → firstPlace (lostAt es) es ≡ none → afterReading es ≡ accepted es
+after-passes es p q =
+    ap (λ o. elim o [ some p ↦ refused 5 p | none ↦ elim (firstPlace (lostAt es) es) [ some p ↦ refused 12 p | none ↦ accepted es ] ]) p
+    ∙ ap (λ o. elim o [ some p ↦ refused 12 p | none ↦ accepted es ]) q
+
+to-end : (s : State) (es : List Entry) (i n : ℕ) → Between s es → n ≡ length es → n ≤ mostEntries → readWords s i (encode (end n) ∷ []) ≡ accepted es
+unfolding readWords
+to-end s es i n b e few = one-word s (closed es) i (end n) [] (omega arith) (ap (λ c. step s i (end c)) e ∙ at-end i b)
+
+all-new : (es : List Entry) → New [] es
+all-new [] = tt
+all-new (e ∷ es) = (refl, all-new es)
+
+words-read : (es : List Entry) → WellFormed es → readWords (outside []) 0 (map encode (catalogueWords es)) ≡ accepted (placed 0 es)
+words-read es w =
+    let fs = placed 0 es in
+    let few = w .entered .few in
+    let sees = sees-fit es es (w .entered .fits) (w .named) in
+    let r = entries-read (outside []) [] es 0 (encode (end (length es)) ∷ []) (between []) (omega arith) (w .entered .fits) sees (w .entered .distinct) (all-new es) in
+    ap (readWords (outside []) 0) (map-append encode (entriesWords es) (end (length es) ∷ []))
+    ∙ r .same
+    ∙ to-end (r .state) fs (pastEntries 0 es) (length es) (r .here) (sym (length-placed 0 es)) few
+
+all-pass : (es : List Entry) → WellFormed es → afterReading (placed 0 es) ≡ accepted (placed 0 es)
+all-pass es w =
+    let fs = placed 0 es in
+    after-passes fs (nowhere dependentAt 0 es (all-independent es (w .independent))) (nowhere (lostAt fs) 0 es (all-found es fs (λ n. numbered-placed n 0 es) es (w .named)))
+
+-- ---- the file
+
+pub read-written : (es : List Entry) → WellFormed es → read (write es) ≡ accepted (placed 0 es)
+unfolding read write
+read-written es w =
+    let words = map encode (catalogueWords es) in
+    let few = w .entered .few in
+    let fits = w .entered .fits in
+    let whole : length (bytesOf words) % 4 ≡ 0 = omega (arith, length-bytes words) in
+    passes (λ n. refused n 0) (fileRows (bytesOf words)) _ (ap not (eq-eqb _ 0 whole), (le-ltb mostBytes _ (length-written es few fits), tt))
+    ∙ ap afterWords (ap (readWords (outside []) 0) (words-bytes words (words-small es few fits (sees-fit es es fits (w .named)))) ∙ words-read es w)
+    ∙ all-pass es w
+
+-- the heads and see words of accepted entries stand where reading found them
+pub places : (bytes : List ℕ) (es : List Entry) → ((i : ℕ) → getD bytes i 0 < 256) → read bytes ≡ accepted es → placed 0 es ≡ es
+places bytes es h e = ap entries (sym (read-written es (well-formed bytes es e)) ∙ same-entries bytes es h e)

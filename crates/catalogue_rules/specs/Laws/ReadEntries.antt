@@ -1,0 +1,107 @@
+-- Reading entries that were written: a head, its vectors and its see word, entry by entry, each at its place.
+use mathlib.Core.Path.{_≡_, refl, sym, ap, ap₂, _∙_, subst}
+use mathlib.Core.Bool.{false, not, _||_}
+use mathlib.Core.List.{List, [], _∷_, _++_, map, append-assoc, append-nil, map-append}
+use mathlib.Core.Option.{Option, none, some}
+use Prim.Native.Nat.{ℕ, suc, _+_, _^_, _≤_, _<_}
+use native.Mathlib.Omega.{arith}
+use lib.ListN.{length, length-append}
+use lib.Seq.{append-snoc}
+use borrow.Author.Tests.{ne-eqb, lt-leb}
+use Rattle.lattices.specs.Vector.{Vec}
+use Rattle.integers.specs.Every.{any}
+use Rattle.lattices.specs.Refusal.{mostVectors, mostCoordinates}
+use Rattle.integers.specs.Tests.{neither}
+use Rattle.lattices.specs.Laws.Refusal.{one-to}
+use Rattle.integers.specs.All.{All}
+use Rattle.catalogue_rules.specs.Word.{head, see, encode}
+use Rattle.catalogue_rules.specs.Laws.Word.{InRange}
+use Rattle.catalogue_rules.specs.Catalogue.{Head, See, Entry, Outcome, coordinates, mostEntries}
+use Rattle.catalogue_rules.specs.Read.{State, outside, inside, after, headRows, isNumbered, withEntry, step, readWords}
+use Rattle.catalogue_rules.specs.Write.{headWord, coordinateWord, seeWords, entryWords, entriesWords}
+use Rattle.catalogue_rules.specs.Form.{mostNumber, HeadFits, EntryFits, Distinct, seeAt, pastSee, pastVectors, headAt, entryAt, placed}
+use Rattle.catalogue_rules.specs.Laws.Moves.{NoneOf, Between, between, unreferred}
+use Rattle.catalogue_rules.specs.Laws.ReadVectors.{encoded, one-word, at-head, all-vectors}
+use Rattle.catalogue_rules.specs.Laws.WellFormed.{any-snoc, eqb-turned}
+
+-- ---- an entry
+
+-- a reading that has come to stand between entries, with these words left
+pub record Reached (es : List Entry) (place : ℕ) (words : List ℕ) (o : Outcome) : Type 0 where
+  pub state : State
+  pub here : Between state es
+  pub same : o ≡ readWords state place words
+
+abbrev pub SeeFits : Option See → Type 0
+SeeFits none = Unit {0}
+SeeFits (some s) = s .number < 2 ^ 28
+
+seen : (es : List Entry) (h : Head) (vs : List Vec) (i : ℕ) (o : Option See) (words : List ℕ) → SeeFits o
+    → Reached (withEntry es h vs (seeAt i o)) (pastSee i o) words (readWords (after es h vs) i (map encode (seeWords o) ++ words))
+unfolding step
+seen es h vs i none words p = record { state = after es h vs; here = unreferred es h vs; same = refl }
+seen es h vs i (some s) words p =
+    let fs = withEntry es h vs (seeAt i (some s)) in
+    record { state = outside fs; here = between fs; same = one-word (after es h vs) (outside fs) i (see (s .number)) words p refl }
+
+head-passes : (es : List Entry) (h : Head) → HeadFits h → length es < mostEntries → any (isNumbered (h .number)) es ≡ false → NoneOf (headRows es h)
+head-passes es h p few new =
+    let n = one-to mostNumber (h .number) (p .number) in
+    (lt-leb mostEntries (length es) few, (ap not (p .d), (ap not (p .m), (ap₂ _||_ (ne-eqb (h .number) 0 (λ e. omega arith)) new, tt))))
+
+pub head-range : (h : Head) → HeadFits h → InRange (headWord h)
+head-range h p =
+    let n = one-to mostNumber (h .number) (p .number) in
+    let d = one-to mostVectors (h .d) (p .d) in
+    let m = one-to mostCoordinates (h .m) (p .m) in
+    omega arith
+
+head-and-vectors : (s : State) (es : List Entry) (e : Entry) (words : List ℕ) → Between s es → EntryFits e → length es < mostEntries → any (isNumbered (e .head .number)) es ≡ false
+    → readWords s (e .head .place) (map encode (entryWords e) ++ words) ≡ readWords (after es (e .head) (e .vectors)) (pastVectors (e .head .place) (e .vectors)) (map encode (seeWords (e .see)) ++ words)
+head-and-vectors s es e words b fits few new =
+    let h = e .head in
+    let cs = coordinates (e .vectors) in
+    let more = map encode (seeWords (e .see)) ++ words in
+    let split : map encode (map coordinateWord cs ++ seeWords (e .see)) ++ words ≡ encoded cs ++ more = simp (map-append, append-assoc) in
+    ap (λ l. readWords s (h .place) (encode (headWord h) ∷ l)) split
+    ∙ one-word s (inside es h [] []) (h .place) (headWord h) (encoded cs ++ more) (head-range h (fits .head)) (at-head h b (head-passes es h (fits .head) few new))
+    ∙ all-vectors es h (e .vectors) (suc (h .place)) more (one-to mostVectors (h .d) (fits .head .d) .0) (one-to mostCoordinates (h .m) (fits .head .m) .0) (fits .vectors) (fits .count)
+
+-- ---- entries
+
+abbrev pub pastEntries : ℕ → List Entry → ℕ
+pastEntries i [] = i
+pastEntries i (e ∷ es) = pastEntries (pastSee (pastVectors i (e .vectors)) (e .see)) es
+
+-- none of these numbers is used among the entries before
+abbrev pub New : List Entry → List Entry → Type 0
+New past es = All (λ e. any (isNumbered (e .head .number)) past ≡ false) es
+
+new-after : (past : List Entry) (e : Entry) (es : List Entry) → New past es → any (isNumbered (e .head .number)) es ≡ false → New (past ++ (e ∷ [])) es
+new-after past e [] p q = tt
+new-after past e (f ∷ es) p q =
+    let r = neither (isNumbered (e .head .number) f) (any (isNumbered (e .head .number)) es) q in
+    (any-snoc (isNumbered (f .head .number)) past e (p .0) (eqb-turned (f .head .number) (e .head .number) (r .0)), new-after past e es (p .1) (r .1))
+
+fits-at : (i : ℕ) (e : Entry) → EntryFits e → EntryFits (record { head = headAt i (e .head); vectors = e .vectors; see = e .see })
+fits-at i e p = record { head = record { number = p .head .number; d = p .head .d; m = p .head .m }; count = p .count; vectors = p .vectors }
+
+pub entries-read : (s : State) (past es : List Entry) (i : ℕ) (words : List ℕ) → Between s past
+    → length past + length es ≤ mostEntries → All EntryFits es → All (λ e. SeeFits (e .see)) es → Distinct es → New past es
+    → Reached (past ++ placed i es) (pastEntries i es) words (readWords s i (map encode (entriesWords es) ++ words))
+entries-read s past [] i words b few fits sees distinct new = record { state = s; here = subst (Between s) (sym (append-nil past)) b; same = refl }
+entries-read s past (e ∷ es) i words b few fits sees distinct new =
+    let f : Entry = record { head = headAt i (e .head); vectors = e .vectors; see = e .see } in
+    let j = pastSee (pastVectors i (e .vectors)) (e .see) in
+    let more = map encode (entriesWords es) ++ words in
+    let split : map encode (entryWords e ++ entriesWords es) ++ words ≡ map encode (entryWords e) ++ more =
+    ap (λ l. l ++ words) (map-append encode (entryWords e) (entriesWords es)) ∙ append-assoc (map encode (entryWords e)) (map encode (entriesWords es)) words in
+    let one = head-and-vectors s past f more b (fits-at i e (fits .0)) (omega arith) (new .0) in
+    let r = seen past (headAt i (e .head)) (e .vectors) (pastVectors i (e .vectors)) (e .see) more (sees .0) in
+    let t = entries-read (r .state) (past ++ (entryAt i e ∷ [])) es j words (r .here) (omega (arith, length-append past (entryAt i e ∷ []))) (fits .1) (sees .1) (distinct .1)
+    (new-after past (entryAt i e) es (new .1) (distinct .0)) in
+    record {
+      state = t .state;
+      here = subst (Between (t .state)) (append-snoc past (entryAt i e) (placed j es)) (t .here);
+      same = ap (readWords s i) split ∙ one ∙ r .same ∙ t .same;
+    }

@@ -1,0 +1,168 @@
+-- The entries of an accepted catalogue are well formed: what each step of reading adds, and what the end has checked.
+use mathlib.Core.Path.{_≡_, refl, sym, ap, ap₂}
+use mathlib.Core.Logic.{_≢_}
+use mathlib.Core.Bool.{Bool, true, false, _&&_, _||_, true≢false}
+use mathlib.Core.List.{List, [], _∷_, _++_}
+use mathlib.Core.Option.{Option, none, some, Option·some-ne-none}
+use Prim.Native.Nat.{ℕ, _^_, _≤_, _<_}
+use native.Mathlib.Omega.{arith}
+use lib.Dec.{ltb, eqb}
+use lib.IntN.{pos, natAbs}
+use lib.ListN.{length, length-append}
+use lib.Signed.{ltZ}
+use borrow.Author.Tests.{eqb-true, eqb-false, ne-eqb, leb-false, le-leb, ltb-false, le-ltb, not-false}
+use Rattle.integers.specs.Order.{sub-ind}
+use Rattle.lattices.specs.Vector.{Vec, N}
+use Rattle.lattices.specs.Volume.{isDependent}
+use Rattle.integers.specs.Every.{any}
+use Rattle.lattices.specs.Refusal.{oneTo, mostSquare, mostSize}
+use Rattle.integers.specs.Tests.{neither}
+use Rattle.integers.specs.All.{All}
+use Rattle.integers.specs.AllLaws.{all-snoc}
+use Rattle.catalogue_rules.specs.Word.{Word, head}
+use Rattle.catalogue_rules.specs.Catalogue.{Head, See, Entry, accepted, mostLoad, mostEntries}
+use Rattle.catalogue_rules.specs.Read.{State, outside, inside, after, closed, isNumbered, withEntry, coordinateOf, withVector, withCoordinate, firstPlace, dependentAt, lostAt, readWords, read}
+use Rattle.catalogue_rules.specs.Form.{mostNumber, HeadFits, VectorFits, EntryFits, Distinct, Entered, EntryIndependent, Names, WellFormed}
+use Rattle.catalogue_rules.specs.Laws.Word.{InRange, decode-range}
+use Rattle.catalogue_rules.specs.Laws.Moves.{Between, between, unreferred, Moves, by-head, by-coordinate, by-see, by-end, WhenAccepted, words-kept, kept-to-end}
+
+-- ---- tests
+
+rest-false : (s t : Bool) → (s && t) ≡ false → s ≡ true → t ≡ false
+rest-false true t e f = e
+rest-false false t e f = absurd (true≢false (sym f))
+
+pub any-append : {A : Type 0} (f : A → Bool) (l k : List A) → any f l ≡ false → any f k ≡ false → any f (l ++ k) ≡ false
+any-append f [] k e q = q
+any-append f (b ∷ l) k e q = let p = neither (f b) (any f l) e in ap₂ _||_ (p .0) (any-append f l k (p .1) q)
+
+pub any-snoc : {A : Type 0} (f : A → Bool) (l : List A) (a : A) → any f l ≡ false → f a ≡ false → any f (l ++ (a ∷ [])) ≡ false
+any-snoc f l a e q = any-append f l (a ∷ []) e (ap (λ t. t || false) q)
+
+pub eqb-turned : (a b : ℕ) → eqb a b ≡ false → eqb b a ≡ false
+eqb-turned a b e = ne-eqb b a (λ p. eqb-false a b e (sym p))
+
+-- ---- an entry more
+
+-- a head has been read after these entries
+pub record Headed (es : List Entry) (h : Head) : Type 0 where
+  pub entered : Entered es
+  pub few : length es < mostEntries
+  pub head : HeadFits h
+  pub new : any (isNumbered (h .number)) es ≡ false
+
+abbrev pub Known : State → Type 0
+Known (outside es) = Entered es
+Known (inside es h vs v) = Headed es h × All (VectorFits (h .m)) vs × (any (λ x. ltb mostSize (natAbs x)) v ≡ false)
+Known (after es h vs) = Headed es h × All (VectorFits (h .m)) vs × (length vs ≡ h .d)
+Known (closed es) = Entered es
+
+distinct-snoc : (es : List Entry) (e : Entry) → Distinct es → any (isNumbered (e .head .number)) es ≡ false → Distinct (es ++ (e ∷ []))
+distinct-snoc [] e p q = (refl, tt)
+distinct-snoc (f ∷ es) e p q =
+    let r = neither (isNumbered (e .head .number) f) (any (isNumbered (e .head .number)) es) q in
+    (any-snoc (isNumbered (f .head .number)) es e (p .0) (eqb-turned (f .head .number) (e .head .number) (r .0)), distinct-snoc es e (p .1) (r .1))
+
+with-entry : (es : List Entry) (h : Head) (vs : List Vec) (s : Option See) → Known (after es h vs) → Entered (withEntry es h vs s)
+with-entry es h vs s k =
+    let e : Entry = record { head = h; vectors = vs; see = s } in
+    record {
+      few = (let p = length-append es (e ∷ []) in let q = k .0 .few in omega arith);
+      fits = all-snoc EntryFits es e (k .0 .entered .fits) (record { head = k .0 .head; count = k .2; vectors = k .1 });
+      distinct = distinct-snoc es e (k .0 .entered .distinct) (k .0 .new);
+    }
+
+-- ---- a coordinate more
+
+pub load-within : (l : ℕ) → ltb mostLoad l ≡ false → ltb mostSize (natAbs (coordinateOf l)) ≡ false
+load-within l e =
+    let h = ltb-false mostLoad l e in
+    le-ltb mostSize _ (sub-ind (λ z. natAbs z ≤ mostSize) l mostSize (λ k. omega arith) (λ k. omega arith))
+
+with-vector : (es : List Entry) (h : Head) (vs : List Vec) → Headed es h → All (VectorFits (h .m)) vs → Known (withVector es h vs)
+with-vector es h vs k r = go (eqb (length vs) (h .d)) refl
+  where
+    go : (t : Bool) → eqb (length vs) (h .d) ≡ t → Known (elim t [ true ↦ after es h vs | false ↦ inside es h vs [] ])
+    go true e = (k, r, eqb-true _ _ e)
+    go false e = (k, r, refl)
+
+with-coordinate : (es : List Entry) (h : Head) (vs : List Vec) (v : Vec) → Known (inside es h vs v) → (eqb (length v) (h .m) ≡ true → ltZ (pos mostSquare) (N v) ≡ false) → Known (withCoordinate es h vs v)
+with-coordinate es h vs v k short = go (eqb (length v) (h .m)) refl
+  where
+    go : (t : Bool) → eqb (length v) (h .m) ≡ t → Known (elim t [ true ↦ withVector es h (vs ++ (v ∷ [])) | false ↦ inside es h vs v ])
+    go true e = with-vector es h (vs ++ (v ∷ [])) (k .0) (all-snoc (VectorFits (h .m)) vs v (k .1) (record { full = eqb-true _ _ e; short = ap₂ _||_ (k .2) (short e) }))
+    go false e = k
+
+-- ---- every step
+
+known-between : {s : State} {es : List Entry} → Between s es → Known s → Entered es
+known-between (between es) k = k
+known-between (unreferred es h vs) k = with-entry es h vs none k
+
+number-fits : (n : ℕ) → n < 2 ^ 20 → eqb n 0 ≡ false → oneTo mostNumber n ≡ true
+number-fits n h e =
+    let z : n ≢ 0 = eqb-false n 0 e in
+    ap₂ _&&_ (le-leb 1 n (omega arith)) (le-leb n mostNumber (omega arith))
+
+pub known-moves : {s t : State} {i : ℕ} {w : Word} → Moves s i w t → InRange w → Known s → Known t
+known-moves (by-head {es} h b p) r k =
+    let n = neither (eqb (h .number) 0) (any (isNumbered (h .number)) es) (p .1 .1 .1 .0) in (
+      record {
+        entered = known-between b k;
+        few = leb-false _ _ (p .0);
+        head = record { number = number-fits (h .number) (r .0) (n .0); d = not-false _ (p .1 .0); m = not-false _ (p .1 .1 .0) };
+        new = n .1;
+      },
+      tt,
+      refl,
+    )
+known-moves (by-coordinate es h vs v l p) r k =
+    let u = v ++ (coordinateOf l ∷ []) in
+    let fits = neither (ltb mostLoad l) (eqb (length u) (h .m) && ltZ (pos mostSquare) (N u)) (p .0) in
+    with-coordinate es h vs u (k .0, k .1, any-snoc (λ x. ltb mostSize (natAbs x)) v (coordinateOf l) (k .2) (load-within l (fits .0))) (rest-false _ _ (fits .1))
+known-moves (by-see es h vs s) r k = with-entry es h vs (some s) k
+known-moves (by-end b) r k = known-between b k
+
+-- ---- the end
+
+first-none : (f : Entry → Option ℕ) (Q : Entry → Type 0) → ((e : Entry) → f e ≡ none → Q e) → (es : List Entry) → firstPlace f es ≡ none → All Q es
+first-none f Q q [] e = tt
+first-none f Q q (x ∷ es) e = go (f x) refl e (first-none f Q q es)
+  where
+    go : (o : Option ℕ) → f x ≡ o → _≡_ {A = Option ℕ} (elim o [ some p ↦ some p | none ↦ firstPlace f es ]) none → (firstPlace f es ≡ none → All Q es) → Q x × All Q es
+    go none r e more = (q x r, more e)
+    go (some p) r e more = absurd (Option·some-ne-none p e)
+
+not-dependent : (e : Entry) → dependentAt e ≡ none → EntryIndependent e
+not-dependent e h = go (isDependent (e .head .m) (e .vectors)) h
+  where
+    go : (t : Bool) → _≡_ {A = Option ℕ} (elim t [ true ↦ some (e .head .place) | false ↦ none ]) none → t ≡ false
+    go true h = absurd (Option·some-ne-none _ h)
+    go false h = refl
+
+not-lost : (es : List Entry) (e : Entry) → lostAt es e ≡ none → Names es (e .see)
+not-lost es e h = go (e .see) h
+  where
+    found : (s : See) (t : Bool) → _≡_ {A = Option ℕ} (elim t [ true ↦ none | false ↦ some (s .place) ]) none → t ≡ true
+    found s true h = refl
+    found s false h = absurd (Option·some-ne-none _ h)
+
+    go : (o : Option See) → _≡_ {A = Option ℕ} (elim o [ none ↦ none | some s ↦ elim (any (isNumbered (s .number)) es) [ true ↦ none | false ↦ some (s .place) ] ]) none → Names es o
+    go none h = tt
+    go (some s) h = found s (any (isNumbered (s .number)) es) h
+
+-- what the words keep
+pub nothing-read : Known (outside [])
+nothing-read = record { few = omega arith; fits = tt; distinct = tt }
+
+pub words-entered : (words : List ℕ) → WhenAccepted Entered (readWords (outside []) 0 words)
+words-entered words = words-kept (λ past s. Known s) (λ past s t i w p m. known-moves m (decode-range w) p) words [] (outside []) 0 nothing-read
+
+pub well-formed : (bytes : List ℕ) (es : List Entry) → read bytes ≡ accepted es → WellFormed es
+well-formed bytes es e =
+    let k = kept-to-end (λ past s. Known s) (λ past s t i w p m. known-moves m (decode-range w) p) bytes es nothing-read e in
+    record {
+      entered = k .kept;
+      independent = first-none dependentAt EntryIndependent not-dependent es (k .ended .independent);
+      named = first-none (lostAt es) (λ x. Names es (x .see)) (not-lost es) es (k .ended .found);
+    }

@@ -1,0 +1,86 @@
+-- The words written for well-formed entries have 32 bits, and make at most 18,436 bytes.
+use mathlib.Core.Path.{_≡_, sym, subst}
+use mathlib.Core.Bool.{false}
+use mathlib.Core.List.{List, [], _∷_, _++_, map, map-append}
+use mathlib.Core.Option.{Option, none, some}
+use Prim.Native.Nat.{ℕ, _*_, _^_, _≤_, _<_}
+use native.Mathlib.Omega.{arith}
+use lib.Dec.{ltb}
+use lib.IntN.{pos, natAbs}
+use lib.ListN.{length, length-append, length-map}
+use lib.Signed.{ltZ}
+use Rattle.lattices.specs.Vector.{Vec, N}
+use Rattle.integers.specs.Every.{any}
+use Rattle.lattices.specs.Refusal.{mostSquare, mostSize}
+use Rattle.integers.specs.All.{All}
+use Rattle.integers.specs.AllLaws.{all-append, all-map}
+use Rattle.catalogue_rules.specs.Word.{Word, head, see, end, encode, bytesOf}
+use Rattle.catalogue_rules.specs.Laws.Word.{length-bytes}
+use Rattle.catalogue_rules.specs.Catalogue.{Head, See, Entry, coordinates, mostEntries, mostBytes}
+use Rattle.catalogue_rules.specs.Write.{headWord, coordinateWord, seeWords, entryWords, entriesWords, catalogueWords}
+use Rattle.catalogue_rules.specs.Form.{HeadFits, VectorFits, EntryFits}
+use Rattle.integers.specs.Tests.{neither}
+use Rattle.catalogue_rules.specs.Laws.EntriesAccepted.{few-coordinates}
+use Rattle.catalogue_rules.specs.Laws.ReadVectors.{load-most}
+use Rattle.catalogue_rules.specs.Laws.ReadEntries.{SeeFits, head-range}
+
+abbrev pub SmallWords : Word → Type 0
+SmallWords w = encode w < 2 ^ 32
+
+-- ---- 32 bits
+
+head-small : (h : Head) → HeadFits h → SmallWords (headWord h)
+unfolding encode
+head-small h p = let r = head-range h p in omega arith
+
+vector-small : (v : Vec) → any (λ y. ltb mostSize (natAbs y)) v ≡ false → All SmallWords (map coordinateWord v)
+unfolding encode
+vector-small [] p = tt
+vector-small (x ∷ v) p =
+    let n = neither (ltb mostSize (natAbs x)) (any (λ y. ltb mostSize (natAbs y)) v) p in
+    let r = load-most x (n .0) in
+    (omega arith, vector-small v (n .1))
+
+vectors-small : (m : ℕ) (vs : List Vec) → All (VectorFits m) vs → All SmallWords (map coordinateWord (coordinates vs))
+vectors-small m [] p = tt
+vectors-small m (v ∷ vs) p =
+    let near = neither (any (λ y. ltb mostSize (natAbs y)) v) (ltZ (pos mostSquare) (N v)) (p .0 .short) in
+    subst (All SmallWords) (sym (map-append coordinateWord v (coordinates vs))) (all-append SmallWords (map coordinateWord v) (map coordinateWord (coordinates vs)) (vector-small v (near .0)) (vectors-small m vs (p .1)))
+
+see-small : (o : Option See) → SeeFits o → All SmallWords (seeWords o)
+unfolding encode
+see-small none p = tt
+see-small (some s) p = (omega arith, tt)
+
+entries-small : (es : List Entry) → All EntryFits es → All (λ e. SeeFits (e .see)) es → All SmallWords (entriesWords es)
+entries-small [] p q = tt
+entries-small (e ∷ es) p q = (
+  head-small (e .head) (p .0 .head),
+  all-append SmallWords (map coordinateWord (coordinates (e .vectors)) ++ seeWords (e .see)) (entriesWords es)
+      (all-append SmallWords (map coordinateWord (coordinates (e .vectors))) (seeWords (e .see)) (vectors-small (e .head .m) (e .vectors) (p .0 .vectors)) (see-small (e .see) (q .0)))
+      (entries-small es (p .1) (q .1)),
+)
+
+pub words-small : (es : List Entry) → length es ≤ mostEntries → All EntryFits es → All (λ e. SeeFits (e .see)) es → All (λ w. w < 2 ^ 32) (map encode (catalogueWords es))
+unfolding encode
+words-small es few p q =
+    all-map (λ w. w < 2 ^ 32) encode (catalogueWords es) (all-append SmallWords (entriesWords es) (end (length es) ∷ []) (entries-small es p q) (omega arith, tt))
+
+-- ---- how many
+
+length-see : (o : Option See) → length (seeWords o) ≤ 1
+length-see none = omega arith
+length-see (some s) = omega arith
+
+pub length-entry : (e : Entry) → EntryFits e → length (entryWords e) ≤ 18
+length-entry e p =
+    let cs = coordinates (e .vectors) in
+    omega (arith, few-coordinates e p, length-append (map coordinateWord cs) (seeWords (e .see)), length-map cs coordinateWord, length-see (e .see))
+
+pub length-entries : (es : List Entry) → All EntryFits es → length (entriesWords es) ≤ length es * 18
+length-entries [] p = omega arith
+length-entries (e ∷ es) p = omega (arith, length-append (entryWords e) (entriesWords es), length-entry e (p .0), length-entries es (p .1))
+
+pub length-written : (es : List Entry) → length es ≤ mostEntries → All EntryFits es → length (bytesOf (map encode (catalogueWords es))) ≤ mostBytes
+length-written es few p =
+    omega (arith, length-bytes (map encode (catalogueWords es)), length-map (catalogueWords es) encode, length-append (entriesWords es) (end (length es) ∷ []), length-entries es p)

@@ -1,0 +1,16 @@
+-- What is proved about the definitions.
+pub mod State
+pub mod Fine
+pub mod Room
+pub mod Pass
+pub mod Turn
+pub mod Begin
+pub mod Finish
+pub mod Few
+pub mod Answer
+pub mod Named
+pub mod Membership
+pub mod Tables
+pub mod Whole
+pub mod Repeat
+pub mod Loop

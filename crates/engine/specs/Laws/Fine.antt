@@ -1,0 +1,102 @@
+-- What holds of the rows throughout a reduction: they came from an accepted basis by greedy moves, so the sizes of `reductions` apply.
+use mathlib.Core.Path.{_≡_, sym, ap, _∙_, subst}
+use mathlib.Core.List.{List, _++_, append-assoc}
+use Prim.Native.Nat.{ℕ, _≤_}
+use native.Mathlib.Nat.{le-refl, le-trans}
+use native.Mathlib.Omega.{arith}
+use lib.IntN.{pos}
+use lib.Signed.{_≤ℤ_, _<ℤ_}
+use lib.ListN.{length, take, drop, length-append, length-drop, take-append-drop}
+use lib.Seq.{take-append-le, drop-append-le, length-take-le}
+use Rattle.lattices.specs.Vector.{Vec, N}
+use Rattle.lattices.specs.Volume.{squaredVolume}
+use Rattle.lattices.specs.Greedy.{Row, vectors, order, greedy}
+use Rattle.successive_minima.specs.Reduced.{Reduced}
+use Rattle.greedy_reduction.specs.Moves.{Moves, after, exchange, order-perm, moves-append, moves-length, greedy-moves, vectors-append}
+use Rattle.integers.specs.All.{All}
+use Rattle.integers.specs.AllLaws.{all-append, all-left, all-right}
+use Rattle.greedy_reduction.specs.Lengths.{NoLonger}
+use Rattle.greedy_reduction.specs.Start.{Sized, moves-sized}
+use Rattle.greedy_reduction.specs.Kept.{positive-left}
+use Rattle.greedy_reduction.specs.Output.{greedy-reduced}
+use Rattle.greedy_reduction.specs.Sizes.{Basis, first-rows, way-short, way-volume}
+
+-- n of the rows may be reduced
+pub record Fine (n : ℕ) (rows : List Row) : Type 0 where
+  -- the accepted basis, and the rows that came from it
+  pub ins : List Vec
+  pub basis : Basis 4 ins
+  pub active : List Row
+  pub moved : Moves (first-rows 4 ins) active
+  -- behind them the unused rows
+  pub unused : List Row
+  pub is : rows ≡ active ++ unused
+  pub short : NoLonger (pos 400000000) unused
+  pub sized : All (Sized 4 4) rows
+  pub count : n ≤ length active
+
+module _ {n : ℕ} {rows : List Row} (f : Fine n rows) where
+  -- the first k rows, for every k up to n
+  fine-take : (k : ℕ) → k ≤ n → take k rows ≡ take k (f .active)
+  fine-take k h = ap (take k) (f .is) ∙ take-append-le k (f .active) (f .unused) (le-trans h (f .count))
+
+  fine-drop : (k : ℕ) → k ≤ n → drop k rows ≡ drop k (f .active) ++ f .unused
+  fine-drop k h = ap (drop k) (f .is) ∙ drop-append-le k (f .active) (f .unused) (le-trans h (f .count))
+
+  pub fine-count : (k : ℕ) → k ≤ n → length (take k rows) ≡ k
+  fine-count k h = ap length (fine-take k h) ∙ length-take-le k (f .active) (le-trans h (f .count))
+
+  pub fine-length : length (take n rows) ≡ n
+  fine-length = fine-count n (le-refl n)
+
+  -- no vector is over the length limit, so coordinates are small
+  pub fine-short : NoLonger (pos 400000000) rows
+  fine-short = subst (NoLonger (pos 400000000)) (sym (f .is))
+      (all-append (λ r. N (r .vector) ≤ℤ pos 400000000) (f .active) (f .unused) (way-short 4 4 (f .ins) (f .basis) (f .basis .four) (f .active) (f .moved)) (f .short))
+
+  pub fine-volume : pos 0 <ℤ squaredVolume 4 (vectors (take n rows))
+  fine-volume = positive-left 4 (vectors (take n rows)) (vectors (drop n (f .active)))
+      (subst (λ l. pos 0 <ℤ squaredVolume 4 l)
+      (ap vectors (sym (take-append-drop n (f .active)) ∙ ap (λ l. l ++ drop n (f .active)) (sym (fine-take n (le-refl n)))) ∙ vectors-append (take n rows) (drop n (f .active)))
+      (way-volume 4 4 (f .ins) (f .basis) (f .basis .four) (f .active) (f .moved)))
+
+  -- moves of the first k rows
+  pub fine-moves : (k : ℕ) → k ≤ n → (to : List Row) → Moves (take k rows) to → Fine n (to ++ drop k rows)
+  fine-moves k h to m = record {
+    ins = f .ins;
+    basis = f .basis;
+    active = to ++ drop k (f .active);
+    moved = after (f .moved) (subst (λ l. Moves l (to ++ drop k (f .active))) (take-append-drop k (f .active)) (moves-append (subst (λ l. Moves l to) (fine-take k h) m) (drop k (f .active))));
+    unused = f .unused;
+    is = ap (λ l. to ++ l) (fine-drop k h) ∙ sym (append-assoc to (drop k (f .active)) (f .unused));
+    short = f .short;
+    sized = all-append (Sized 4 4) to (drop k rows) (moves-sized 4 4 m (all-left (Sized 4 4) (take k rows) (drop k rows) whole)) (all-right (Sized 4 4) (take k rows) (drop k rows) whole);
+    count = omega (arith, length-append to (drop k (f .active)), moves-length m, fine-count k h, length-drop k (f .active), f .count);
+  }
+    where
+      whole : All (Sized 4 4) (take k rows ++ drop k rows)
+      whole = subst (All (Sized 4 4)) (sym (take-append-drop k rows)) (f .sized)
+
+pub fine-fewer : {n k : ℕ} {rows : List Row} → k ≤ n → Fine n rows → Fine k rows
+fine-fewer h f = record {
+  ins = f .ins;
+  basis = f .basis;
+  active = f .active;
+  moved = f .moved;
+  unused = f .unused;
+  is = f .is;
+  short = f .short;
+  sized = f .sized;
+  count = le-trans h (f .count);
+}
+
+-- step 2
+pub fine-order : {n : ℕ} {rows : List Row} → Fine n rows → Fine n (order (take n rows) ++ drop n rows)
+fine-order {n} {rows} f = fine-moves f n (le-refl n) (order (take n rows)) (exchange (order-perm (take n rows)))
+
+-- step 3, and its outcome
+pub fine-greedy : {n : ℕ} {rows : List Row} → Fine n rows → (k : ℕ) → k ≤ n → Fine n (greedy k (take k rows) .rows ++ drop k rows)
+fine-greedy {n} {rows} f k h = fine-moves f k h (greedy k (take k rows) .rows) (greedy-moves k (take k rows) (fine-count f k h))
+
+pub fine-reduced : {n : ℕ} {rows : List Row} → n ≤ 4 → Fine n rows → Reduced (vectors (greedy n (take n rows) .rows))
+fine-reduced {n} {rows} h f = greedy-reduced 4 n h (take n rows) (fine-length f) (fine-volume f)

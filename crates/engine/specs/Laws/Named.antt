@@ -1,0 +1,138 @@
+-- That what the nearest vector leaves of the target packs to the definition's answer: what `nearest` gives.
+use mathlib.Core.Path.{_≡_, refl, sym, ap, _∙_, subst}
+use mathlib.Core.Logic.{_≢_}
+use mathlib.Core.List.{List, [], _∷_, _++_, map}
+use Prim.Native.Nat.{ℕ, zero, suc, _+_, _≤_}
+use native.Mathlib.Omega.{arith}
+use native.Mathlib.Nat.{le-refl}
+use lib.IntN.{ℤ, pos, negsuc, natAbs, _+ℤ_, _*ℤ_}
+use lib.Signed.{_≤ℤ_}
+use lib.ListN.{length, getD, take, drop}
+use lib.Seq.{take-all}
+use Rattle.integers.specs.Identity.{by-ring, reads}
+use Rattle.integers.specs.ListLaws.{length-⊕, length-⊙}
+use Rattle.lattices.specs.Vector.{Vec, N, nth, dot, comb, distance, _⊖_, _⊙_}
+use Rattle.lattices.specs.Laws.Vector.{dot-⊕, dot-⊙, _≈_, ≈-sym, ≈-trans, ≈-N, ≈-≡}
+use Rattle.lattices.specs.Nearest.{nearest}
+use Rattle.lattices.specs.Greedy.{vectors, reduction}
+use Rattle.lattices.specs.Refusal.{Input, basis, firstOf, vectorChecks, targetChecks}
+use Rattle.lattices.specs.Answer as Definition
+use Rattle.lattices.specs.Answer.{padded, table, noNearest, nearestGiven, nearestOf, noReduction, reductionGiven, reductionOf}
+use Rattle.lattices.specs.Laws.Answer.{length-padded, padded-≈}
+use Rattle.successive_minima.specs.Laws.Digits.{Bounded}
+use Rattle.successive_minima.specs.Reduced.{Reduced}
+use Rattle.row_operations.specs.Minus.{room}
+use Rattle.successive_minima.specs.Laws.NearestLaws.{nearest-count}
+use Rattle.greedy_reduction.specs.Exactness.{comb-full}
+use Rattle.greedy_reduction.specs.Padding.{padded-N, comb-padded, padded-minus, nearest-padded}
+use Rattle.greedy_reduction.specs.Accepted.{targeted}
+use Rattle.greedy_reduction.specs.Demand.{accepted-nearest, first-passed}
+use Rattle.nearest_of_four.specs.Near.{Near}
+use Rattle.engine.specs.declared.NearestVector.{NearestVector}
+use Rattle.engine.specs.Packed.{packedNearest}
+use Rattle.engine.specs.Laws.Fine.{fine-greedy}
+use Rattle.engine.specs.Laws.Room.{short-rows}
+use Rattle.engine.specs.Laws.Begin.{first-fine}
+use Rattle.engine.specs.Laws.Finish.{R, accept, some, outs-count, outs-full, outs-rows, last-vectors, last-reduced}
+
+-- the answer from the coefficients and what is left of the target
+unfoldable pub named : Vec → List ℤ → Vec → NearestVector
+named t x rest = record { refusal = 0; place = 0; vector = t ⊖ pos 1 ⊙ rest; coefficients = x; square = dot rest rest }
+
+-- what is left of t when what a vector leaves of it is taken away: that vector
+left-of-left : (t c r : Vec) → r ≈ t ⊖ c → t ⊖ pos 1 ⊙ r ≈ c
+left-of-left t c r e = record {
+  on = λ w. dot-⊕ t (negsuc 0 ⊙ pos 1 ⊙ r) w
+      ∙ ap (λ s. dot t w +ℤ s) (dot-⊙ (negsuc 0) (pos 1 ⊙ r) w ∙ ap (λ s. negsuc 0 *ℤ s) (dot-⊙ (pos 1) r w ∙ ap (λ s. pos 1 *ℤ s) (left w)))
+      ∙ cancel (dot t w) (dot c w);
+}
+  where
+    left : (w : Vec) → dot r w ≡ dot t w +ℤ negsuc 0 *ℤ dot c w
+    left w = e .on w ∙ dot-⊕ t (negsuc 0 ⊙ c) w ∙ ap (λ s. dot t w +ℤ s) (dot-⊙ (negsuc 0) c w)
+
+    cancel : (a b : ℤ) → a +ℤ negsuc 0 *ℤ (pos 1 *ℤ (a +ℤ negsuc 0 *ℤ b)) ≡ b
+    cancel a b = by-ring (a ∷ b ∷ []) (search reads depth 20) (search reads) tt
+
+pub named-room : (t rest : Vec) → Bounded 20000 t → Bounded 100000 rest → (k : ℕ) → natAbs (nth t k) + natAbs (pos 1 *ℤ nth rest k) ≤ room
+named-room t rest p q k = subst (λ z. natAbs (nth t k) + natAbs z ≤ room) (sym (one-mul (nth rest k))) (omega (arith, p k .within, q k .within))
+  where
+    one-mul : (a : ℤ) → pos 1 *ℤ a ≡ a
+    one-mul a = by-ring (a ∷ []) (search reads) (search reads) tt
+
+module _ (i : Input) (e : firstOf vectorChecks i ≡ 0) (f : firstOf targetChecks i ≡ 0) where
+  abbrev bs : List Vec
+  bs = vectors (R i e)
+
+  abbrev pub array : List Vec
+  array = table 4 4 bs
+
+  abbrev pub target : Vec
+  target = padded 4 (i .target)
+
+  t-count : length (i .target) ≡ i .m
+  t-count = targeted i f .count
+
+  t-few : length (i .target) ≤ 4
+  t-few = omega (arith, t-count, accept i e .few)
+
+  pub target-read : padded 4 (take (i .m) (drop 0 (i .target))) ≡ target
+  target-read = ap (padded 4) (take-all (i .m) (i .target) (omega (arith, t-count)))
+
+  -- what the search for the nearest vector asks
+  pub near : Near (i .d) array target
+  near = record {
+    reduced = subst Reduced (sym (outs-rows i e)) (last-reduced i e);
+    short = λ k h. subst (λ l. N (getD l k []) ≤ℤ pos 400000000) (last-vectors i e) (short-rows (fine-greedy (first-fine i e) (i .d) (le-refl (i .d))) k);
+    target = subst (λ n. n ≤ℤ pos 400000000) (sym (padded-N 4 (i .target) t-few)) (targeted i f .limit);
+  }
+
+  x : List ℤ
+  x = nearest bs (i .target)
+
+  nearest-is : nearest (take (i .d) array) target ≡ x
+  unfolding x
+  nearest-is = ap (λ l. nearest l target) (outs-rows i e) ∙ nearest-padded 4 (i .m) (accept i e .few) bs (outs-full i e) (i .target) t-count
+
+  module _ (y rest : List ℤ) (places : length rest ≡ 4) (list : y ≡ padded 4 (nearest (take (i .d) array) target))
+      (left : rest ≈ target ⊖ comb (nearest (take (i .d) array) target) (take (i .d) array)) where
+    left-is : rest ≈ target ⊖ comb x (map (padded 4) bs)
+    left-is = subst (λ z. rest ≈ target ⊖ comb z (map (padded 4) bs)) nearest-is (subst (λ l. rest ≈ target ⊖ comb (nearest (take (i .d) array) target) l) (outs-rows i e) left)
+
+    combination-few : length (comb x bs) ≤ 4
+    unfolding x
+    combination-few = omega (arith, comb-full (i .m) x bs (outs-full i e) (nearest-count bs (i .target)) (omega (arith, outs-count i e, accept i e .some)), accept i e .few)
+
+    vector-is : target ⊖ pos 1 ⊙ rest ≡ padded 4 (comb x bs)
+    vector-is = ≈-≡ (target ⊖ pos 1 ⊙ rest) (padded 4 (comb x bs))
+        (length-⊕ target (negsuc 0 ⊙ pos 1 ⊙ rest) ∙ omega (arith, length-padded 4 (i .target), length-⊙ (negsuc 0) (pos 1 ⊙ rest), length-⊙ (pos 1) rest, places, length-padded 4 (comb x bs)))
+        (≈-trans (left-of-left target (comb x (map (padded 4) bs)) rest left-is)
+        (≈-trans (comb-padded 4 (i .m) (accept i e .few) x bs (outs-full i e)) (≈-sym (padded-≈ 4 (comb x bs) combination-few))))
+
+    square-is : dot rest rest ≡ distance (i .target) (comb x bs)
+    square-is = ≈-N left-is ∙ ap N (sym (padded-minus 4 (i .m) (accept i e .few) (i .target) t-few x bs (outs-full i e))) ∙ padded-N 4 (i .target ⊖ comb x bs) (omega (arith, length-⊕ (i .target) (negsuc 0 ⊙ comb x bs), length-⊙ (negsuc 0) (comb x bs), t-few, combination-few))
+
+    given-answer : named target y rest ≡ packedNearest (nearestGiven bs (i .target))
+    unfolding named x
+    given-answer = λ k. record { refusal = 0; place = 0; vector = vector-is k; coefficients = (list ∙ ap (padded 4) nearest-is) k; square = square-is k }
+
+    -- the engine's answer for an accepted target with its vectors
+    pub nearest-answer : named target y rest ≡ packedNearest (nearestOf i)
+    nearest-answer = given-answer ∙ ap packedNearest (sym (accepted-nearest i (first-passed vectorChecks targetChecks i (omega arith) e ∙ f)))
+
+-- the answer for a refused input
+refused-answer : (i : Input) (n : ℕ) → firstOf (vectorChecks ++ targetChecks) i ≡ suc n → packedNearest (noNearest (suc n)) ≡ packedNearest (nearestOf i)
+unfolding nearestOf
+refused-answer i n e = ap packedNearest (sym (ap (λ (k : ℕ). elim k as (λ k. Definition.Nearest) [ zero ↦ nearestGiven (vectors (reduction (basis i) .rows)) (i .target) | suc j ↦ noNearest (suc j) ]) e))
+
+pub refused-nearest-with : (i : Input) (n : ℕ) → n ≡ firstOf (vectorChecks ++ targetChecks) i → n ≢ 0 → packedNearest (noNearest n) ≡ packedNearest (nearestOf i)
+refused-nearest-with i zero e h = absurd (h refl)
+refused-nearest-with i (suc n) e h = refused-answer i n (sym e)
+
+-- the number in a reduction's answer is that of the checks
+pub refusal-is : (i : Input) → reductionOf i .refusal ≡ firstOf vectorChecks i
+unfolding reductionOf
+refusal-is i = go (firstOf vectorChecks i)
+  where
+    go : (n : ℕ) → (elim n as (λ n. Definition.Reduction) [ zero ↦ reductionGiven (reduction (basis i)) | suc k ↦ noReduction (suc k) ]) .refusal ≡ n
+    go zero = refl
+    go (suc n) = refl

@@ -1,0 +1,22 @@
+-- The definitions' answers in the structs of the engine, field by field.
+use mathlib.Core.List.{map}
+use Rattle.lattices.specs.Answer as Definition
+use Rattle.row_operations.specs.RowStructs.{vectorRow, tableRow}
+use Rattle.engine.specs.declared.Reduction.{Reduction}
+use Rattle.engine.specs.declared.NearestVector.{NearestVector}
+
+-- of a reduction
+abbrev pub packed : Definition.Reduction → Reduction
+packed a = record {
+  refusal = a .refusal;
+  place = a .place;
+  vectors = map vectorRow (a .basis);
+  u = map tableRow (a .u);
+  v = map tableRow (a .v);
+  squares = a .squares;
+  passes = a .passes;
+}
+
+-- of a nearest vector
+abbrev pub packedNearest : Definition.Nearest → NearestVector
+packedNearest a = record { refusal = a .refusal; place = a .place; vector = a .vector; coefficients = a .coefficients; square = a .square }

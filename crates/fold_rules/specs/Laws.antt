@@ -1,0 +1,12 @@
+-- What is proved about the definitions.
+pub mod SameLattice
+pub mod Standing
+pub mod Lookup
+pub mod FoldedForm
+pub mod Printing
+pub mod Again
+pub mod Deciding
+pub mod Multiples
+pub mod Adding
+pub mod Searching
+pub mod ListingSize

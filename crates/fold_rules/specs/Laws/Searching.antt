@@ -1,0 +1,51 @@
+-- The standing entry found place by place, as a loop finds it: the first place where a test says yes, among the standing entries before.
+use mathlib.Core.Path.{_≡_, refl, ap, _∙_}
+use mathlib.Core.Logic.{inl, inr}
+use mathlib.Core.Bool.{Bool, true, false, _&&_}
+use mathlib.Core.List.{List, [], _∷_, _++_, map}
+use Prim.Native.Nat.{ℕ, zero, suc, _<_}
+use native.Mathlib.Omega.{arith}
+use lib.ListN.{length, getD}
+use Rattle.integers.specs.All.{All}
+use Rattle.integers.specs.AllLaws.{all-left, all-right}
+use Rattle.catalogue_rules.specs.Catalogue.{Entry}
+use Rattle.fold_rules.specs.Fold.{sameLattice, firstEntry, standing, Stood, stoodOf, stands, standingIn}
+use Rattle.fold_rules.specs.Meaning.{Among}
+use Rattle.fold_rules.specs.Laws.SameLattice.{Sound}
+use Rattle.fold_rules.specs.Laws.Adding.{standing-new, among-standers}
+
+pub among-at : (es : List Entry) (d : Entry) (k : ℕ) → k < length es → Among (getD es k d) es
+among-at [] d k h = absurd (omega arith)
+among-at (e ∷ es) d zero h = inl refl
+among-at (e ∷ es) d (suc k) h = inr (among-at es d k (omega arith))
+
+-- a test that said no at each place before k says yes at k, or at no place
+module _ (has : Entry → Bool) (other d : Entry) where
+  pub first-found : (es : List Entry) (k : ℕ) → k < length es → ((j : ℕ) → j < k → has (getD es j d) ≡ false) → has (getD es k d) ≡ true → firstEntry has other es ≡ getD es k d
+  first-found [] k l n h = absurd (omega arith)
+  first-found (e ∷ es) zero l n h = ap (λ b. elim b [ true ↦ e | false ↦ firstEntry has other es ]) h
+  first-found (e ∷ es) (suc k) l n h =
+      ap (λ b. elim b [ true ↦ e | false ↦ firstEntry has other es ]) (n 0 (omega arith)) ∙ first-found es k (omega arith) (λ j p. n (suc j) (omega arith)) h
+
+  pub first-none : (es : List Entry) → ((j : ℕ) → j < length es → has (getD es j d) ≡ false) → firstEntry has other es ≡ other
+  first-none [] n = refl
+  first-none (e ∷ es) n = ap (λ b. elim b [ true ↦ e | false ↦ firstEntry has other es ]) (n 0 (omega arith)) ∙ first-none es (λ j p. n (suc j) (omega arith))
+
+-- the first of the standing entries is the first that stands and is asked for
+first-stander : (all : List Entry) (has : Entry → Bool) (other : Entry) (es : List Entry)
+    → firstEntry has other (map (λ s. s .entry) (standingIn (map (stoodOf all) es))) ≡ firstEntry (λ f. stands (stoodOf all f) && has f) other es
+first-stander all has other [] = refl
+first-stander all has other (e ∷ es) = go (stands (stoodOf all e)) (first-stander all has other es)
+  where
+    go : (b : Bool) → firstEntry has other (map (λ s. s .entry) (standingIn (map (stoodOf all) es))) ≡ firstEntry (λ f. stands (stoodOf all f) && has f) other es
+        → firstEntry has other (map (λ (s : Stood). s .entry) (elim b as (λ b. List Stood) [ true ↦ stoodOf all e ∷ standingIn (map (stoodOf all) es) | false ↦ standingIn (map (stoodOf all) es) ]))
+        ≡ elim (b && has e) as (λ b. Entry) [ true ↦ e | false ↦ firstEntry (λ f. stands (stoodOf all f) && has f) other es ]
+    go true r = ap (λ f. elim (has e) as (λ b. Entry) [ true ↦ e | false ↦ f ]) r
+    go false r = r
+
+-- so an entry is compared with the standing ones before it only
+pub standing-past : (past : List Entry) (e : Entry) (rest : List Entry) → All Sound (past ++ (e ∷ rest))
+    → standing (past ++ (e ∷ rest)) e ≡ firstEntry (λ f. stands (stoodOf past f) && sameLattice f e) e past
+standing-past past e rest sound =
+    let s = all-right Sound past (e ∷ rest) sound .0 in
+    standing-new past e rest s ∙ among-standers past (all-left Sound past (e ∷ rest) sound) e s ∙ first-stander past (λ f. sameLattice f e) e past
