@@ -26,18 +26,18 @@ empty-requires c κs = search needs
 
 loop-holds : tie.Need-loop-holds Inv-loop μ-loop
 loop-holds c =
-    let es = entriesIn (c .before .before .before .args .t1) in
-    (search needs, subst (λ (start : Catalogue). Folds es 0 0 (start .entries)) (sym (c .empty .ensures)) (folds-none es))
+    let es = entriesIn (c .before .before .before .before .args .t1) in
+    (search needs, subst (λ (start : Catalogue). Folds es 0 0 (start .entries)) (sym (c .before .empty .ensures)) (folds-none es))
 
 -- place k is one of the arrays'
 small : (c : tie.In-loop Inv-loop μ-loop) → c .before .loop .k < 256
-small c = omega (arith, c .before .before .before .before .before .pre .0 .few, c .loop-test .taken)
+small c = omega (arith, c .before .before .before .before .before .before .pre .0 .few, c .loop-test .taken)
 
 mul-if1 : tie.Need-mul-if1 Inv-loop μ-loop
 mul-if1 c = omega (arith, small c)
 
 shared-slice-read-if1 : tie.Need-shared-slice-read-if1 Inv-loop μ-loop
-shared-slice-read-if1 c = omega (arith, small (c .before), c .before .before .before .before .before .before .pre .1 .1 .long)
+shared-slice-read-if1 c = omega (arith, small (c .before), c .before .before .before .before .before .before .before .pre .1 .1 .long)
 
 mul-e : tie.Need-mul-e Inv-loop μ-loop
 mul-e c = omega (arith, small (c .before .before))
@@ -60,15 +60,15 @@ all c = search needs
 way-of-requires : tie.Need-way-of-requires Inv-loop μ-loop
 way-of-requires c κs =
     let l = c .before .before .before .before .before .before in
-    let s = l .before .before .before .before in
+    let s = l .before .before .before .before .before in
     let closed = s .pre .1 .1 in
-    ((omega (arith, s .pre .0 .few, all (l .before .before)), omega (arith, s .pre .0 .few, closed .long)), (s .pre .0 .few, λ k h. closed .first k h .within))
+    ((omega (arith, s .pre .0 .few, all (l .before .before .before)), omega (arith, s .pre .0 .few, closed .long)), (s .pre .0 .few, λ k h. closed .first k h .within))
 
 printed-requires : tie.Need-printed-requires Inv-loop μ-loop
 printed-requires c κs =
     let l = c .before .before .before .before .before .before .before in
-    let s = l .before .before .before .before in
-    full _ (s .pre .0) (s .pre .1 .0) (s .pre .1 .1) (l .before .before .numbers .ensures) (l .loop .k) (c .before .before .before .before .before .before .loop-test .taken)
+    let s = l .before .before .before .before .before in
+    full _ (s .pre .0) (s .pre .1 .0) (s .pre .1 .1) (l .before .before .before .numbers .ensures) (l .loop .k) (c .before .before .before .before .before .before .loop-test .taken)
 
 -- n is no greater than k
 small-count : (c : tie.In-loop Inv-loop μ-loop) → c .before .loop .n < 256
@@ -92,9 +92,9 @@ loop-less c = search needs
 loop-again : tie.Need-loop-again Inv-loop μ-loop
 loop-again c =
     let l = c .before .before .before in
-    let s = l .before .before .before .before in
+    let s = l .before .before .before .before .before in
     let here = c .before .before .loop-test .taken in
-    let named = l .before .before .numbers .ensures in (
+    let named = l .before .before .before .numbers .ensures in (
       search needs,
       ⊎-elim (λ x. printed-next (s .args .t1) (s .pre .0) (s .pre .1 .0) (s .pre .1 .1) named (l .loop .k) here (l .loop .inv .1) (x .0 .taken) (x .4 .ensures) (x .5 .ensures) (x .6) (x .7))
           (λ x. passed-over (s .args .t1) (s .pre .0) (s .pre .1 .0) (s .pre .1 .1) named (l .loop .k) here (l .loop .inv .1) (x .0 .left) (x .1) (x .2)) (c .if1 .came),
@@ -103,7 +103,7 @@ loop-again c =
 returns : tie.Need-returns Inv-loop μ-loop
 returns c =
     let l = c .before in
-    let s = l .before .before .before .before in
+    let s = l .before .before .before .before .before in
     all-printed (s .args .t1) (s .pre .0) (l .loop .inv .1) (omega (arith, c .loop-test .left))
 
 pub folded-spec : {M : Type 1} → statement M

@@ -34,8 +34,8 @@ start-requires c κs = search needs
 
 loop-holds : tie.Need-loop-holds Inv-loop μ-loop
 loop-holds c =
-    let words = wordsOf (c .before .before .before .args .bytes .now) in
-    let none = sym (c .before .empty .ensures) in
+    let words = wordsOf (c .before .before .before .before .args .bytes .now) in
+    let none = sym (c .before .before .empty .ensures) in
     (search needs, subst (λ (empty : Catalogue). Reached words 0 (empty .entries) (filled 0 256 []) (c .start .result)) none (subst (Reached words 0 (stored []) (filled 0 256 [])) (sym (c .start .ensures)) (at-start words)))
 
 word-at-requires : tie.Need-word-at-requires Inv-loop μ-loop
@@ -54,12 +54,12 @@ step-requires : tie.Need-step-requires Inv-loop μ-loop
 step-requires c κs = reached-ready _ _ (c .before .before .before .before .loop .inv .1)
 
 -- a turn: its word is one of the file, and the step is the definition's
-here : (c : tie.After-step Inv-loop μ-loop) → let l = c .before .before .before .before .before in l .loop .i < length (wordsOf (l .before .before .before .before .args .bytes .now))
+here : (c : tie.After-step Inv-loop μ-loop) → let l = c .before .before .before .before .before in l .loop .i < length (wordsOf (l .before .before .before .before .before .args .bytes .now))
 here c =
     let l = c .before .before .before .before .before in
-    omega (arith, length-words (l .before .before .before .before .args .bytes .now), c .before .before .before .before .loop-test .taken)
+    omega (arith, length-words (l .before .before .before .before .before .args .bytes .now), c .before .before .before .before .loop-test .taken)
 
-word : (c : tie.After-step Inv-loop μ-loop) → let l = c .before .before .before .before .before in wordIn (c .before .before .decode .result) ≡ decode (getD (wordsOf (l .before .before .before .before .args .bytes .now)) (l .loop .i) 0)
+word : (c : tie.After-step Inv-loop μ-loop) → let l = c .before .before .before .before .before in wordIn (c .before .before .decode .result) ≡ decode (getD (wordsOf (l .before .before .before .before .before .args .bytes .now)) (l .loop .i) 0)
 word c = c .before .before .decode .ensures ∙ ap decode (c .before .before .before .word-at .ensures)
 
 goes : (c : tie.Else1 Inv-loop μ-loop) → c .before .before .step .result .refusal ≡ 0
@@ -93,7 +93,7 @@ note-requires c κs =
 add-i : tie.Need-add-i Inv-loop μ-loop
 add-i c =
     let i = c .before .before .before .before .before .before .before .before .before in
-    omega (arith, i .loop-test .taken, i .before .before .before .before .before .good .0 .0)
+    omega (arith, i .loop-test .taken, i .before .before .before .before .before .before .good .0 .0)
 
 loop-less : tie.Need-loop-less Inv-loop μ-loop
 loop-less c = omega arith
@@ -114,13 +114,13 @@ refused-requires-2 : tie.Need-refused-requires-2 Inv-loop μ-loop
 refused-requires-2 c κs = search needs
 
 -- no word is left
-over : (c : tie.After-loop Inv-loop μ-loop) → length (wordsOf (c .before .before .before .before .before .args .bytes .now)) ≤ c .before .loop .i
-over c = omega (arith, length-words (c .before .before .before .before .before .args .bytes .now), c .loop-test .left)
+over : (c : tie.After-loop Inv-loop μ-loop) → length (wordsOf (c .before .before .before .before .before .before .args .bytes .now)) ≤ c .before .loop .i
+over c = omega (arith, length-words (c .before .before .before .before .before .before .args .bytes .now), c .loop-test .left)
 
 returns-2 : tie.Need-returns-2 Inv-loop μ-loop
 returns-2 c =
     let l = c .before .before .before in
-    let n : length (l .before .before .before .before .before .args .bytes .now) / 4 ≡ l .before .loop .i = omega arith in
+    let n : length (l .before .before .before .before .before .before .args .bytes .now) / 4 ≡ l .before .loop .i = omega arith in
     c .refused2 .ensures
     ∙ ap (noCatalogue 10) n
     ∙ missing _ _ (l .before .loop .inv .1) (over l) (sym (c .before .before .closed .ensures) ∙ not-true _ (c .before .if3 .taken))
