@@ -1,15 +1,22 @@
 -- The coordinates are those of the reduced vectors.
-use mathlib.Core.Path.{ap}
+use mathlib.Core.Path.{_≡_, ap}
+use mathlib.Core.Bool.{Bool}
+use mathlib.Core.List.{List}
+use Prim.Native.Nat.{ℕ}
+use lib.IntN.{ℤ}
 use borrow.Author.Needs.{needs}
 use Rattle.catalogue_records.specs.declared.Entry.{Entry}
 use Rattle.catalogue_fold.proofs.printing.printed.Statement.{statement}
 use Rattle.catalogue_fold.proofs.printing.printed.Tie as tie
 
+-- all else being the same, an entry is printed as it should be when its coordinates are
+with-coordinates : {number d m place see at : ℕ} {sees : Bool} {l r : List ℤ} → l ≡ r
+    → _≡_ {A = Entry} (record { number = number; d = d; m = m; place = place; sees = sees; see = see; at = at; coordinates = l })
+    (record { number = number; d = d; m = m; place = place; sees = sees; see = see; at = at; coordinates = r })
+with-coordinates {number} {d} {m} {place} {see} {at} {sees} h = ap (λ (l : List ℤ). record { number = number; d = d; m = m; place = place; sees = sees; see = see; at = at; coordinates = l }) h
+
 returns : tie.Need-returns
-returns c =
-    let a = c .before .args in
-    let with : _ → Entry = λ l. record { number = a .e .number; d = a .e .d; m = a .e .m; place = a .e .place; sees = a .w .sees; see = a .w .number; at = a .w .at; coordinates = l } in
-    ap with (c .spread .ensures)
+returns c = with-coordinates (search needs)
 
 spread-requires : tie.Need-spread-requires
 spread-requires c κs = search needs
