@@ -10,60 +10,72 @@ use lib.IntN.{ℤ}
 use lib.ListN.{length}
 use lib.Seq.{sets}
 use borrow.Author.Tests.{le-leb, lt-leb}
-use Rattle.catalogue_rules.specs.Catalogue.{Outcome, refused, accepted}
+use Rattle.catalogue_rules.specs.Catalogue.{Entry, Outcome, refused, accepted}
 use Rattle.catalogue_rules.specs.Read.{read}
 use Rattle.catalogue_rules.specs.Write.{write}
 use Rattle.catalogue_rules.specs.Laws.WellFormed.{well-formed}
 use Rattle.catalogue_rules.specs.Laws.WrittenSize.{length-written}
-use Rattle.catalogue_rules.specs.Output.{Output, untouched, filledWith, output}
+use Rattle.catalogue_rules.specs.Output.{Output, untouched, filledWith, outputBy, output}
 use Rattle.fold_rules.specs.Fold.{closedList, lookup}
-use Rattle.fold_rules.specs.Services.{Lookup, foldedOutcome, foldOf, lookedUp, lookedIn, lookupOf}
+use Rattle.fold_rules.specs.Services.{Lookup, foldedOutcome, foldOf, lookedUp, lookedIn, lookupOf, listingText, listOf}
 use Rattle.fold_rules.specs.Laws.FoldedForm.{folded-size}
+use Rattle.fold_rules.specs.Laws.ListingSize.{listing-size}
 use Rattle.exports.specs.Layout.{written, beside, head}
 use Rattle.exports.specs.Runs.{written-long}
 use Rattle.exports.specs.Places.{OutcomeLow, read-low}
 
 -- ---- writing
 
--- a refusal with its place, or entries that a catalogue has room for
-abbrev Told : Outcome → Type 0
-Told (refused n p) = (n ≤ 17) × (p ≤ 4609)
-Told (accepted es) = length (write es) ≤ 18436
+-- a refusal with its place, or entries of which f makes no more than 40,000 bytes
+abbrev Told : (List Entry → List ℕ) → Outcome → Type 0
+Told f (refused n p) = (n ≤ 17) × (p ≤ 4609)
+Told f (accepted es) = length (f es) ≤ 40000
 
-told-read : (bytes : List ℕ) → Told (read bytes)
+told-read : (bytes : List ℕ) → Told write (read bytes)
 unfolding write
 told-read bytes = go (read bytes) refl (read-low bytes)
   where
-    go : (o : Outcome) → read bytes ≡ o → OutcomeLow 4609 o → Told o
+    go : (o : Outcome) → read bytes ≡ o → OutcomeLow 4609 o → Told write o
     go (refused n p) e q = q
-    go (accepted es) e q = let w = well-formed bytes es e .entered in length-written es (w .few) (w .fits)
+    go (accepted es) e q = let w = well-formed bytes es e .entered in omega (arith, length-written es (w .few) (w .fits))
 
-told-fold : (bytes : List ℕ) → Told (foldedOutcome (read bytes))
+told-fold : (bytes : List ℕ) → Told write (foldedOutcome (read bytes))
 told-fold bytes = go (read bytes) refl (read-low bytes)
   where
-    go : (o : Outcome) → read bytes ≡ o → OutcomeLow 4609 o → Told (foldedOutcome o)
+    go : (o : Outcome) → read bytes ≡ o → OutcomeLow 4609 o → Told write (foldedOutcome o)
     go (refused n p) e q = q
-    go (accepted es) e q = folded-size es (well-formed bytes es e)
+    go (accepted es) e q = omega (arith, folded-size es (well-formed bytes es e))
+
+told-list : (bytes : List ℕ) → Told listingText (read bytes)
+told-list bytes = go (read bytes) refl (read-low bytes)
+  where
+    go : (o : Outcome) → read bytes ≡ o → OutcomeLow 4609 o → Told listingText o
+    go (refused n p) e q = q
+    go (accepted es) e q = listing-size bytes es e
 
 pub record Few (o : Output) : Type 0 where
   pub refusal : o .refusal ≤ 17
   pub place : o .place ≤ 4609
-  pub written : o .written ≤ 18436
+  pub written : o .written ≤ 40000
 
-output-few : (o : Outcome) (out : List ℕ) → Told o → Few (output o out)
-output-few (refused n p) out t = record { refusal = t .0; place = t .1; written = omega arith }
-output-few (accepted es) out t = go (ltb (length out) (length (write es)))
+output-few : (f : List Entry → List ℕ) (o : Outcome) (out : List ℕ) → Told f o → Few (outputBy f o out)
+output-few f (refused n p) out t = record { refusal = t .0; place = t .1; written = omega arith }
+output-few f (accepted es) out t = go (ltb (length out) (length (f es)))
   where
-    go : (s : Bool) → Few (elim s [ true ↦ untouched 16 0 out | false ↦ filledWith (write es) out ])
+    go : (s : Bool) → Few (elim s [ true ↦ untouched 16 0 out | false ↦ filledWith (f es) out ])
     go true = record { refusal = omega arith; place = omega arith; written = omega arith }
     go false = record { refusal = omega arith; place = omega arith; written = t }
 
 pub write-few : (bytes out : List ℕ) → Few (output (read bytes) out)
-write-few bytes out = output-few (read bytes) out (told-read bytes)
+write-few bytes out = output-few write (read bytes) out (told-read bytes)
 
 pub fold-few : (bytes out : List ℕ) → Few (foldOf bytes out)
 unfolding foldOf
-fold-few bytes out = output-few (foldedOutcome (read bytes)) out (told-fold bytes)
+fold-few bytes out = output-few write (foldedOutcome (read bytes)) out (told-fold bytes)
+
+pub list-few : (bytes out : List ℕ) → Few (listOf bytes out)
+unfolding listOf
+list-few bytes out = output-few listingText (read bytes) out (told-list bytes)
 
 -- ---- lookup
 

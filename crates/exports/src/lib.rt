@@ -3,12 +3,13 @@ ghost use mathlib.Core.Path.{_≡_};
 ghost use mathlib.Core.List.{[]};
 ghost use Prim.Native.Nat.{_+_, _≤_};
 ghost use lib.Dec.{leb};
+ghost use lib.IntN.{pos};
 ghost use lib.ListN.{length};
 ghost use lib.Seq.{sets};
 ghost use Rattle.lattices.specs.Answer.{reductionOf, nearestOf};
 ghost use Rattle.catalogue_rules.specs.Read.{read};
 ghost use Rattle.catalogue_rules.specs.Output.{output};
-ghost use Rattle.fold_rules.specs.Services.{foldOf, lookupOf};
+ghost use Rattle.fold_rules.specs.Services.{foldOf, lookupOf, listOf};
 ghost use Rattle.exports.specs.Layout.{flat, head, layout, layoutNearest, layoutOutput, layoutLookup, written, beside};
 
 // How many numbers a reduction's answer takes.
@@ -55,6 +56,15 @@ fn put_head(out: &mut [i64], refusal: u64, place: u64, number: i64)
     out[0] = refusal as i64;
     out[1] = place as i64;
     out[2] = number;
+}
+
+// Writes what stands in an answer about a catalogue: refusal, place and a count.
+fn put_counts(out: &mut [i64], refusal: u64, place: usize, count: usize)
+    requires { ⌜ 3 ≤ length (now out) ⌝ }
+    requires { ⌜ (refusal ≤ 1000000000000) × (place ≤ 1000000000000) × (count ≤ 1000000000000) ⌝ }
+    ensures { λ _. ⌜ now (out .exit) ≡ sets (now (out .entry)) 0 (head refusal place (pos count)) ⌝ }
+{
+    put_head(out, refusal, place as u64, count as i64);
 }
 
 // Reduces d vectors of m coordinates each. The answer is written to the first 55 numbers of `out`; a shorter `out` stays as it is.
@@ -116,7 +126,7 @@ pub extern "C" fn raghymtos_write_out(bytes: &[u8], out: &mut [u8], answer: &mut
         return false;
     }
     let w = catalogue::write_out(bytes, out);
-    put_head(answer, w.refusal, w.place as u64, w.length as i64);
+    put_counts(answer, w.refusal, w.place, w.length);
     true
 }
 
@@ -132,7 +142,23 @@ pub extern "C" fn raghymtos_fold(bytes: &[u8], out: &mut [u8], answer: &mut [i64
         return false;
     }
     let f = catalogue::fold(bytes, out);
-    put_head(answer, f.refusal, f.place as u64, f.length as i64);
+    put_counts(answer, f.refusal, f.place, f.length);
+    true
+}
+
+// Writes the listing of a catalogue to `out`. The answer is written to the first 3 numbers of `answer`; where that is shorter, both stay as
+// they are.
+#[no_mangle]
+pub extern "C" fn raghymtos_list(bytes: &[u8], out: &mut [u8], answer: &mut [i64]) -> bool
+    ensures { λ r. ⌜ r ≡ leb 3 (length (now (answer .entry))) ⌝ }
+    ensures { λ _. ⌜ now (answer .exit) ≡ written (now (answer .entry)) 3 (layoutOutput (listOf (now (bytes .entry)) (now (out .entry)))) ⌝ }
+    ensures { λ _. ⌜ now (out .exit) ≡ beside (now (answer .entry)) 3 (now (out .entry)) (listOf (now (bytes .entry)) (now (out .entry)) .lent) ⌝ }
+{
+    if answer.len() < WRITING {
+        return false;
+    }
+    let l = catalogue_listing::list(bytes, out);
+    put_counts(answer, l.refusal, l.place, l.length);
     true
 }
 
@@ -147,6 +173,6 @@ pub extern "C" fn raghymtos_lookup(bytes: &[u8], number: u32, answer: &mut [i64]
         return false;
     }
     let s = catalogue::lookup(bytes, number);
-    put_head(answer, s.refusal, s.place as u64, s.standing as i64);
+    put_counts(answer, s.refusal, s.place, s.standing as usize);
     true
 }

@@ -5,9 +5,6 @@ use native.Mathlib.Omega.{arith}
 use lib.IntN.{pos}
 use lib.ListN.{length}
 use lib.Seq.{sets}
-use mir.Syntax.{w64}
-use mir.Val.{toZ}
-use mir.Facts.{toZ-pos}
 use denote.Ref.{now}
 use borrow.Author.Tests.{le-leb, lt-leb}
 use Rattle.fold_rules.specs.Services.{Lookup, lookupOf}
@@ -31,18 +28,17 @@ returns c =
 lookup-requires : tie.Need-lookup-requires
 lookup-requires c κs = search needs
 
--- the numbers of the answer are small
-few : (c : tie.After-lookup) → (c .lookup .result .refusal ≤ 1000000000000) × (c .lookup .result .place ≤ 1000000000000)
-few c =
-    let s = c .before .before .before in
+cast-put-counts : tie.Need-cast-put-counts
+cast-put-counts c = search needs
+
+put-counts-requires : tie.Need-put-counts-requires
+put-counts-requires c κs =
+    let w = c .before .before in
+    let s = w .before .before .before in
     let n = lookup-few (now (s .args .bytes)) (s .args .number) in
-    subst (λ a. (a .refusal ≤ 1000000000000) × (a .place ≤ 1000000000000)) (sym (c .lookup .ensures)) (omega (arith, n .0), omega (arith, n .1))
-
-cast-put-head : tie.Need-cast-put-head
-cast-put-head c = let n = few (c .before .before) in record { sfits = omega (arith, n .0, n .1) }
-
-put-head-requires : tie.Need-put-head-requires
-put-head-requires c κs = let n = few (c .before .before) in (search needs, (omega (arith, n .0, n .1), omega (arith, n .0, n .1)))
+    let small : (w .lookup .result .refusal ≤ 1000000000000) × (w .lookup .result .place ≤ 1000000000000) =
+    subst (λ a. (a .refusal ≤ 1000000000000) × (a .place ≤ 1000000000000)) (sym (w .lookup .ensures)) (omega (arith, n .0), omega (arith, n .1)) in
+    (search needs, (small .0, small .1, omega arith))
 
 same-length : tie.Need-same-length
 same-length c = search needs
@@ -53,10 +49,8 @@ returns-2 c =
     let w = p .before .before .before in
     let s = w .before .before .before in
     let l = now (s .args .answer) in
-    let a = w .lookup .result in
     let h : 3 ≤ length l = search needs in
-    let told : p .put-head .last .0 ≡ sets l 0 (head (a .refusal) (a .place) (toZ w64 (a .standing))) = p .put-head .ensures in
-    let e = told ∙ ap (λ n. sets l 0 (head (a .refusal) (a .place) n)) (toZ-pos w64 (omega arith)) ∙ ap (λ a. sets l 0 (head (a .refusal) (a .place) (pos (a .standing)))) (w .lookup .ensures) in
+    let e = p .put-counts .ensures ∙ ap (λ a. sets l 0 (head (a .refusal) (a .place) (pos (a .standing)))) (w .lookup .ensures) in
     (sym (le-leb 3 (length l) h), head-stored l (given s .refusal) (given s .place) (pos (given s .standing)) h e)
 
 pub raghymtos-lookup-spec : {M : Type 1} → statement M
@@ -65,7 +59,7 @@ raghymtos-lookup-spec =
     (tie.spec
     returns
     lookup-requires
-    cast-put-head
-    put-head-requires
+    cast-put-counts
+    put-counts-requires
     same-length
     returns-2)
