@@ -1,5 +1,5 @@
 -- The volume of a list of vectors, and from it the test for dependence. The entries of the volume are the minors of the list;
--- `Dependent` of Vector.antt is the meaning, and the crate `volumes` proves that this test decides it.
+-- `Dependent` of Vector.antt is the meaning, and `dependent-exactly` of exterior_algebra/specs/Dependence.antt says that this test decides it.
 use mathlib.Core.Bool.{Bool, true, false}
 use mathlib.Core.List.{List, [], _∷_}
 use Prim.Native.Nat.{ℕ, zero, suc}

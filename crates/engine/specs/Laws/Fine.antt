@@ -1,4 +1,4 @@
--- What holds of the rows throughout a reduction: they came from an accepted basis by greedy moves, so the sizes of `reductions` apply.
+-- What holds of the rows throughout a reduction: they came from an accepted basis by greedy moves, so the sizes of `greedy_reduction` apply.
 use mathlib.Core.Path.{_≡_, sym, ap, _∙_, subst}
 use mathlib.Core.List.{List, _++_, append-assoc}
 use Prim.Native.Nat.{ℕ, _≤_}
