@@ -18,6 +18,8 @@
 //! the engine and takes its answers apart, and in [`catalogue`] it turns entries into words and back. Tests hold it against the header
 //! and against an independent implementation.
 
+#![deny(missing_docs)]
+
 mod answer;
 pub mod catalogue;
 pub mod raw;
