@@ -33,6 +33,7 @@ extern "C" {
 #define RAGHYMTOS_MOST_ENTRIES 256             /* entries of a catalogue */
 #define RAGHYMTOS_MOST_NUMBER 1048575          /* an entry's number; the least is 1 */
 #define RAGHYMTOS_MOST_CATALOGUE_BYTES 18436   /* an output that is never too short for one */
+#define RAGHYMTOS_MOST_LISTING_BYTES 40000     /* an output that is never too short for a listing */
 
 /* Where all answers begin. */
 #define RAGHYMTOS_REFUSAL_AT 0 /* 0, or the number of the refusal: then all else but the place is 0 */
@@ -153,6 +154,13 @@ bool raghymtos_write_out(const uint8_t *bytes, size_t count, uint8_t *out, size_
  * stands, with its number, its reduced vectors, and a see word where its own leads to another
  * standing entry. Otherwise as raghymtos_write_out. */
 bool raghymtos_fold(const uint8_t *bytes, size_t count, uint8_t *out, size_t room,
+                    int64_t *answer, size_t answer_room);
+
+/* Writes the listing of the catalogue to out, as text without a final zero: a line with the number of
+ * entries and of standing entries; a line for each entry with its number, its standing number, the
+ * number that its see word leads to, or 0, and its passes; under a standing entry a line "v" with the
+ * coordinates for each reduced vector. Otherwise as raghymtos_write_out. */
+bool raghymtos_list(const uint8_t *bytes, size_t count, uint8_t *out, size_t room,
                     int64_t *answer, size_t answer_room);
 
 /* Finds the number of the standing entry of the entry with this number: the first entry with the

@@ -45,11 +45,30 @@ static const uint32_t words[] = {
     0x10000722, 0x20004E21, 0x20004E20, 0x20004E24, 0x20004E21, 0x10000922, 0x20004E22, 0x20004E20, 0x20004E20,
     0x20004E23, 0x3000000C, 0x10000C22, 0x20004E20, 0x20004E21, 0x20004E21, 0x20004E20, 0x30000009, 0x40000003};
 
+static void fill(uint8_t bytes[sizeof words]) {
+    for (size_t i = 0; i < sizeof words; i++)
+        bytes[i] = (uint8_t)(words[i / 4] >> 8 * (i % 4));
+}
+
+static void listing(void) {
+    static const char text[] = "3 2\n7 7 0 1\nv 1 0\nv 0 1\n9 9 7 1\nv 2 0\nv 0 3\n12 7 9 1\n";
+    const size_t n = sizeof text - 1;
+    uint8_t bytes[sizeof words], out[RAGHYMTOS_MOST_LISTING_BYTES];
+    int64_t answer[RAGHYMTOS_CATALOGUE_COUNT];
+    fill(bytes);
+    memset(out, 0x55, sizeof out);
+    raghymtos_list(bytes, 72, out, n - 1, answer, 3);
+    expect(answer[RAGHYMTOS_REFUSAL_AT] == RAGHYMTOS_OUTPUT_SHORT && out[0] == 0x55, "a byte too few for the listing");
+    raghymtos_list(bytes, 71, out, sizeof out, answer, 3);
+    expect(answer[RAGHYMTOS_REFUSAL_AT] == RAGHYMTOS_NOT_WORDS && out[0] == 0x55, "no listing of 71 bytes");
+    raghymtos_list(bytes, 72, out, n, answer, 3);
+    expect(answer[RAGHYMTOS_WRITTEN_AT] == (int64_t)n && memcmp(out, text, n) == 0 && out[n] == 0x55, "the listing");
+}
+
 static void catalogue(void) {
     uint8_t bytes[sizeof words], out[RAGHYMTOS_MOST_CATALOGUE_BYTES];
     int64_t answer[RAGHYMTOS_CATALOGUE_COUNT];
-    for (size_t i = 0; i < sizeof bytes; i++)
-        bytes[i] = (uint8_t)(words[i / 4] >> 8 * (i % 4));
+    fill(bytes);
     memset(out, 0x55, sizeof out);
     expect(raghymtos_write_out(bytes, 72, out, 72, answer, 3), "3 lent numbers are enough");
     expect(answer[RAGHYMTOS_REFUSAL_AT] == RAGHYMTOS_ACCEPTED && answer[RAGHYMTOS_WRITTEN_AT] == 72, "72 bytes are written");
@@ -87,5 +106,6 @@ int main(void) {
     reduction();
     nearest();
     catalogue();
+    listing();
     return wrong;
 }

@@ -1,7 +1,7 @@
-//! Catalogues of bases: made from entries and read into them, folded to one entry for each lattice, and looked up.
+//! Catalogues of bases: made from entries and read into them, folded to one entry for each lattice, looked up, and listed.
 //!
 //! ```
-//! use raghymtos::catalogue::{entries, fold, from_entries, lookup, Entry};
+//! use raghymtos::catalogue::{entries, fold, from_entries, list, lookup, Entry};
 //!
 //! // 7 and 12 are bases of one lattice; 9 refers to 12
 //! let bytes = from_entries(&[
@@ -10,6 +10,7 @@
 //!     Entry::new(12, [[0, 1], [1, 0]]),
 //! ])?;
 //! assert_eq!(lookup(&bytes, 12)?, 7);
+//! assert_eq!(list(&bytes)?, "3 2\n7 7 0 1\nv 1 0\nv 0 1\n9 9 7 1\nv 2 0\nv 0 3\n12 7 0 1\n");
 //! assert_eq!(
 //!     entries(&fold(&bytes)?)?,
 //!     [
@@ -20,8 +21,8 @@
 //! # Ok::<(), Box<dyn std::error::Error>>(())
 //! ```
 //!
-//! A catalogue is bytes, as the engine takes and writes them. Which bytes are accepted, what is refused and where, the fold and the
-//! lookup are the engine's and proved. [`from_entries`] and [`entries`] are plain Rust on top: the first writes words and lets the engine
+//! A catalogue is bytes, as the engine takes and writes them. Which bytes are accepted, what is refused and where, the fold, the lookup
+//! and the listing are the engine's and proved. [`from_entries`] and [`entries`] are plain Rust on top: the first writes words and lets the engine
 //! read them, the second lets the engine read and then takes the words apart. So a mistake of theirs could mix up entries, but could not
 //! make a catalogue that the engine does not accept.
 
@@ -43,6 +44,9 @@ pub const MOST_NUMBER: u32 = 1_048_575;
 
 /// The most bytes that a catalogue can have, so the length of an output that is always long enough.
 pub const MOST_BYTES: usize = 18_436;
+
+/// The most bytes that a listing can have.
+pub const MOST_LISTING_BYTES: usize = 40_000;
 
 /// Why a catalogue is refused, or a call with one that is accepted.
 #[derive(Clone, Copy, Debug, PartialEq, Eq, Hash)]
@@ -93,6 +97,16 @@ pub fn fold(bytes: &[u8]) -> Result<Vec<u8>, CatalogueRefusal> {
     Ok(out)
 }
 
+/// The listing: a line with the number of entries and of standing entries; a line for each entry with its number, its standing number,
+/// the number that its see word leads to, or 0, and its passes; under a standing entry a line `v` with the coordinates for each reduced
+/// vector.
+pub fn list(bytes: &[u8]) -> Result<String, CatalogueRefusal> {
+    let mut out = vec![0; MOST_LISTING_BYTES];
+    let n = list_to(bytes, &mut out)?;
+    out.truncate(n);
+    Ok(String::from_utf8(out).expect("a listing is ASCII"))
+}
+
 /// The number of the standing entry: the first with the lattice of the entry that has this number.
 pub fn lookup(bytes: &[u8], number: u32) -> Result<u32, CatalogueRefusal> {
     answer(|answer| raw::lookup(bytes, number, answer)).map(|n| n as u32)
@@ -107,6 +121,11 @@ pub fn write_out_to(bytes: &[u8], out: &mut [u8]) -> Result<usize, CatalogueRefu
 /// As [`fold`], to `out`. Gives the length written; what is behind it keeps its bytes, and on refusal all does.
 pub fn fold_to(bytes: &[u8], out: &mut [u8]) -> Result<usize, CatalogueRefusal> {
     answer(|answer| raw::fold(bytes, out, answer)).map(|n| n as usize)
+}
+
+/// As [`list`], to `out`. Gives the length written; what is behind it keeps its bytes, and on refusal all does.
+pub fn list_to(bytes: &[u8], out: &mut [u8]) -> Result<usize, CatalogueRefusal> {
+    answer(|answer| raw::list(bytes, out, answer)).map(|n| n as usize)
 }
 
 /// The last number of an answer, or the refusal that its first ones are.

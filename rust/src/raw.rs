@@ -49,6 +49,15 @@ extern "C" {
         answer_room: usize,
     ) -> bool;
 
+    fn raghymtos_list(
+        bytes: *const u8,
+        count: usize,
+        out: *mut u8,
+        room: usize,
+        answer: *mut i64,
+        answer_room: usize,
+    ) -> bool;
+
     fn raghymtos_lookup(
         bytes: *const u8,
         count: usize,
@@ -110,6 +119,21 @@ pub fn write_out(bytes: &[u8], out: &mut [u8], answer: &mut [i64]) -> bool {
 pub fn fold(bytes: &[u8], out: &mut [u8], answer: &mut [i64]) -> bool {
     unsafe {
         raghymtos_fold(
+            bytes.as_ptr(),
+            bytes.len(),
+            out.as_mut_ptr(),
+            out.len(),
+            answer.as_mut_ptr(),
+            answer.len(),
+        )
+    }
+}
+
+/// Writes the listing to `out`, and the answer to the first 3 numbers of `answer`. A shorter `answer` is left as it is, and so is `out`,
+/// and false is given.
+pub fn list(bytes: &[u8], out: &mut [u8], answer: &mut [i64]) -> bool {
+    unsafe {
+        raghymtos_list(
             bytes.as_ptr(),
             bytes.len(),
             out.as_mut_ptr(),

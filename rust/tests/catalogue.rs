@@ -1,8 +1,8 @@
 //! Catalogues made from entries and read back, and what makes none.
 
 use raghymtos::catalogue::{
-    check, entries, fold, fold_to, from_entries, lookup, Entry, NoCatalogue, MOST_BYTES,
-    MOST_ENTRIES, MOST_NUMBER,
+    check, entries, fold, fold_to, from_entries, list, list_to, lookup, Entry, NoCatalogue,
+    MOST_BYTES, MOST_ENTRIES, MOST_NUMBER,
 };
 use raghymtos::Refusal;
 
@@ -61,6 +61,18 @@ fn folded_to_a_slice() {
         (short.refusal, short.place, short.word()),
         (Refusal::OutputShort, 0, None)
     );
+}
+
+#[test]
+fn listed() {
+    let text = "3 2\n7 7 0 1\nv 1 0\nv 0 1\n9 9 7 1\nv 2 0\nv 0 3\n12 7 9 1\n";
+    assert_eq!(list(&bytes(&WORDS)).as_deref(), Ok(text));
+    assert_eq!(list(&bytes(&[0x40000000])).as_deref(), Ok("0 0\n"));
+    assert_eq!(list(&[0; 3]).map_err(|r| r.refusal), Err(Refusal::NotWords));
+    let mut out = vec![0x55; text.len() - 1];
+    let short = list_to(&bytes(&WORDS), &mut out).unwrap_err();
+    assert_eq!(short.refusal, Refusal::OutputShort);
+    assert!(out.iter().all(|&b| b == 0x55));
 }
 
 #[test]

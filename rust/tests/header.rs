@@ -21,6 +21,7 @@ fn the_same_numbers() {
         ("MOST_ENTRIES", catalogue::MOST_ENTRIES),
         ("MOST_NUMBER", catalogue::MOST_NUMBER as usize),
         ("MOST_CATALOGUE_BYTES", catalogue::MOST_BYTES),
+        ("MOST_LISTING_BYTES", catalogue::MOST_LISTING_BYTES),
     ];
     for (name, value) in all {
         assert_eq!(defined(name), value.to_string(), "{name}");

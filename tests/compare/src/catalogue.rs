@@ -1,8 +1,9 @@
-//! One catalogue: written out, folded and looked up, and its entries read and written, against the reference.
+//! One catalogue: written out, folded, listed and looked up, and its entries read and written, against the reference.
 
 use raghymtos::catalogue::{self as engine, CatalogueRefusal};
 use raghymtos::raw::{self, ANSWER_NUMBERS};
 use reference::catalogue::fold::{folded, standing};
+use reference::catalogue::listing::listing;
 use reference::catalogue::reader::read;
 use reference::catalogue::writer::write;
 use reference::catalogue::{lend, looked_up, Entry, Refused};
@@ -38,6 +39,12 @@ const FOLD: Writing = Writing {
     wrapped: engine::fold_to,
 };
 
+const LIST: Writing = Writing {
+    name: "list",
+    into: raw::list,
+    wrapped: engine::list_to,
+};
+
 /// What was compared: the refusals of each call, and that of the catalogue itself.
 #[derive(Default)]
 pub struct Compared {
@@ -57,7 +64,9 @@ pub fn compare(bytes: &[u8], rooms: Rooms) -> Result<Compared, String> {
     };
     let whole = entries.as_ref().map(|e| write(e)).map_err(|r| *r);
     let fold = entries.as_ref().map(|e| write(&folded(e))).map_err(|r| *r);
-    for (writing, expected) in [(WRITE_OUT, whole), (FOLD, fold)] {
+    let list = entries.as_ref().map(|_| listing(bytes).into_bytes());
+    let list = list.map_err(|r| *r);
+    for (writing, expected) in [(WRITE_OUT, whole), (FOLD, fold), (LIST, list)] {
         for room in lengths(&expected, rooms) {
             let refused = written_alike(&writing, bytes, &expected, room)?;
             seen.writings += 1;
@@ -141,7 +150,7 @@ fn wrapped_alike(
     bytes: &[u8],
     expected: &Result<Vec<u8>, Refused>,
 ) -> Result<(), String> {
-    let mut out = vec![MARK; engine::MOST_BYTES];
+    let mut out = vec![MARK; engine::MOST_LISTING_BYTES];
     let given = (writing.wrapped)(bytes, &mut out);
     let is_alike = match (given, expected) {
         (Ok(n), Ok(all)) => out[..n] == all[..],
