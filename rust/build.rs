@@ -1,15 +1,24 @@
-//! Links the proved engine: `rt staticlib exports` writes the archive to target/staticlib.
+//! Links the proved engine, libraghymtos.a, which the script `archive` beside this file makes. RAGHYMTOS_LIB_DIR names the folder that
+//! holds it; without it, target/lib of the repository.
 
-use std::path::Path;
+use std::path::{Path, PathBuf};
+
+const FOLDER: &str = "RAGHYMTOS_LIB_DIR";
 
 fn main() {
-    let root = std::env::var("CARGO_MANIFEST_DIR").unwrap();
-    let folder = Path::new(&root).join("../target/staticlib");
-    let archive = folder.join("libexports.a");
+    println!("cargo:rerun-if-env-changed={FOLDER}");
+    let folder = match std::env::var_os(FOLDER) {
+        Some(folder) => PathBuf::from(folder),
+        None => Path::new(&std::env::var("CARGO_MANIFEST_DIR").unwrap()).join("../target/lib"),
+    };
+    let archive = folder.join("libraghymtos.a");
     println!("cargo:rerun-if-changed={}", archive.display());
     if !archive.exists() {
-        panic!("no {}: run `rt staticlib exports` first", archive.display());
+        panic!(
+            "no {}: run rust/archive, or name the folder that has it in {FOLDER}",
+            archive.display()
+        );
     }
     println!("cargo:rustc-link-search=native={}", folder.display());
-    println!("cargo:rustc-link-lib=static=exports");
+    println!("cargo:rustc-link-lib=static=raghymtos");
 }

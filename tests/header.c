@@ -1,4 +1,5 @@
-/* The header used from C: a reduction, a nearest vector, a catalogue, a refusal, and lent numbers that are too few. */
+/* The header used from C: a reduction, a nearest vector, a catalogue, refusals with their texts, lent numbers that are too few, and the
+ * version. */
 #include <stdio.h>
 #include <string.h>
 
@@ -15,28 +16,28 @@ static void expect(bool holds, const char *what) {
 
 static void reduction(void) {
     const int64_t numbers[] = {5, 8, 8, 13};
-    int64_t out[RAGHYMTOS_REDUCTION];
-    expect(raghymtos_reduce(numbers, 4, 2, 2, out, RAGHYMTOS_REDUCTION), "55 lent numbers are enough");
-    expect(out[RAGHYMTOS_REFUSAL] == RAGHYMTOS_ACCEPTED && out[RAGHYMTOS_PLACE] == 0, "(5,8),(8,13) is accepted");
-    expect(out[RAGHYMTOS_PASSES] == 4, "it takes 4 passes");
-    expect(out[RAGHYMTOS_SQUARES] == 1 && out[RAGHYMTOS_SQUARES + 1] == 1, "both reduced vectors have length 1");
-    expect(out[RAGHYMTOS_VECTORS + 1] == -1 && out[RAGHYMTOS_VECTORS + 4] == -1, "they are (0,-1),(-1,0)");
-    expect(out[RAGHYMTOS_U + 4] == -13 && out[RAGHYMTOS_U + 5] == 8, "the second row of U is (-13,8)");
-    expect(out[RAGHYMTOS_V] == -8 && out[RAGHYMTOS_V + 1] == -5, "the first row of V is (-8,-5)");
-    expect(!raghymtos_reduce(numbers, 4, 2, 2, out, RAGHYMTOS_REDUCTION - 1), "54 lent numbers are too few");
+    int64_t out[RAGHYMTOS_REDUCTION_COUNT];
+    expect(raghymtos_reduce(numbers, 4, 2, 2, out, RAGHYMTOS_REDUCTION_COUNT), "55 lent numbers are enough");
+    expect(out[RAGHYMTOS_REFUSAL_AT] == RAGHYMTOS_ACCEPTED && out[RAGHYMTOS_PLACE_AT] == 0, "(5,8),(8,13) is accepted");
+    expect(out[RAGHYMTOS_PASSES_AT] == 4, "it takes 4 passes");
+    expect(out[RAGHYMTOS_SQUARES_AT] == 1 && out[RAGHYMTOS_SQUARES_AT + 1] == 1, "both reduced vectors have length 1");
+    expect(out[RAGHYMTOS_VECTORS_AT + 1] == -1 && out[RAGHYMTOS_VECTORS_AT + 4] == -1, "they are (0,-1),(-1,0)");
+    expect(out[RAGHYMTOS_U_AT + 4] == -13 && out[RAGHYMTOS_U_AT + 5] == 8, "the second row of U is (-13,8)");
+    expect(out[RAGHYMTOS_V_AT] == -8 && out[RAGHYMTOS_V_AT + 1] == -5, "the first row of V is (-8,-5)");
+    expect(!raghymtos_reduce(numbers, 4, 2, 2, out, RAGHYMTOS_REDUCTION_COUNT - 1), "54 lent numbers are too few");
 }
 
 static void nearest(void) {
     const int64_t numbers[] = {20, 0, 10, 20};
     const int64_t target[] = {14, 9};
-    int64_t out[RAGHYMTOS_NEAREST];
-    expect(raghymtos_nearest(numbers, 4, 2, 2, target, 2, out, RAGHYMTOS_NEAREST), "11 lent numbers are enough");
-    expect(out[RAGHYMTOS_SQUARE] == 117, "the squared distance from (14,9) is 117");
-    expect(out[RAGHYMTOS_COEFFICIENTS] == 1 && out[RAGHYMTOS_COEFFICIENTS + 1] == 0, "its coefficients are 1 and 0");
-    expect(out[RAGHYMTOS_VECTOR] == 20 && out[RAGHYMTOS_VECTOR + 1] == 0, "the nearest vector is (20,0)");
-    raghymtos_nearest(numbers, 4, 2, 2, target, 1, out, RAGHYMTOS_NEAREST);
-    expect(out[RAGHYMTOS_REFUSAL] == RAGHYMTOS_TARGET_COUNT, "a target of one number is refused");
-    expect(!raghymtos_nearest(numbers, 4, 2, 2, target, 2, out, RAGHYMTOS_NEAREST - 1), "10 lent numbers are too few");
+    int64_t out[RAGHYMTOS_NEAREST_COUNT];
+    expect(raghymtos_nearest(numbers, 4, 2, 2, target, 2, out, RAGHYMTOS_NEAREST_COUNT), "11 lent numbers are enough");
+    expect(out[RAGHYMTOS_SQUARE_AT] == 117, "the squared distance from (14,9) is 117");
+    expect(out[RAGHYMTOS_COEFFICIENTS_AT] == 1 && out[RAGHYMTOS_COEFFICIENTS_AT + 1] == 0, "its coefficients are 1 and 0");
+    expect(out[RAGHYMTOS_VECTOR_AT] == 20 && out[RAGHYMTOS_VECTOR_AT + 1] == 0, "the nearest vector is (20,0)");
+    raghymtos_nearest(numbers, 4, 2, 2, target, 1, out, RAGHYMTOS_NEAREST_COUNT);
+    expect(out[RAGHYMTOS_REFUSAL_AT] == RAGHYMTOS_TARGET_NOT_M, "a target of one number is refused");
+    expect(!raghymtos_nearest(numbers, 4, 2, 2, target, 2, out, RAGHYMTOS_NEAREST_COUNT - 1), "10 lent numbers are too few");
 }
 
 /* entry 7: (1,0),(4,1); entry 9: (2,0),(0,3), see 12; entry 12: (0,1),(1,0), see 9 */
@@ -44,30 +45,67 @@ static const uint32_t words[] = {
     0x10000722, 0x20004E21, 0x20004E20, 0x20004E24, 0x20004E21, 0x10000922, 0x20004E22, 0x20004E20, 0x20004E20,
     0x20004E23, 0x3000000C, 0x10000C22, 0x20004E20, 0x20004E21, 0x20004E21, 0x20004E20, 0x30000009, 0x40000003};
 
-static void catalogue(void) {
-    uint8_t bytes[sizeof words], out[RAGHYMTOS_MOST_BYTES];
-    int64_t answer[RAGHYMTOS_CATALOGUE];
-    for (size_t i = 0; i < sizeof bytes; i++)
+static void fill(uint8_t bytes[sizeof words]) {
+    for (size_t i = 0; i < sizeof words; i++)
         bytes[i] = (uint8_t)(words[i / 4] >> 8 * (i % 4));
+}
+
+static void listing(void) {
+    static const char text[] = "3 2\n7 7 0 1\nv 1 0\nv 0 1\n9 9 7 1\nv 2 0\nv 0 3\n12 7 9 1\n";
+    const size_t n = sizeof text - 1;
+    uint8_t bytes[sizeof words], out[RAGHYMTOS_MOST_LISTING_BYTES];
+    int64_t answer[RAGHYMTOS_CATALOGUE_COUNT];
+    fill(bytes);
+    memset(out, 0x55, sizeof out);
+    raghymtos_list(bytes, 72, out, n - 1, answer, 3);
+    expect(answer[RAGHYMTOS_REFUSAL_AT] == RAGHYMTOS_OUTPUT_SHORT && out[0] == 0x55, "a byte too few for the listing");
+    raghymtos_list(bytes, 71, out, sizeof out, answer, 3);
+    expect(answer[RAGHYMTOS_REFUSAL_AT] == RAGHYMTOS_NOT_WORDS && out[0] == 0x55, "no listing of 71 bytes");
+    raghymtos_list(bytes, 72, out, n, answer, 3);
+    expect(answer[RAGHYMTOS_WRITTEN_AT] == (int64_t)n && memcmp(out, text, n) == 0 && out[n] == 0x55, "the listing");
+}
+
+static void catalogue(void) {
+    uint8_t bytes[sizeof words], out[RAGHYMTOS_MOST_CATALOGUE_BYTES];
+    int64_t answer[RAGHYMTOS_CATALOGUE_COUNT];
+    fill(bytes);
     memset(out, 0x55, sizeof out);
     expect(raghymtos_write_out(bytes, 72, out, 72, answer, 3), "3 lent numbers are enough");
-    expect(answer[RAGHYMTOS_REFUSAL] == RAGHYMTOS_ACCEPTED && answer[RAGHYMTOS_WRITTEN] == 72, "72 bytes are written");
+    expect(answer[RAGHYMTOS_REFUSAL_AT] == RAGHYMTOS_ACCEPTED && answer[RAGHYMTOS_WRITTEN_AT] == 72, "72 bytes are written");
     expect(memcmp(out, bytes, 72) == 0 && out[72] == 0x55, "they are those that were read");
-    expect(raghymtos_fold(bytes, 72, out, sizeof out, answer, 3) && answer[RAGHYMTOS_WRITTEN] == 48, "the fold has two entries");
+    expect(raghymtos_fold(bytes, 72, out, sizeof out, answer, 3) && answer[RAGHYMTOS_WRITTEN_AT] == 48, "the fold has two entries");
     expect(out[40] == 7 && out[43] == 0x30, "the see word of entry 9 leads to entry 7");
     raghymtos_fold(bytes, 72, out, 47, answer, 3);
-    expect(answer[RAGHYMTOS_REFUSAL] == RAGHYMTOS_OUTPUT_SHORT, "47 lent bytes are too few");
+    expect(answer[RAGHYMTOS_REFUSAL_AT] == RAGHYMTOS_OUTPUT_SHORT, "47 lent bytes are too few");
     raghymtos_write_out(bytes, 68, out, sizeof out, answer, 3);
-    expect(answer[RAGHYMTOS_REFUSAL] == RAGHYMTOS_UNEXPECTED && answer[RAGHYMTOS_PLACE] == 17, "the end word is due");
-    expect(raghymtos_lookup(bytes, 72, 12, answer, 3) && answer[RAGHYMTOS_STANDING] == 7, "entry 7 stands for entry 12");
+    expect(answer[RAGHYMTOS_REFUSAL_AT] == RAGHYMTOS_UNEXPECTED && answer[RAGHYMTOS_PLACE_AT] == 17, "the end word is due");
+    expect(raghymtos_lookup(bytes, 72, 12, answer, 3) && answer[RAGHYMTOS_STANDING_AT] == 7, "entry 7 stands for entry 12");
     raghymtos_lookup(bytes, 72, 8, answer, 3);
-    expect(answer[RAGHYMTOS_REFUSAL] == RAGHYMTOS_NO_ENTRY, "no entry has the number 8");
+    expect(answer[RAGHYMTOS_REFUSAL_AT] == RAGHYMTOS_NO_ENTRY, "no entry has the number 8");
     expect(!raghymtos_lookup(bytes, 72, 12, answer, 2), "2 lent numbers are too few");
 }
 
+/* every refusal has a text of its own, and a number that is none has one too */
+static void texts(void) {
+    for (int64_t i = RAGHYMTOS_ACCEPTED; i <= RAGHYMTOS_NO_ENTRY + 1; i++)
+        for (int64_t j = RAGHYMTOS_ACCEPTED; j < i; j++)
+            expect(strcmp(raghymtos_refusal_text(i), raghymtos_refusal_text(j)) != 0, raghymtos_refusal_text(i));
+    expect(strcmp(raghymtos_refusal_text(RAGHYMTOS_DEPENDENT), "the vectors are dependent") == 0, "5 says dependent");
+    expect(strcmp(raghymtos_refusal_text(-1), raghymtos_refusal_text(RAGHYMTOS_NO_ENTRY + 1)) == 0, "-1 is no refusal");
+}
+
+static void version(void) {
+    char parts[32];
+    snprintf(parts, sizeof parts, "%d.%d.%d", RAGHYMTOS_VERSION_MAJOR, RAGHYMTOS_VERSION_MINOR, RAGHYMTOS_VERSION_PATCH);
+    expect(strcmp(parts, RAGHYMTOS_VERSION) == 0, "the version is that of its parts");
+}
+
 int main(void) {
+    texts();
+    version();
     reduction();
     nearest();
     catalogue();
+    listing();
     return wrong;
 }

@@ -118,11 +118,11 @@ fn timed<T>(call: impl Fn(&mut [u8]) -> T) -> f64 {
 fn same(bytes: &[u8], last: u32) {
     let (mut a, mut b) = (vec![0; MOST_BYTES], vec![0; MOST_BYTES]);
     let lengths = (
-        engine::write_out(bytes, &mut a),
+        engine::write_out_to(bytes, &mut a),
         plain::write_out(bytes, &mut b),
     );
     assert_eq!((lengths.0.ok(), &a), (lengths.1.ok(), &b));
-    let lengths = (engine::fold(bytes, &mut a), plain::fold(bytes, &mut b));
+    let lengths = (engine::fold_to(bytes, &mut a), plain::fold(bytes, &mut b));
     assert_eq!((lengths.0.ok(), &a), (lengths.1.ok(), &b));
     let found = (engine::lookup(bytes, last), plain::lookup(bytes, last));
     assert_eq!(found.0.ok(), found.1.ok());
@@ -138,9 +138,9 @@ pub fn measure(name: &str, runs: usize) {
     let times: Vec<[f64; 6]> = (0..runs)
         .map(|_| {
             [
-                timed(|out| engine::write_out(bytes, out)),
+                timed(|out| engine::write_out_to(bytes, out)),
                 timed(|out| plain::write_out(bytes, out)),
-                timed(|out| engine::fold(bytes, out)),
+                timed(|out| engine::fold_to(bytes, out)),
                 timed(|out| plain::fold(bytes, out)),
                 timed(|_| engine::lookup(bytes, last)),
                 timed(|_| plain::lookup(bytes, last)),

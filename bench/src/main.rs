@@ -21,14 +21,14 @@ type Service<const N: usize> = fn(&Input, &mut [i64; N]);
 
 const REDUCE: [Service<55>; 2] = [
     |i, out| {
-        raghymtos::reduce_into(&i.numbers, i.d, i.d, out);
+        raghymtos::raw::reduce(&i.numbers, i.d, i.d, out);
     },
     |i, out| baseline::reduce(&i.numbers, i.d, i.d, out),
 ];
 
 const NEAREST: [Service<11>; 2] = [
     |i, out| {
-        raghymtos::nearest_into(&i.numbers, i.d, i.d, &i.target, out);
+        raghymtos::raw::nearest(&i.numbers, i.d, i.d, &i.target, out);
     },
     |i, out| baseline::nearest::nearest(&i.numbers, i.d, i.d, &i.target, out),
 ];

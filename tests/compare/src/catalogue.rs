@@ -1,7 +1,9 @@
-//! One catalogue: written out, folded and looked up, against the reference.
+//! One catalogue: written out, folded, listed and looked up, and its entries read and written, against the reference.
 
 use raghymtos::catalogue::{self as engine, CatalogueRefusal};
+use raghymtos::raw::{self, ANSWER_NUMBERS};
 use reference::catalogue::fold::{folded, standing};
+use reference::catalogue::listing::listing;
 use reference::catalogue::reader::read;
 use reference::catalogue::writer::write;
 use reference::catalogue::{lend, looked_up, Entry, Refused};
@@ -27,14 +29,20 @@ struct Writing {
 
 const WRITE_OUT: Writing = Writing {
     name: "write_out",
-    into: engine::write_out_into,
-    wrapped: engine::write_out,
+    into: raw::write_out,
+    wrapped: engine::write_out_to,
 };
 
 const FOLD: Writing = Writing {
     name: "fold",
-    into: engine::fold_into,
-    wrapped: engine::fold,
+    into: raw::fold,
+    wrapped: engine::fold_to,
+};
+
+const LIST: Writing = Writing {
+    name: "list",
+    into: raw::list,
+    wrapped: engine::list_to,
 };
 
 /// What was compared: the refusals of each call, and that of the catalogue itself.
@@ -56,7 +64,9 @@ pub fn compare(bytes: &[u8], rooms: Rooms) -> Result<Compared, String> {
     };
     let whole = entries.as_ref().map(|e| write(e)).map_err(|r| *r);
     let fold = entries.as_ref().map(|e| write(&folded(e))).map_err(|r| *r);
-    for (writing, expected) in [(WRITE_OUT, whole), (FOLD, fold)] {
+    let list = entries.as_ref().map(|_| listing(bytes).into_bytes());
+    let list = list.map_err(|r| *r);
+    for (writing, expected) in [(WRITE_OUT, whole), (FOLD, fold), (LIST, list)] {
         for room in lengths(&expected, rooms) {
             let refused = written_alike(&writing, bytes, &expected, room)?;
             seen.writings += 1;
@@ -64,6 +74,7 @@ pub fn compare(bytes: &[u8], rooms: Rooms) -> Result<Compared, String> {
         }
         wrapped_alike(&writing, bytes, &expected)?;
     }
+    entries_alike(bytes, &entries)?;
     let standing = entries.as_ref().map_or(vec![], |e| standing(e));
     let expected = |number: u32| match &entries {
         Ok(entries) => looked_up(entries, &standing, number),
@@ -113,7 +124,7 @@ fn written_alike(
     };
     let said = format!("{}, {room} bytes lent", writing.name);
     let mut out = vec![MARK; room];
-    let answer = written(engine::ANSWER_NUMBERS, |answer| {
+    let answer = written(ANSWER_NUMBERS, |answer| {
         let mut lent = vec![MARK; room];
         let is_taken = (writing.into)(bytes, &mut lent, answer);
         out.copy_from_slice(&lent);
@@ -139,11 +150,11 @@ fn wrapped_alike(
     bytes: &[u8],
     expected: &Result<Vec<u8>, Refused>,
 ) -> Result<(), String> {
-    let mut out = vec![MARK; engine::MOST_BYTES];
+    let mut out = vec![MARK; engine::MOST_LISTING_BYTES];
     let given = (writing.wrapped)(bytes, &mut out);
     let is_alike = match (given, expected) {
         (Ok(n), Ok(all)) => out[..n] == all[..],
-        (Err(refusal), Err(r)) => refusal.number_and_place() == (r.number as i64, r.place),
+        (Err(refusal), Err(r)) => number_and_place(refusal) == (r.number as i64, r.place),
         _ => false,
     };
     if is_alike {
@@ -156,10 +167,34 @@ fn wrapped_alike(
     }
 }
 
+/// The entries with Rust's types, which are plain Rust: read, and made into a catalogue again.
+fn entries_alike(bytes: &[u8], expected: &Result<Vec<Entry>, Refused>) -> Result<(), String> {
+    let given = engine::entries(bytes);
+    let is_alike = match (&given, expected) {
+        (Ok(given), Ok(expected)) => {
+            let same = given.len() == expected.len()
+                && given
+                    .iter()
+                    .zip(expected)
+                    .all(|(a, b)| (a.number, &a.vectors, a.see) == (b.number, &b.vectors, b.see));
+            same && engine::from_entries(given).as_deref() == Ok(bytes)
+        }
+        (Err(refusal), Err(r)) => number_and_place(*refusal) == (r.number as i64, r.place),
+        _ => false,
+    };
+    if is_alike {
+        Ok(())
+    } else {
+        Err(format!("entries: the Rust wrapper gives {given:?}"))
+    }
+}
+
+fn number_and_place(r: CatalogueRefusal) -> (i64, usize) {
+    (r.refusal.number(), r.place)
+}
+
 fn looked_up_alike(bytes: &[u8], number: u32, wanted: Result<u32, Refused>) -> Result<i64, String> {
-    let answer = written(engine::ANSWER_NUMBERS, |answer| {
-        engine::lookup_into(bytes, number, answer)
-    })?;
+    let answer = written(ANSWER_NUMBERS, |answer| raw::lookup(bytes, number, answer))?;
     let expected = laid_out(wanted.map(|n| n as i64));
     if answer != expected {
         return Err(format!(
@@ -174,7 +209,7 @@ fn wrapped_lookup_alike(
     number: u32,
     wanted: Result<u32, Refused>,
 ) -> Result<(), String> {
-    let given = engine::lookup(bytes, number).map_err(CatalogueRefusal::number_and_place);
+    let given = engine::lookup(bytes, number).map_err(number_and_place);
     if given == wanted.map_err(|r| (r.number as i64, r.place)) {
         Ok(())
     } else {

@@ -1,6 +1,7 @@
 //! One nearest vector: the engine's 11 numbers against the reference's answer.
 
-use raghymtos::{nearest, nearest_into, NEAREST_NUMBERS};
+use raghymtos::nearest;
+use raghymtos::raw::{self, NEAREST_NUMBERS};
 use reference::cases::Case;
 
 use crate::lent::{padded, written};
@@ -8,7 +9,7 @@ use crate::lent::{padded, written};
 /// The refusal's number, or what differs.
 pub fn compare(case: &Case) -> Result<usize, String> {
     let out = written(NEAREST_NUMBERS, |out| {
-        nearest_into(&case.numbers, case.d, case.m, &case.target, out)
+        raw::nearest(&case.numbers, case.d, case.m, &case.target, out)
     })?;
     let r = reference::nearest(&case.numbers, case.d, case.m, &case.target);
     let expected = laid_out(&r);
@@ -34,9 +35,9 @@ fn wrapped(case: &Case, out: &[i64]) -> Result<(), String> {
     let same = match nearest(&case.numbers, case.d, case.m, &case.target) {
         Err(refusal) => refusal.number() == out[0],
         Ok(n) => {
-            let mut all = vec![0, 0, n.square];
-            all.extend(n.coefficients);
-            all.extend(n.vector);
+            let mut all = vec![0, 0, n.square()];
+            all.extend(padded(n.coefficients()));
+            all.extend(padded(n.vector()));
             all == out
         }
     };

@@ -1,14 +1,18 @@
 //! One reduction: the engine's 55 numbers against the reference's answer, and the tables against the vectors.
 
-use raghymtos::{reduce, reduce_into, Table, REDUCTION_NUMBERS};
+use raghymtos::raw::{self, REDUCTION_NUMBERS};
+use raghymtos::reduce;
 use reference::cases::Case;
 
 use crate::lent::{padded, written};
 
+/// Four rows of four numbers, zeros in unused places.
+type Table = [[i64; 4]; 4];
+
 /// The refusal's number, or what differs.
 pub fn compare(case: &Case) -> Result<usize, String> {
     let out = written(REDUCTION_NUMBERS, |out| {
-        reduce_into(&case.numbers, case.d, case.m, out)
+        raw::reduce(&case.numbers, case.d, case.m, out)
     })?;
     let expected = laid_out(&reference::reduce(&case.numbers, case.d, case.m));
     if out != expected {
@@ -28,16 +32,13 @@ pub fn minima(case: &Case) -> Result<bool, String> {
     let Ok(r) = reduce(&case.numbers, case.d, case.m) else {
         return Ok(false);
     };
-    let vectors: Vec<Vec<i64>> = r.vectors[..case.d]
-        .iter()
-        .map(|v| v[..case.m].to_vec())
-        .collect();
+    let vectors: Vec<Vec<i64>> = r.vectors().map(<[i64]>::to_vec).collect();
     match reference::enumeration::minima(&vectors) {
         None => Ok(false),
-        Some(known) if known == r.squares[..case.d] => Ok(true),
+        Some(known) if known == r.squares() => Ok(true),
         Some(known) => Err(format!(
             "reduction: squared lengths {:?}, successive minima {known:?}",
-            &r.squares[..case.d]
+            r.squares()
         )),
     }
 }
@@ -59,10 +60,15 @@ fn wrapped(case: &Case, out: &[i64]) -> Result<(), String> {
     let same = match reduce(&case.numbers, case.d, case.m) {
         Err(refusal) => refusal.number() == out[0],
         Ok(r) => {
-            let mut all = vec![0, 0, r.passes as i64];
-            all.extend(r.squares);
-            all.extend([r.vectors, r.u, r.v].concat().concat());
-            all == out
+            let mut all = vec![0, 0, r.passes() as i64];
+            all.extend(padded(r.squares()));
+            for rows in [r.vectors(), r.u(), r.v()] {
+                let rows: Vec<&[i64]> = rows.collect();
+                for i in 0..4 {
+                    all.extend(padded(rows.get(i).unwrap_or(&&[][..])));
+                }
+            }
+            (r.d(), r.m()) == (case.d, case.m) && all == out
         }
     };
     if same {

@@ -1,0 +1,158 @@
+//! The functions of `include/raghymtos.h`, with slices for pointers and lengths. These declarations are not checked against the archive:
+//! they are taken on trust, as the header is.
+
+/// How many numbers a reduction's answer takes; the header gives their order.
+pub const REDUCTION_NUMBERS: usize = 55;
+
+/// How many numbers the answer with a nearest vector takes.
+pub const NEAREST_NUMBERS: usize = 11;
+
+/// How many numbers the answer about a catalogue takes: the refusal, its place, and the length written or the standing number.
+pub const ANSWER_NUMBERS: usize = 3;
+
+extern "C" {
+    fn raghymtos_reduce(
+        numbers: *const i64,
+        count: usize,
+        d: usize,
+        m: usize,
+        out: *mut i64,
+        room: usize,
+    ) -> bool;
+
+    fn raghymtos_nearest(
+        numbers: *const i64,
+        count: usize,
+        d: usize,
+        m: usize,
+        target: *const i64,
+        target_count: usize,
+        out: *mut i64,
+        room: usize,
+    ) -> bool;
+
+    fn raghymtos_write_out(
+        bytes: *const u8,
+        count: usize,
+        out: *mut u8,
+        room: usize,
+        answer: *mut i64,
+        answer_room: usize,
+    ) -> bool;
+
+    fn raghymtos_fold(
+        bytes: *const u8,
+        count: usize,
+        out: *mut u8,
+        room: usize,
+        answer: *mut i64,
+        answer_room: usize,
+    ) -> bool;
+
+    fn raghymtos_list(
+        bytes: *const u8,
+        count: usize,
+        out: *mut u8,
+        room: usize,
+        answer: *mut i64,
+        answer_room: usize,
+    ) -> bool;
+
+    fn raghymtos_lookup(
+        bytes: *const u8,
+        count: usize,
+        number: u32,
+        answer: *mut i64,
+        answer_room: usize,
+    ) -> bool;
+}
+
+// Slices are never null, are aligned and do not overlap where one is `&mut`: all that the header asks for.
+
+/// Writes the answer of a reduction to the first 55 numbers of `out`. A shorter `out` is left as it is, and false is given.
+pub fn reduce(numbers: &[i64], d: usize, m: usize, out: &mut [i64]) -> bool {
+    unsafe {
+        raghymtos_reduce(
+            numbers.as_ptr(),
+            numbers.len(),
+            d,
+            m,
+            out.as_mut_ptr(),
+            out.len(),
+        )
+    }
+}
+
+/// Writes the answer with the nearest vector to the first 11 numbers of `out`. A shorter `out` is left as it is, and false is given.
+pub fn nearest(numbers: &[i64], d: usize, m: usize, target: &[i64], out: &mut [i64]) -> bool {
+    unsafe {
+        raghymtos_nearest(
+            numbers.as_ptr(),
+            numbers.len(),
+            d,
+            m,
+            target.as_ptr(),
+            target.len(),
+            out.as_mut_ptr(),
+            out.len(),
+        )
+    }
+}
+
+/// Writes a catalogue's entries to `out`, unfolded, and the answer to the first 3 numbers of `answer`. A shorter `answer` is left as it
+/// is, and so is `out`, and false is given.
+pub fn write_out(bytes: &[u8], out: &mut [u8], answer: &mut [i64]) -> bool {
+    unsafe {
+        raghymtos_write_out(
+            bytes.as_ptr(),
+            bytes.len(),
+            out.as_mut_ptr(),
+            out.len(),
+            answer.as_mut_ptr(),
+            answer.len(),
+        )
+    }
+}
+
+/// Writes the folded catalogue to `out`, and the answer to the first 3 numbers of `answer`. A shorter `answer` is left as it is, and so
+/// is `out`, and false is given.
+pub fn fold(bytes: &[u8], out: &mut [u8], answer: &mut [i64]) -> bool {
+    unsafe {
+        raghymtos_fold(
+            bytes.as_ptr(),
+            bytes.len(),
+            out.as_mut_ptr(),
+            out.len(),
+            answer.as_mut_ptr(),
+            answer.len(),
+        )
+    }
+}
+
+/// Writes the listing to `out`, and the answer to the first 3 numbers of `answer`. A shorter `answer` is left as it is, and so is `out`,
+/// and false is given.
+pub fn list(bytes: &[u8], out: &mut [u8], answer: &mut [i64]) -> bool {
+    unsafe {
+        raghymtos_list(
+            bytes.as_ptr(),
+            bytes.len(),
+            out.as_mut_ptr(),
+            out.len(),
+            answer.as_mut_ptr(),
+            answer.len(),
+        )
+    }
+}
+
+/// Writes the answer of a lookup to the first 3 numbers of `answer`. A shorter `answer` is left as it is, and false is given.
+pub fn lookup(bytes: &[u8], number: u32, answer: &mut [i64]) -> bool {
+    unsafe {
+        raghymtos_lookup(
+            bytes.as_ptr(),
+            bytes.len(),
+            number,
+            answer.as_mut_ptr(),
+            answer.len(),
+        )
+    }
+}

@@ -1,0 +1,174 @@
+//! Catalogues made from entries and read back, and what makes none.
+
+use raghymtos::catalogue::{
+    check, entries, fold, fold_to, from_entries, list, list_to, lookup, Entry, NoCatalogue,
+    MOST_BYTES, MOST_ENTRIES, MOST_NUMBER,
+};
+use raghymtos::Refusal;
+
+/// Entries 7 and 12 have one lattice.
+fn three() -> Vec<Entry> {
+    vec![
+        Entry::new(7, [[1, 0], [4, 1]]),
+        Entry::new(9, [[2, 0], [0, 3]]).seeing(12),
+        Entry::new(12, [[0, 1], [1, 0]]).seeing(9),
+    ]
+}
+
+/// The same in the words of docs/RULES.md, R15.15.
+const WORDS: [u32; 18] = [
+    0x10000722, 0x20004E21, 0x20004E20, 0x20004E24, 0x20004E21, 0x10000922, 0x20004E22, 0x20004E20,
+    0x20004E20, 0x20004E23, 0x3000000C, 0x10000C22, 0x20004E20, 0x20004E21, 0x20004E21, 0x20004E20,
+    0x30000009, 0x40000003,
+];
+
+fn bytes(words: &[u32]) -> Vec<u8> {
+    words.iter().flat_map(|w| w.to_le_bytes()).collect()
+}
+
+#[test]
+fn made_and_read() {
+    assert_eq!(from_entries(&three()), Ok(bytes(&WORDS)));
+    assert_eq!(entries(&bytes(&WORDS)), Ok(three()));
+    assert_eq!(from_entries(&[]), Ok(bytes(&[0x40000000])));
+    assert_eq!(entries(&bytes(&[0x40000000])), Ok(vec![]));
+    assert_eq!(check(&bytes(&WORDS)), Ok(()));
+}
+
+#[test]
+fn the_largest_catalogue() {
+    let unit = [[1, 0, 0, 0], [0, 1, 0, 0], [0, 0, 1, 0], [0, 0, 0, 20_000]];
+    let all: Vec<Entry> = (0..MOST_ENTRIES as u32)
+        .map(|i| Entry::new(MOST_NUMBER - i, unit).seeing(MOST_NUMBER))
+        .collect();
+    let made = from_entries(&all).unwrap();
+    assert_eq!(made.len(), MOST_BYTES);
+    assert_eq!(entries(&made), Ok(all));
+    assert_eq!(
+        entries(&fold(&made).unwrap()),
+        Ok(vec![Entry::new(MOST_NUMBER, unit)])
+    );
+}
+
+#[test]
+fn folded_to_a_slice() {
+    let mut out = [0x55; 50];
+    assert_eq!(fold_to(&bytes(&WORDS), &mut out), Ok(48));
+    assert_eq!(fold(&bytes(&WORDS)).unwrap(), out[..48]);
+    assert_eq!(out[48..], [0x55; 2]);
+    let short = fold_to(&bytes(&WORDS), &mut [0x55; 47]).unwrap_err();
+    assert_eq!(
+        (short.refusal, short.place, short.word()),
+        (Refusal::OutputShort, 0, None)
+    );
+}
+
+#[test]
+fn listed() {
+    let text = "3 2\n7 7 0 1\nv 1 0\nv 0 1\n9 9 7 1\nv 2 0\nv 0 3\n12 7 9 1\n";
+    assert_eq!(list(&bytes(&WORDS)).as_deref(), Ok(text));
+    assert_eq!(list(&bytes(&[0x40000000])).as_deref(), Ok("0 0\n"));
+    assert_eq!(list(&[0; 3]).map_err(|r| r.refusal), Err(Refusal::NotWords));
+    let mut out = vec![0x55; text.len() - 1];
+    let short = list_to(&bytes(&WORDS), &mut out).unwrap_err();
+    assert_eq!(short.refusal, Refusal::OutputShort);
+    assert!(out.iter().all(|&b| b == 0x55));
+}
+
+#[test]
+fn looked_up() {
+    assert_eq!(lookup(&bytes(&WORDS), 12), Ok(7));
+    assert_eq!(
+        lookup(&bytes(&WORDS), 8).unwrap_err().refusal,
+        Refusal::NoEntry
+    );
+    let refused = lookup(&bytes(&WORDS[..2]), 7).unwrap_err();
+    assert_eq!(
+        (refused.refusal, refused.word()),
+        (Refusal::Unexpected, Some(2))
+    );
+    let [said, reason] = [refused.to_string(), refused.refusal.to_string()];
+    assert_eq!(said, format!("word 2: {reason}"));
+}
+
+/// The refusal of a catalogue whose second entry is this one, and the entry that it is about.
+fn refused(entry: Entry) -> (Refusal, Option<usize>) {
+    let first = Entry::new(7, [[1, 0], [4, 1]]).seeing(7);
+    match from_entries(&[first, entry]) {
+        Err(NoCatalogue::Refused { entry, refusal }) => (refusal.refusal, entry),
+        other => panic!("{other:?}"),
+    }
+}
+
+#[test]
+fn no_catalogue() {
+    let none: [i64; 0] = [];
+    let one = Some(1);
+    assert_eq!(refused(Entry::new(9, [none; 0])), (Refusal::Vectors, one));
+    assert_eq!(refused(Entry::new(9, [[1]; 5])), (Refusal::Vectors, one));
+    assert_eq!(refused(Entry::new(9, [[1]; 17])), (Refusal::Vectors, one));
+    assert_eq!(
+        refused(Entry::new(9, [none; 1])),
+        (Refusal::Coordinates, one)
+    );
+    assert_eq!(
+        refused(Entry::new(9, [[1; 5]])),
+        (Refusal::Coordinates, one)
+    );
+    assert_eq!(
+        refused(Entry::new(9, [[1; 20]])),
+        (Refusal::Coordinates, one)
+    );
+    for x in [20_001, -20_001, 1 << 28, i64::MAX, i64::MIN, -(1 << 40)] {
+        assert_eq!(
+            refused(Entry::new(9, [[x]])),
+            (Refusal::TooLong, one),
+            "{x}"
+        );
+    }
+    assert_eq!(
+        refused(Entry::new(9, [[20_000, 1]])),
+        (Refusal::TooLong, one)
+    );
+    assert_eq!(
+        refused(Entry::new(9, [[1, 2], [2, 4]])),
+        (Refusal::Dependent, one)
+    );
+    for number in [0, 7, MOST_NUMBER + 1, (1 << 20) + 9, u32::MAX] {
+        assert_eq!(
+            refused(Entry::new(number, [[1]])),
+            (Refusal::Number, one),
+            "{number}"
+        );
+    }
+    for number in [0, 8, MOST_NUMBER + 1, (1 << 28) + 9, u32::MAX] {
+        assert_eq!(
+            refused(Entry::new(9, [[1]]).seeing(number)),
+            (Refusal::Lost, one),
+            "{number}"
+        );
+    }
+    let uneven = Entry::new(9, [vec![1, 0], vec![1], vec![0, 0, 1]]);
+    assert_eq!(
+        from_entries(&[uneven]),
+        Err(NoCatalogue::Uneven { entry: 0 })
+    );
+}
+
+#[test]
+fn too_many_entries() {
+    let all: Vec<Entry> = (1..=257).map(|n| Entry::new(n, [[1]])).collect();
+    match from_entries(&all) {
+        Err(NoCatalogue::Refused { entry, refusal }) => {
+            assert_eq!((refusal.refusal, entry), (Refusal::TooMany, Some(256)));
+        }
+        other => panic!("{other:?}"),
+    }
+    let large: Vec<Entry> = (1..=300).map(|n| Entry::new(n, [[1; 4]; 4])).collect();
+    match from_entries(&large) {
+        Err(NoCatalogue::Refused { entry, refusal }) => {
+            assert_eq!((refusal.refusal, entry), (Refusal::TooLarge, None));
+        }
+        other => panic!("{other:?}"),
+    }
+}

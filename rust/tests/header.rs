@@ -1,0 +1,34 @@
+//! The crate's constants are those of the C header.
+
+use raghymtos::{catalogue, raw};
+
+/// What the header defines a name as.
+fn defined(name: &str) -> &'static str {
+    let header = include_str!("../../include/raghymtos.h");
+    let line = format!("#define RAGHYMTOS_{name} ");
+    let rest = header.split(&line).nth(1).expect("the header has the name");
+    rest.split(['\n', ' ']).next().unwrap()
+}
+
+#[test]
+fn the_same_numbers() {
+    let all = [
+        ("REDUCTION_COUNT", raw::REDUCTION_NUMBERS),
+        ("NEAREST_COUNT", raw::NEAREST_NUMBERS),
+        ("CATALOGUE_COUNT", raw::ANSWER_NUMBERS),
+        ("MOST_VECTORS", raghymtos::MOST_VECTORS),
+        ("MOST_COORDINATES", raghymtos::MOST_COORDINATES),
+        ("MOST_ENTRIES", catalogue::MOST_ENTRIES),
+        ("MOST_NUMBER", catalogue::MOST_NUMBER as usize),
+        ("MOST_CATALOGUE_BYTES", catalogue::MOST_BYTES),
+        ("MOST_LISTING_BYTES", catalogue::MOST_LISTING_BYTES),
+    ];
+    for (name, value) in all {
+        assert_eq!(defined(name), value.to_string(), "{name}");
+    }
+}
+
+#[test]
+fn the_same_version() {
+    assert_eq!(defined("VERSION"), format!("\"{}\"", raghymtos::VERSION));
+}
