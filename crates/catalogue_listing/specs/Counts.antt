@@ -12,7 +12,7 @@ use Rattle.integers.specs.Decimal.{decimal}
 use Rattle.catalogue_rules.specs.Catalogue as definition
 use Rattle.catalogue_rules.specs.Form.{WellFormed}
 use Rattle.fold_rules.specs.Fold.{stoodOf, closedList, standingIn, printed}
-use Rattle.fold_rules.specs.Listing.{line}
+use Rattle.text_layout.specs.Fields.{line}
 use Rattle.catalogue_records.specs.declared.Catalogue.{Catalogue}
 use Rattle.catalogue_records.specs.EntriesIn.{entryIn, entriesIn}
 use Rattle.catalogue_records.specs.Entries.{beyond}

@@ -16,7 +16,8 @@ use Rattle.lattices.specs.Greedy.{reduction}
 use Rattle.catalogue_rules.specs.Catalogue as definition
 use Rattle.catalogue_rules.specs.Catalogue.{See}
 use Rattle.fold_rules.specs.Fold.{reducedOf, standing, Stood, stoodOf, closedList, followed, leads}
-use Rattle.fold_rules.specs.Listing.{line, vectorLines, leadNumber, entryLine, vectorsShown, entryLines}
+use Rattle.text_layout.specs.Fields.{line}
+use Rattle.fold_rules.specs.Listing.{vectorLines, leadNumber, entryLine, vectorsShown, entryLines}
 use Rattle.fold_rules.specs.Laws.SameLattice.{Sound, sound-entries}
 use Rattle.fold_rules.specs.Laws.Deciding.{entry-reduction}
 use Rattle.catalogue_records.specs.declared.Catalogue.{Catalogue}

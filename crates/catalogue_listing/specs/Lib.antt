@@ -3,4 +3,3 @@ pub mod Lines
 pub mod Counts
 pub mod Entries
 pub mod Listed
-pub mod ListedLaws

@@ -5,7 +5,8 @@ use Prim.Native.Nat.{ℕ, _+_}
 use lib.ListN.{length, take, length-append}
 use Rattle.integers.specs.Decimal.{signed}
 use Rattle.lattices.specs.Vector.{Vec}
-use Rattle.fold_rules.specs.Listing.{after, line, vectorLines}
+use Rattle.text_layout.specs.Fields.{after, line}
+use Rattle.fold_rules.specs.Listing.{vectorLines}
 use Rattle.text_output.specs.Joined.{joined}
 use Rattle.text_fields.specs.Blank.{blank, after-joined}
 

@@ -3,7 +3,7 @@ ghost use mathlib.Core.List.{[], _∷_, map};
 ghost use Prim.Native.Nat.{_+_, _≤_};
 ghost use lib.ListN.{length};
 ghost use Rattle.integers.specs.Decimal.{decimal};
-ghost use Rattle.fold_rules.specs.Listing.{after, line, refusedWord};
+ghost use Rattle.text_layout.specs.Fields.{after, line};
 ghost use Rattle.text_output.specs.Puts.{Puts};
 ghost use Rattle.catalogue_listing.specs.Lines.{vectorLine};
 
@@ -28,15 +28,6 @@ pub(crate) fn put_vector(out: &mut [u8], at: usize, v: [i64; 4], m: usize) -> us
     let k = text_output::put_byte(out, at, b'v');
     let n = text_fields::put_coordinates(out, k, &v[..m]);
     text_output::put_byte(out, n, b'\n')
-}
-
-// A refusal and its place.
-pub(crate) fn put_refused(out: &mut [u8], at: usize, number: u64, place: u64) -> usize
-    requires { ⌜ at + length (line refusedWord (decimal number ∷ decimal place ∷ [])) ≤ length (now out) ⌝ }
-    ensures { λ r. ⌜ Puts (line refusedWord (decimal number ∷ decimal place ∷ [])) (now (out .entry)) at (now (out .exit)) r ⌝ }
-{
-    let k = text_output::put_bytes(out, at, b"refused");
-    put_numbers(out, k, &[number, place])
 }
 
 // How many entries there are, and how many of them stand.

@@ -4,7 +4,7 @@ use mathlib.Core.List.{List, [], _∷_, _++_}
 use Prim.Native.Nat.{ℕ}
 use lib.Dec.{ltb}
 use lib.ListN.{length, drop}
-use Rattle.catalogue_rules.specs.Catalogue.{Outcome, refused, accepted}
+use Rattle.catalogue_rules.specs.Catalogue.{Entry, Outcome, refused, accepted}
 use Rattle.catalogue_rules.specs.Read.{checked}
 use Rattle.catalogue_rules.specs.Write.{write}
 
@@ -27,7 +27,11 @@ filledWith bytes out = record { refusal = 0; place = 0; written = length bytes; 
 abbrev pub lentRows : List ℕ → List ℕ → List (Bool × ℕ)
 lentRows bytes out = (ltb (length out) (length bytes), 16) ∷ []
 
--- the entries of an outcome, or its refusal first
+-- the bytes that f makes of the entries of an outcome, or its refusal first
+abbrev pub outputBy : (List Entry → List ℕ) → Outcome → List ℕ → Output
+outputBy f (refused n p) out = untouched n p out
+outputBy f (accepted es) out = checked (λ n. untouched n 0 out) (lentRows (f es) out) (filledWith (f es) out)
+
+-- the entries themselves
 abbrev pub output : Outcome → List ℕ → Output
-output (refused n p) out = untouched n p out
-output (accepted es) out = checked (λ n. untouched n 0 out) (lentRows (write es) out) (filledWith (write es) out)
+output o out = outputBy write o out

@@ -73,6 +73,10 @@ pub fn list() {
     let n = cli_input::read_catalogue(&mut bytes);
     let mut text = [0u8; 40000];
     let w = catalogue_listing::list(&bytes[..n], &mut text);
+    if w.refusal != 0 {
+        refused(w.refusal, w.place);
+        return;
+    }
     let length = w.length;
     io::write_all(STDOUT_FILENO, &text[..length]);
 }

@@ -19,11 +19,8 @@ fn report(line: u64, mistake: Mistake) {
     }
 }
 
-// Writes what is wrong with a line; one that holds nothing but blanks is passed over.
+// Writes what is wrong with a line.
 fn check(s: &[u8], line: u64) {
-    if text_parts::tokens::blanks(s) == s.len() {
-        return;
-    }
     let l = text_lines::read_line(s);
     let mistake = l.mistake;
     report(line, mistake);
@@ -36,7 +33,7 @@ pub(crate) fn report_all(text: &[u8])
     let mut from = 0usize;
     let mut line = 1u64;
     while from < text.len() {
-        let n = text_encoding::line_length(&text[from..]);
+        let n = text_lines::length_before(&text[from..], b'\n');
         let end = from + n;
         check(&text[from..end], line);
         from = end + 1;

@@ -45,10 +45,17 @@ fn found(bytes: &[u8], number: u32) {
     cli_output::newline();
 }
 
-// Writes the listing.
+// Writes the listing, or the catalogue's refusal.
 fn listed(bytes: &[u8]) {
-    let mut text = [0u8; 40000];
+    let mut text = [0u8; catalogue_listing::MOST_BYTES];
     let w = catalogue_listing::list(bytes, &mut text);
+    if w.refusal != 0 {
+        io::write_all(STDOUT_FILENO, b"refused");
+        field(w.refusal);
+        field(w.place as u64);
+        cli_output::newline();
+        return;
+    }
     let n = w.length;
     io::write_all(STDOUT_FILENO, &text[..n]);
 }
@@ -88,6 +95,23 @@ fn other_m() {
     listed(b);
 }
 
+// The second entry stands too, and its vectors (5,8) and (8,13) are not reduced.
+fn second_reduced() {
+    let b =
+        b"\x11\x01\x00\x10\x22\x4e\x00\x20\x22\x02\x00\x10\x25\x4e\x00\x20\x28\x4e\x00\x20\x28\x4e\x00\x20\x2d\x4e\x00\x20\x01\x00\x00\x30\x02\x00\x00\x40";
+    folded(b"a second entry to reduce", b);
+    listed(b);
+}
+
+// The end word alone folds to itself; no bytes are no catalogue.
+fn no_entries() {
+    let b = b"\x00\x00\x00\x40";
+    folded(b"no entries", b);
+    listed(b);
+    folded(b"no bytes", b"");
+    listed(b"");
+}
+
 // The catalogue's own refusal comes first.
 fn refused() {
     let b = b"\x11\x01\x00\x10\x22\x4e\x00\x20\x09\x00\x00\x30\x01\x00\x00\x40";
@@ -107,22 +131,36 @@ fn many() {
     listed(&bytes[..k]);
 }
 
-// An output of one byte less than any listing takes is refused and stays.
-fn short() {
-    let mut text = [170u8; 39999];
-    let w = catalogue_listing::list(b"\x00\x00\x00\x40", &mut text);
-    io::write_all(STDOUT_FILENO, b"39999 bytes");
+// Writes what listing to a lent output says, and the output afterwards.
+fn lent(bytes: &[u8], room: &mut [u8]) {
+    let w = catalogue_listing::list(bytes, room);
+    io::write_all(STDOUT_FILENO, b"list");
     field(w.refusal);
     field(w.place as u64);
     field(w.length as u64);
-    byte(text[0]);
     cli_output::newline();
+    show(room);
+}
+
+// The listing of two entries takes 24 bytes: they do not fit into 23, just fit into 24, and leave the rest of 26. That of none takes four. A
+// refused catalogue leaves all.
+fn short() {
+    let b = b"\x11\x01\x00\x10\x22\x4e\x00\x20\x11\x02\x00\x10\x1e\x4e\x00\x20\x02\x00\x00\x40";
+    listed(b);
+    lent(b, &mut [170u8; 23]);
+    lent(b, &mut [170u8; 24]);
+    lent(b, &mut [170u8; 26]);
+    lent(b"\x00\x00\x00\x40", &mut [170u8; 3]);
+    lent(b"\x00\x00\x00\x40", &mut [170u8; 4]);
+    lent(b"\x01\x00\x00\x40", &mut [170u8; 24]);
 }
 
 fn main() {
     in_full();
     see_words();
     other_m();
+    second_reduced();
+    no_entries();
     refused();
     many();
     short();

@@ -5,23 +5,12 @@ use mathlib.Core.Option.{Option, none, some}
 use Prim.Native.Nat.{ℕ}
 use lib.ListN.{length}
 use Rattle.integers.specs.Decimal.{decimal, signed}
+use Rattle.text_layout.specs.Fields.{line}
 use Rattle.lattices.specs.Vector.{Vec}
 use Rattle.lattices.specs.Greedy.{reduction}
 use Rattle.catalogue_rules.specs.Catalogue.{See, Outcome, refused, accepted}
 use Rattle.catalogue_rules.specs.Read.{read}
 use Rattle.fold_rules.specs.Fold.{reducedOf, Stood, closedList, stands, standingIn, leads}
-
--- ---- fields and lines
-
--- "One space stands between fields, and every line ends with a newline."
-abbrev pub after : List (List ℕ) → List ℕ
-after [] = 10 ∷ []
-after (field ∷ fields) = 32 ∷ (field ++ after fields)
-
-abbrev pub line : List ℕ → List (List ℕ) → List ℕ
-line field fields = field ++ after fields
-
--- ---- the lines
 
 -- "refused"
 abbrev pub refusedWord : List ℕ

@@ -1,12 +1,13 @@
--- Fold and lookup for every list of bytes: "A catalogue's rows run from 'whole file' to 'after reading'; the rows for lookup and output
+-- Fold, lookup and listing for every list of bytes: "A catalogue's rows run from 'whole file' to 'after reading'; the rows for lookup and output
 -- concern the call alone."
 use mathlib.Core.List.{List}
 use mathlib.Core.Option.{Option, none, some}
 use Prim.Native.Nat.{ℕ}
-use Rattle.catalogue_rules.specs.Catalogue.{Outcome, refused, accepted}
+use Rattle.catalogue_rules.specs.Catalogue.{Entry, Outcome, refused, accepted}
 use Rattle.catalogue_rules.specs.Read.{read}
-use Rattle.catalogue_rules.specs.Output.{Output, output}
+use Rattle.catalogue_rules.specs.Output.{Output, outputBy, output}
 use Rattle.fold_rules.specs.Fold.{closedList, lookup, folded}
+use Rattle.fold_rules.specs.Listing.{catalogueLines}
 
 abbrev pub foldedOutcome : Outcome → Outcome
 foldedOutcome (refused n p) = refused n p
@@ -36,3 +37,11 @@ lookedIn (accepted es) number = lookedUp (lookup (closedList es) number)
 -- the lookup of a number in a file
 unfoldable pub lookupOf : List ℕ → (number : ℕ) → Lookup
 lookupOf file number = lookedIn (read file) number
+
+-- the text of some entries; the row for an output is the same as where bytes are written
+abbrev pub listingText : List Entry → List ℕ
+listingText es = catalogueLines (closedList es)
+
+-- the listing of a file, written to a lent output
+unfoldable pub listOf : (file out : List ℕ) → Output
+listOf file out = outputBy listingText (read file) out

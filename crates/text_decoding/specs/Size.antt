@@ -21,8 +21,8 @@ use Rattle.catalogue_rules.specs.Form.{EntryFits, WellFormed, mostNumber}
 use Rattle.catalogue_rules.specs.Laws.ReadEntries.{SeeFits}
 use Rattle.catalogue_rules.specs.Laws.ReadBack.{sees-fit}
 use Rattle.catalogue_rules.specs.Laws.EntriesAccepted.{few-coordinates, all-near}
-use Rattle.fold_rules.specs.Listing.{after}
-use Rattle.fold_rules.specs.Laws.ListingSize.{signed-length}
+use Rattle.text_layout.specs.Fields.{after}
+use Rattle.text_layout.specs.Sizes.{signed-length}
 use Rattle.text_rules.specs.Text.{semicolon, seeFields, entryFields, entryText, textOf}
 
 see-length : (o : Option See) → SeeFits o → length (after (seeFields o)) ≤ 13
@@ -34,7 +34,7 @@ coordinates-length : (zs : List ℤ) → any (λ z. ltb mostSize (natAbs z)) zs 
 coordinates-length [] h fields = omega arith
 coordinates-length (z ∷ zs) h fields =
     let p = neither (ltb mostSize (natAbs z)) (any (λ y. ltb mostSize (natAbs y)) zs) h in
-    omega (arith, length-append (signed z) (after (map signed zs ++ fields)), signed-length z (ltb-false mostSize (natAbs z) (p .0)), coordinates-length zs (p .1) fields)
+    omega (arith, length-append (signed z) (after (map signed zs ++ fields)), signed-length 5 z (omega arith) (omega (arith, ltb-false mostSize (natAbs z) (p .0))), coordinates-length zs (p .1) fields)
 
 pub entry-size : (e : Entry) → EntryFits e → SeeFits (e .see) → length (entryText e) ≤ 138
 entry-size e f s =

@@ -1,147 +1,196 @@
--- How far a text is told: the words of its first lines, and what the others will add.
-use mathlib.Core.Path.{_≡_, refl, sym, ap, _∙_, subst}
-use mathlib.Core.Bool.{Bool, true, false, cond}
+-- What `tell` says of a text, and how far it is told: the words of its first lines, and what the others will add.
+use mathlib.Core.Path.{_≡_, refl, sym, ap, ap₂, _∙_, subst}
+use mathlib.Core.Bool.{Bool, true, false, cond, _||_}
 use mathlib.Core.List.{List, [], _∷_, _++_, map, map-append, append-nil, append-assoc}
 use mathlib.Core.Option.{Option, none, some, Option·some-ne-none}
-use Prim.Native.Nat.{ℕ, suc, _+_, _≤_}
+use Prim.Native.Nat.{ℕ, _+_, _*_, _≤_, _<_}
 use native.Mathlib.Omega.{arith}
-use lib.ListN.{length, take, drop, drop-of-length-le}
+use lib.Dec.{ltb}
+use lib.ListN.{length, take, drop, drop-of-length-le, length-append}
 use lib.Seq.{drop-drop}
+use borrow.Author.Tests.{lt-ltb, le-ltb}
 use Rattle.catalogue_rules.specs.Word.{Word, end, encode}
-use Rattle.text_rules.specs.Encoding.{lineFrom, linesOf, isEmpty, ofLine, entriesFrom, joined, ended, encoded}
+use Rattle.text_rules.specs.Encoding.{lineFrom, linesOf, content, isEmpty, isWrong, listed, lineWrong, lineEntry, anyWrong, entriesFrom, joined, ended}
 use Rattle.text_lines.specs.declared.Line.{Line}
-use Rattle.text_lines.specs.Told.{seeTold, encodedLine}
+use Rattle.text_lines.specs.Told.{isNone, wordsIn, encodedLine, lineRead}
+use Rattle.text_lines.specs.ToldLaws.{line-blank, line-told}
 use Rattle.text_encoding.specs.declared.Told.{Told}
 use Rattle.text_encoding.specs.Stores.{Room, Stores, stores-none, stores-room, stores-then}
-use Rattle.text_encoding.specs.Splits.{lineLength, withLine, entries-split}
+use Rattle.text_encoding.specs.Splits.{lineLength, entries-split, wrong-split}
 
--- the words of a line that is right
-abbrev pub lineWords : Line → List ℕ
-lineWords l = l .head ∷ (take (l .count) (l .coordinates) ++ seeTold (l .see))
+-- ---- the definition
 
--- all words, where ws are those so far of n entries, and the other lines tell those entries
-abbrev pub finish : Bool → List ℕ → ℕ → Option (List (List Word)) → Option (List ℕ)
-finish true ws n o = none
-finish false ws n none = none
-finish false ws n (some es) = some (ws ++ (map encode (joined es) ++ (encode (end (n + length es)) ∷ [])))
+-- a longer text is not read
+abbrev pub mostText : ℕ
+mostText = 65535
 
-finish-none : (b : Bool) (ws : List ℕ) (n : ℕ) → finish b ws n none ≡ none
-finish-none true ws n = refl
-finish-none false ws n = refl
+abbrev pub isLong : List ℕ → Bool
+isLong text = ltb mostText (length text)
 
-finish-first : (o : Option (List (List Word))) → finish false [] 0 o ≡ encodedLine (ended o)
-finish-first none = refl
-finish-first (some es) =
-    let same : 0 + length es ≡ length es = omega arith in
-    ap (λ n. some (map encode (joined es) ++ (encode (end n) ∷ []))) same ∙ ap some (sym (map-append encode (joined es) (end (length es) ∷ [])))
+abbrev pub textEntries : List ℕ → List (List Word)
+textEntries text = cond (isLong text) [] (entriesFrom (linesOf text))
+
+abbrev pub textWords : List ℕ → List ℕ
+textWords text = cond (isLong text) [] (map encode (ended (entriesFrom (linesOf text))))
+
+abbrev pub textWrong : List ℕ → Bool
+textWrong text = cond (isLong text) true (anyWrong (linesOf text))
+
+-- the words of the lines that are right, as far as there is room; how many entries there are, and whether a line is wrong
+pub record Tells (text before after : List ℕ) (r : Told) : Type 0 where
+  pub stored : Stores (textWords text) before 0 after (r .words)
+  pub counted : r .entries ≡ length (textEntries text)
+  pub wrong : r .wrong ≡ textWrong text
 
 -- ---- one line more
 
-pub finish-wrong : (b : Bool) (ws : List ℕ) (n : ℕ) (o : Option (List Word)) (more : Option (List (List Word))) → none ≡ encodedLine o → finish b ws n (ofLine o more) ≡ none
-finish-wrong b ws n none more e = finish-none b ws n
-finish-wrong b ws n (some us) more e = absurd (Option·some-ne-none (map encode us) (sym e))
+joined-append : (a b : List (List Word)) → joined (a ++ b) ≡ joined a ++ joined b
+joined-append [] b = refl
+joined-append (ws ∷ a) b = ap (λ us. ws ++ us) (joined-append a b) ∙ sym (append-assoc ws (joined a) (joined b))
 
-pub finish-right : (b : Bool) (ws : List ℕ) (n : ℕ) (o : Option (List Word)) (more : Option (List (List Word))) {xs : List ℕ} → some xs ≡ encodedLine o
-    → finish b ws n (ofLine o more) ≡ finish b (ws ++ xs) (n + 1) more
-finish-right b ws n none more {xs} e = absurd (Option·some-ne-none xs e)
-finish-right true ws n (some us) none e = refl
-finish-right true ws n (some us) (some es) e = refl
-finish-right false ws n (some us) none e = refl
-finish-right false ws n (some us) (some es) {xs} e =
-    let same : xs ≡ map encode us = ap (λ o. elim o as (λ o. List ℕ) [ none ↦ [] | some l ↦ l ]) e in
-    let count : n + suc (length es) ≡ n + 1 + length es = omega arith in
-    let rest = encode (end (n + 1 + length es)) ∷ [] in
-    ap (λ k. some (ws ++ (map encode (us ++ joined es) ++ (encode (end k) ∷ [])))) count
-    ∙ ap (λ l. some (ws ++ (l ++ rest))) (map-append encode us (joined es))
-    ∙ ap (λ l. some (ws ++ l)) (append-assoc (map encode us) (map encode (joined es)) rest)
-    ∙ ap some (sym (append-assoc ws (map encode us) (map encode (joined es) ++ rest)))
-    ∙ ap (λ l. some ((ws ++ l) ++ (map encode (joined es) ++ rest))) (sym same)
+abbrev pub numbers : List (List Word) → List ℕ
+numbers es = map encode (joined es)
+
+numbers-append : (a b : List (List Word)) → numbers a ++ numbers b ≡ numbers (a ++ b)
+numbers-append a b = sym (ap (map encode) (joined-append a b) ∙ map-append encode (joined a) (joined b))
 
 -- what a line adds
 pub record Adds (line before : List ℕ) (e : Told) (after : List ℕ) (r : Told) : Type 0 where
-  pub words : List ℕ
-  pub stored : Stores words before (e .words) after (r .words)
-  pub counted : r .entries ≤ e .entries + 1
-  pub told : (ws : List ℕ) (more : Option (List (List Word))) → finish (e .wrong) ws (e .entries) (withLine line more) ≡ finish (r .wrong) (ws ++ words) (r .entries) more
+  pub stored : Stores (numbers (lineEntry line)) before (e .words) after (r .words)
+  pub counted : r .entries ≡ e .entries + length (lineEntry line)
+  pub wrong : r .wrong ≡ e .wrong || lineWrong line
 
-with-line : (l : List ℕ) (more : Option (List (List Word))) {b : Bool} → isEmpty l ≡ b → withLine l more ≡ cond b more (ofLine (lineFrom l) more)
-with-line l more e = ap (λ b. cond b more (ofLine (lineFrom l) more)) e
+or-false : (b : Bool) → b ≡ b || false
+or-false true = refl
+or-false false = refl
 
-pub adds-nothing : (line before : List ℕ) (e : Told) → isEmpty line ≡ true → Adds line before e before e
-adds-nothing line before e h = record {
-  words = [];
-  stored = stores-none before (e .words);
-  counted = omega arith;
-  told = λ ws more. ap (finish (e .wrong) ws (e .entries)) (with-line line more h) ∙ ap (λ l. finish (e .wrong) l (e .entries) more) (sym (append-nil ws));
-}
+or-true : (b : Bool) → true ≡ b || true
+or-true true = refl
+or-true false = refl
 
-pub adds-wrong : (line before : List ℕ) (e : Told) → isEmpty line ≡ false → none ≡ encodedLine (lineFrom line) → Adds line before e before (record { words = e .words; entries = e .entries; wrong = true })
-adds-wrong line before e h f = record {
-  words = [];
-  stored = stores-none before (e .words);
-  counted = omega arith;
-  told = λ ws more. ap (finish (e .wrong) ws (e .entries)) (with-line line more h) ∙ finish-wrong (e .wrong) ws (e .entries) (lineFrom line) more f;
-}
+pub adds-nothing : (line before : List ℕ) (e : Told) → isEmpty (content line) ≡ true → Adds line before e before e
+adds-nothing line before e h =
+    let entry : lineEntry line ≡ [] = ap (λ b. cond b [] (listed (lineFrom (content line)))) h in
+    record {
+      stored = subst (λ es. Stores (numbers es) before (e .words) before (e .words)) (sym entry) (stores-none before (e .words));
+      counted = omega (arith, ap length entry);
+      wrong = or-false (e .wrong) ∙ ap (λ b. e .wrong || cond b false (isWrong (lineFrom (content line)))) (sym h);
+    }
 
-pub adds-entry : (line : List ℕ) {before after : List ℕ} {e : Told} {k : ℕ} {xs : List ℕ} → isEmpty line ≡ false → some xs ≡ encodedLine (lineFrom line) → Stores xs before (e .words) after k
-    → Adds line before e after (record { words = k; entries = e .entries + 1; wrong = e .wrong })
-adds-entry line {e = e} {xs = xs} h f p = record {
-  words = xs;
-  stored = p;
-  counted = omega arith;
-  told = λ ws more. ap (finish (e .wrong) ws (e .entries)) (with-line line more h) ∙ finish-right (e .wrong) ws (e .entries) (lineFrom line) more f;
-}
+nothing-told : (o : Option (List Word)) → none ≡ encodedLine o → o ≡ none
+nothing-told none e = refl
+nothing-told (some ws) e = absurd (Option·some-ne-none (map encode ws) (sym e))
+
+pub adds-wrong : (line before : List ℕ) (e : Told) → isEmpty (content line) ≡ false → none ≡ encodedLine (lineFrom (content line))
+    → Adds line before e before (record { words = e .words; entries = e .entries; wrong = true })
+adds-wrong line before e h f =
+    let o = nothing-told (lineFrom (content line)) f in
+    let entry : lineEntry line ≡ [] = λ i. cond (h i) [] (listed (o i)) in
+    let bad : lineWrong line ≡ true = λ i. cond (h i) false (isWrong (o i)) in
+    record {
+      stored = subst (λ es. Stores (numbers es) before (e .words) before (e .words)) (sym entry) (stores-none before (e .words));
+      counted = omega (arith, ap length entry);
+      wrong = or-true (e .wrong) ∙ ap (λ b. e .wrong || b) (sym bad);
+    }
+
+pub adds-entry : (line : List ℕ) {before after : List ℕ} {e : Told} {k : ℕ} {xs : List ℕ} → isEmpty (content line) ≡ false → some xs ≡ encodedLine (lineFrom (content line))
+    → Stores xs before (e .words) after k → Adds line before e after (record { words = k; entries = e .entries + 1; wrong = e .wrong })
+adds-entry line {before} {after} {e} {k} {xs} h f p = go (lineFrom (content line)) refl
+  where
+    go : (o : Option (List Word)) → lineFrom (content line) ≡ o → Adds line before e after (record { words = k; entries = e .entries + 1; wrong = e .wrong })
+    go none g = absurd (Option·some-ne-none xs (f ∙ ap encodedLine g))
+    go (some ws) g =
+        let entry : lineEntry line ≡ ws ∷ [] = λ i. cond (h i) [] (listed (g i)) in
+        let right : lineWrong line ≡ false = λ i. cond (h i) false (isWrong (g i)) in
+        let words : xs ≡ numbers (ws ∷ []) = ap (λ o. elim o as (λ o. List ℕ) [ none ↦ [] | some l ↦ l ]) (f ∙ ap encodedLine g) ∙ ap (map encode) (sym (append-nil ws)) in
+        record {
+          stored = subst (λ us. Stores us before (e .words) after k) (words ∙ ap numbers (sym entry)) p;
+          counted = omega (arith, ap length entry);
+          wrong = or-false (e .wrong) ∙ ap (λ b. e .wrong || b) (sym right);
+        }
+
+-- a line has one entry at most
+pub one-entry : (line : List ℕ) → length (lineEntry line) ≤ 1
+one-entry line = go (isEmpty (content line)) (lineFrom (content line))
+  where
+    go : (b : Bool) (o : Option (List Word)) → length (cond b [] (listed o)) ≤ 1
+    go true o = omega arith
+    go false none = omega arith
+    go false (some ws) = omega arith
 
 -- ---- line after line
 
 pub record Going (text before : List ℕ) (from : ℕ) (out : List ℕ) (e : Told) : Type 0 where
-  pub words : List ℕ
-  pub stored : Stores words before 0 out (e .words)
-  pub counted : e .entries ≤ from
-  pub told : finish (e .wrong) words (e .entries) (entriesFrom (linesOf (drop from text))) ≡ encodedLine (encoded text)
+  pub entries : List (List Word)
+  pub stored : Stores (numbers entries) before 0 out (e .words)
+  pub counted : e .entries ≡ length entries
+  pub few : e .entries ≤ from
+  pub told : entriesFrom (linesOf text) ≡ entries ++ entriesFrom (linesOf (drop from text))
+  pub wrong : anyWrong (linesOf text) ≡ e .wrong || anyWrong (linesOf (drop from text))
 
 pub going-begins : (text before : List ℕ) → Going text before 0 before (record { words = 0; entries = 0; wrong = false })
-unfolding encoded
-going-begins text before = record { words = []; stored = stores-none before 0; counted = omega arith; told = finish-first (entriesFrom (linesOf text)) }
+going-begins text before = record { entries = []; stored = stores-none before 0; counted = refl; few = omega arith; told = refl; wrong = refl }
+
+or-assoc : (a b c : Bool) → a || (b || c) ≡ (a || b) || c
+or-assoc true b c = refl
+or-assoc false b c = refl
 
 module _ {text before : List ℕ} {from : ℕ} {out : List ℕ} {e : Told} (room : Room before 0) (g : Going text before from out e) where
   pub going-room : Room out (e .words)
   going-room = stores-room room (g .stored)
 
   pub going-on : {n : ℕ} {after : List ℕ} {r : Told} → n ≡ lineLength (drop from text) → Adds (take n (drop from text)) out e after r → Going text before (from + n + 1) after r
-  going-on {n} {r = r} h a =
+  going-on {n} {after} {r} h a =
       let s = drop from text in
+      let l = take n s in
       let far : from + (n + 1) ≡ from + n + 1 = omega arith in
+      let next : drop (n + 1) s ≡ drop (from + n + 1) text = drop-drop (n + 1) from text ∙ ap (λ k. drop k text) far in
+      let split : entriesFrom (linesOf s) ≡ lineEntry l ++ entriesFrom (linesOf (drop (n + 1) s)) =
+      entries-split s ∙ ap (λ k. lineEntry (take k s) ++ entriesFrom (linesOf (drop (k + 1) s))) (sym h) in
+      let parted : anyWrong (linesOf s) ≡ lineWrong l || anyWrong (linesOf (drop (n + 1) s)) =
+      wrong-split s ∙ ap (λ k. lineWrong (take k s) || anyWrong (linesOf (drop (k + 1) s))) (sym h) in
       record {
-        words = g .words ++ a .words;
-        stored = stores-then room (g .stored) (a .stored);
-        counted = omega (arith, g .counted, a .counted);
+        entries = g .entries ++ lineEntry l;
+        stored = subst (λ ws. Stores ws before 0 after (r .words)) (numbers-append (g .entries) (lineEntry l)) (stores-then room (g .stored) (a .stored));
+        counted = omega (arith, a .counted, g .counted, length-append (g .entries) (lineEntry l));
+        few = omega (arith, g .few, a .counted, one-entry l);
         told =
-            ap (finish (r .wrong) (g .words ++ a .words) (r .entries)) (sym (ap (λ l. entriesFrom (linesOf l)) (drop-drop (n + 1) from text ∙ ap (λ k. drop k text) far)))
-            ∙ sym (a .told (g .words) (entriesFrom (linesOf (drop (n + 1) s))))
-            ∙ ap (finish (e .wrong) (g .words) (e .entries)) (sym (entries-split s ∙ ap (λ k. withLine (take k s) (entriesFrom (linesOf (drop (k + 1) s)))) (sym h)))
-            ∙ g .told;
+            g .told ∙ ap (λ es. g .entries ++ es) (split ∙ ap (λ t. lineEntry l ++ entriesFrom (linesOf t)) next)
+            ∙ sym (append-assoc (g .entries) (lineEntry l) (entriesFrom (linesOf (drop (from + n + 1) text))));
+        wrong =
+            g .wrong ∙ ap (λ b. e .wrong || b) (parted ∙ ap (λ t. lineWrong l || anyWrong (linesOf t)) next)
+            ∙ or-assoc (e .wrong) (lineWrong l) (anyWrong (linesOf (drop (from + n + 1) text)))
+            ∙ ap (λ b. b || anyWrong (linesOf (drop (from + n + 1) text))) (sym (a .wrong));
       }
 
 -- ---- the end
 
--- wrong where the text tells nothing; else its words, as far as there is room
-abbrev pub Tells : Option (List ℕ) → List ℕ → List ℕ → Told → Type 0
-Tells none before after r = r .wrong ≡ true
-Tells (some ws) before after r = (r .wrong ≡ false) × Stores ws before 0 after (r .words)
-
-by-wrong : (b : Bool) (ws : List ℕ) (n : ℕ) {before after : List ℕ} {k : ℕ} → Stores (ws ++ (encode (end n) ∷ [])) before 0 after k
-    → Tells (finish b ws n (some [])) before after (record { words = k; entries = n; wrong = b })
-by-wrong true ws n p = refl
-by-wrong false ws n {before} {after} {k} p =
-    let same : n ≡ n + 0 = omega arith in
-    (refl, subst (λ m. Stores (ws ++ (encode (end m) ∷ [])) before 0 after k) same p)
+pub tells-nothing : (text before : List ℕ) → mostText < length text → Tells text before before (record { words = 0; entries = 0; wrong = true })
+tells-nothing text before h =
+    let long : isLong text ≡ true = lt-ltb mostText (length text) h in
+    let words : textWords text ≡ [] = ap (λ b. cond b [] (map encode (ended (entriesFrom (linesOf text))))) long in
+    record {
+      stored = subst (λ ws. Stores ws before 0 before 0) (sym words) (stores-none before 0);
+      counted = sym (ap (λ b. length (cond b [] (entriesFrom (linesOf text)))) long);
+      wrong = sym (ap (λ b. cond b true (anyWrong (linesOf text))) long);
+    }
 
 -- after the last line, and the end word
-pub going-ends : {text before : List ℕ} {from : ℕ} {out : List ℕ} {e : Told} {after : List ℕ} {k w : ℕ} → Room before 0 → Going text before from out e → length text ≤ from
-    → w ≡ encode (end (e .entries)) → Stores (w ∷ []) out (e .words) after k → Tells (encodedLine (encoded text)) before after (record { words = k; entries = e .entries; wrong = e .wrong })
-going-ends {text} {before} {from} {out} {e} {after} {k} room g h f p =
-    let all : finish (e .wrong) (g .words) (e .entries) (some []) ≡ encodedLine (encoded text) =
-    ap (λ l. finish (e .wrong) (g .words) (e .entries) (entriesFrom (linesOf l))) (sym (drop-of-length-le text {i = from} h)) ∙ g .told in
-    let stored = stores-then room (g .stored) (subst (λ w. Stores (w ∷ []) out (e .words) after k) f p) in
-    subst (λ o. Tells o before after (record { words = k; entries = e .entries; wrong = e .wrong })) all (by-wrong (e .wrong) (g .words) (e .entries) stored)
+pub going-ends : {text before : List ℕ} {from : ℕ} {out : List ℕ} {e : Told} {after : List ℕ} {k w : ℕ} → length text ≤ mostText → Room before 0 → Going text before from out e → length text ≤ from
+    → w ≡ encode (end (e .entries)) → Stores (w ∷ []) out (e .words) after k → Tells text before after (record { words = k; entries = e .entries; wrong = e .wrong })
+going-ends {text} {before} {from} {out} {e} {after} {k} {w} small room g h f p =
+    let short : isLong text ≡ false = le-ltb mostText (length text) small in
+    let rest : drop from text ≡ [] = drop-of-length-le text {i = from} h in
+    let all : entriesFrom (linesOf text) ≡ g .entries = g .told ∙ ap (λ t. g .entries ++ entriesFrom (linesOf t)) rest ∙ append-nil (g .entries) in
+    let bad : anyWrong (linesOf text) ≡ e .wrong = g .wrong ∙ ap (λ t. e .wrong || anyWrong (linesOf t)) rest ∙ sym (or-false (e .wrong)) in
+    let last : w ∷ [] ≡ map encode (end (length (g .entries)) ∷ []) = ap (λ n. n ∷ []) (f ∙ ap (λ n. encode (end n)) (g .counted)) in
+    let words : numbers (g .entries) ++ (w ∷ []) ≡ textWords text =
+    ap (λ us. numbers (g .entries) ++ us) last
+    ∙ sym (map-append encode (joined (g .entries)) (end (length (g .entries)) ∷ []))
+    ∙ ap (λ es. map encode (ended es)) (sym all)
+    ∙ sym (ap (λ b. cond b [] (map encode (ended (entriesFrom (linesOf text))))) short) in
+    record {
+      stored = subst (λ ws. Stores ws before 0 after k) words (stores-then room (g .stored) p);
+      counted = g .counted ∙ ap length (sym all) ∙ sym (ap (λ b. length (cond b [] (entriesFrom (linesOf text)))) short);
+      wrong = sym bad ∙ sym (ap (λ b. cond b true (anyWrong (linesOf text))) short);
+    }

@@ -1,14 +1,16 @@
-// The words that a text tells, line by line, then the end word.
+// The words that a text tells, line by line, then the end word; and the line on which a word stands.
 ghost use mathlib.Core.Path.{_≡_};
 ghost use mathlib.Core.List.{[], _∷_};
-ghost use Prim.Native.Nat.{_≤_};
+ghost use Prim.Native.Nat.{_*_, _≤_};
 ghost use lib.ListN.{length};
-ghost use Rattle.text_rules.specs.Encoding.{encoded};
-ghost use Rattle.text_lines.specs.Told.{seeTold, encodedLine};
+ghost use Rattle.text_rules.specs.Encoding.{linesOf, lineWords, lineHolding};
+ghost use Rattle.text_lines.specs.Told.{seeTold, wordsIn};
 ghost use Rattle.text_encoding.specs.Stores.{Room, Stores};
-ghost use Rattle.text_encoding.specs.Splits.{lineLength};
-ghost use Rattle.text_encoding.specs.Tells.{lineWords, Adds, Tells};
+ghost use Rattle.text_encoding.specs.Tells.{Adds, Tells};
 use text_lines::Line;
+
+// A longer text is not read.
+pub const MOST_TEXT: usize = 65535;
 
 // How far a text is told: the words and the entries so far, and whether a line was wrong.
 pub struct Told {
@@ -22,7 +24,7 @@ fn put(out: &mut [u8], k: usize, w: u32) -> usize
     requires { ⌜ Room (now out) k ⌝ }
     ensures { λ r. ⌜ Stores (w ∷ []) (now (out .entry)) k (now (out .exit)) r ⌝ }
 {
-    if k == 4610 {
+    if out.len() / 4 <= k {
         return k;
     }
     catalogue_writer::put_word(out, k, w);
@@ -55,8 +57,8 @@ fn put_see(out: &mut [u8], k: usize, see: u32) -> usize
 // The words of a line.
 fn put_line(out: &mut [u8], k: usize, l: Line) -> usize
     requires { ⌜ Room (now out) k ⌝ }
-    requires { ⌜ l .count ≤ 16 ⌝ }
-    ensures { λ r. ⌜ Stores (lineWords l) (now (out .entry)) k (now (out .exit)) r ⌝ }
+    requires { ⌜ l .count ≤ 225 ⌝ }
+    ensures { λ r. ⌜ Stores (wordsIn l) (now (out .entry)) k (now (out .exit)) r ⌝ }
 {
     let first = put(out, k, l.head);
     let words = l.coordinates;
@@ -65,16 +67,16 @@ fn put_line(out: &mut [u8], k: usize, l: Line) -> usize
     put_see(out, second, l.see)
 }
 
-// One line more. One that holds nothing but blanks is passed over.
+// One line more. A blank one is passed over.
 fn with_line(s: &[u8], out: &mut [u8], e: Told) -> Told
     requires { ⌜ Room (now out) (e .words) ⌝ }
     requires { ⌜ e .entries ≤ 65536 ⌝ }
     ensures { λ r. ⌜ Adds (now (s .entry)) (now (out .entry)) e (now (out .exit)) r ⌝ }
 {
-    if text_parts::tokens::blanks(s) == s.len() {
+    let l = text_lines::read_line(s);
+    if l.blank {
         return e;
     }
-    let l = text_lines::read_line(s);
     let mistake = l.mistake;
     if !text_lines::is_none(mistake) {
         return Told {
@@ -90,27 +92,11 @@ fn with_line(s: &[u8], out: &mut [u8], e: Told) -> Told
     }
 }
 
-// How long the first line is, without its newline.
-pub fn line_length(s: &[u8]) -> usize
-    ensures { λ r. ⌜ r ≡ lineLength (now (s .entry)) ⌝ }
-    ensures { λ r. ⌜ r ≤ length (now (s .entry)) ⌝ }
-{
-    let mut i = 0;
-    while i < s.len() {
-        if s[i] == b'\n' {
-            return i;
-        }
-        i += 1;
-    }
-    i
-}
-
-// The words of a text, as many as a catalogue may have and one more.
-pub fn tell(text: &[u8], out: &mut [u8]) -> Told
-    requires { ⌜ length (now out) ≡ 18440 ⌝ }
-    requires { ⌜ length (now text) ≤ 65536 ⌝ }
-    ensures { λ r. ⌜ Tells (encodedLine (encoded (now (text .entry)))) (now (out .entry)) (now (out .exit)) r ⌝ }
-    ensures { λ r. ⌜ r .words ≤ 4610 ⌝ }
+// The words of the lines of a text.
+fn tell_lines(text: &[u8], out: &mut [u8]) -> Told
+    requires { ⌜ length (now text) ≤ 65535 ⌝ }
+    ensures { λ r. ⌜ Tells (now (text .entry)) (now (out .entry)) (now (out .exit)) r ⌝ }
+    ensures { λ r. ⌜ r .words * 4 ≤ length (now (out .entry)) ⌝ }
 {
     let mut e = Told {
         words: 0,
@@ -119,7 +105,7 @@ pub fn tell(text: &[u8], out: &mut [u8]) -> Told
     };
     let mut from = 0usize;
     while from < text.len() {
-        let n = line_length(&text[from..]);
+        let n = text_lines::length_before(&text[from..], b'\n');
         let end = from + n;
         let next = with_line(&text[from..end], out, e);
         e = next;
@@ -131,4 +117,70 @@ pub fn tell(text: &[u8], out: &mut [u8]) -> Told
         entries: e.entries,
         wrong: e.wrong,
     }
+}
+
+// The words of a text, as many as the output has room for. A text over the limit is wrong, and nothing is stored of it. The last clause
+// follows from the other; with it a caller can cut the bytes out.
+pub fn tell(text: &[u8], out: &mut [u8]) -> Told
+    ensures { λ r. ⌜ Tells (now (text .entry)) (now (out .entry)) (now (out .exit)) r ⌝ }
+    ensures { λ r. ⌜ r .words * 4 ≤ length (now (out .entry)) ⌝ }
+{
+    if text.len() <= MOST_TEXT {
+        return tell_lines(text, out);
+    }
+    Told {
+        words: 0,
+        entries: 0,
+        wrong: true,
+    }
+}
+
+// How many words a line that is right has.
+fn count_words(l: Line) -> usize
+    requires { ⌜ l .count ≤ 225 ⌝ }
+    ensures { λ r. ⌜ r ≡ length (wordsIn l) ⌝ }
+{
+    if l.see == 0 {
+        return 1 + l.count;
+    }
+    2 + l.count
+}
+
+// How many words a line tells.
+fn words_in(s: &[u8]) -> usize
+    ensures { λ r. ⌜ r ≡ lineWords (now (s .entry)) ⌝ }
+{
+    let l = text_lines::read_line(s);
+    if l.blank {
+        return 0;
+    }
+    let mistake = l.mistake;
+    if !text_lines::is_none(mistake) {
+        return 0;
+    }
+    count_words(l)
+}
+
+// The line of a text, from 1, whose entry holds the word with index k; 0 where none does, as for the end word.
+pub fn line_of_word(text: &[u8], k: usize) -> usize
+    ensures { λ r. ⌜ r ≡ lineHolding (linesOf (now (text .entry))) k ⌝ }
+{
+    let mut from = 0usize;
+    let mut passed = 0usize;
+    let mut left = k;
+    while from < text.len() {
+        let n = text_lines::length_before(&text[from..], b'\n');
+        let end = from + n;
+        let here = words_in(&text[from..end]);
+        if left < here {
+            return passed + 1;
+        }
+        if end == text.len() {
+            return 0;
+        }
+        left -= here;
+        passed += 1;
+        from = end + 1;
+    }
+    0
 }

@@ -2,7 +2,7 @@
 use mathlib.Core.Path.{_≡_, refl, ap, _∙_}
 use mathlib.Core.List.{List, [], _∷_, _++_, map, append-nil, append-assoc}
 use Prim.Native.Nat.{ℕ}
-use Rattle.fold_rules.specs.Listing.{after}
+use Rattle.text_layout.specs.Fields.{after}
 use Rattle.text_output.specs.Joined.{joined}
 
 -- a blank and a field

@@ -1,8 +1,8 @@
 -- Numbers that fit a field, and those that a part left in an array of zeros.
-use mathlib.Core.Path.{_≡_, refl, sym, _∙_}
+use mathlib.Core.Path.{_≡_, refl, sym, ap, _∙_}
 use mathlib.Core.Bool.{true, false, true≢false}
 use mathlib.Core.List.{List, [], _∷_, _++_}
-use Prim.Native.Nat.{ℕ, zero, suc, _+_, _-_, _≤_}
+use Prim.Native.Nat.{ℕ, zero, suc, _+_, _-_, _≤_, _<_}
 use native.Mathlib.Omega.{arith}
 use lib.Dec.{leb, leb→le}
 use lib.IntN.{ℤ, pos, negsuc, natAbs}
@@ -46,3 +46,9 @@ pub put-at : (l : List ℤ) (n k i : ℕ) → nth (l ++ drop k (replicate n (pos
 put-at [] n k i = getD-drop k (replicate n (pos 0)) i (pos 0) ∙ zeros n (k + i)
 put-at (x ∷ l) n k zero = refl
 put-at (x ∷ l) n k (suc i) = put-at l n k i
+
+-- what is left of zeros after one of them
+pub zeros-next : (n i : ℕ) → i < n → _≡_ {A = List ℕ} (drop 1 (replicate (n - i) 0)) (replicate (n - (i + 1)) 0)
+zeros-next n i h =
+    let one : n - i ≡ suc (n - (i + 1)) = omega arith in
+    ap (λ k. drop 1 (replicate k 0)) one

@@ -17,7 +17,7 @@ use Rattle.catalogue_rules.specs.Write.{coordinateWord}
 use Rattle.input_checks.specs.Any.{beyond}
 use Rattle.text_parts.specs.declared.Kind.{Kind}
 use Rattle.text_parts.specs.Parts.{isEnd, isSemicolon, Taken, takenAt}
-use Rattle.text_rules.specs.Encoding.{fits, at, isSee, seeFrom, lastFrom, before, areCoordinates, coordinatesFrom, isHead, lineFrom}
+use Rattle.text_rules.specs.Encoding.{fits, at, isSee, seeFrom, lastFrom, before, areCoordinates, coordinatesFrom, mostNumbers, isHead, lineFrom}
 use Rattle.text_lines.specs.Told.{encodedLine, headed, isLast, seeTold, seeNumber}
 
 -- ---- what a line tells, as numbers
@@ -141,13 +141,13 @@ module _ (s : List ℕ) where
   line =
       let p = takenAt 3 s in
       let more = drop (p .length) s in
-      before (head (at (p .numbers) 0) (at (p .numbers) 1) (at (p .numbers) 2) ∷ []) (coordinatesFrom (at (p .numbers) 1 * at (p .numbers) 2) (takenAt 16 more) more)
+      before (head (at (p .numbers) 0) (at (p .numbers) 1) (at (p .numbers) 2) ∷ []) (coordinatesFrom (at (p .numbers) 1 * at (p .numbers) 2) (takenAt mostNumbers more) more)
 
   pub no-head : isHead (takenAt 3 s) ≡ false → lineFrom s ≡ none
   unfolding lineFrom line
   no-head e = ap (λ b. cond b line none) e
 
   pub with-head : isHead (takenAt 3 s) ≡ true → let p = takenAt 3 s in let more = drop (p .length) s in
-      lineFrom s ≡ before (head (at (p .numbers) 0) (at (p .numbers) 1) (at (p .numbers) 2) ∷ []) (coordinatesFrom (at (p .numbers) 1 * at (p .numbers) 2) (takenAt 16 more) more)
+      lineFrom s ≡ before (head (at (p .numbers) 0) (at (p .numbers) 1) (at (p .numbers) 2) ∷ []) (coordinatesFrom (at (p .numbers) 1 * at (p .numbers) 2) (takenAt mostNumbers more) more)
   unfolding lineFrom line
   with-head e = ap (λ b. cond b line none) e

@@ -1,18 +1,23 @@
--- What a line tells as the code has it, and its words as numbers.
+-- What is read of a line, for every line: its words as numbers, or what is wrong with it. Places that are not used hold 0.
 use mathlib.Core.Bool.{Bool, true, false, cond, _&&_, _||_}
 use mathlib.Core.List.{List, [], _∷_, _++_, map}
 use mathlib.Core.Option.{Option, none, some}
-use Prim.Native.Nat.{ℕ}
+use Prim.Native.Nat.{ℕ, _-_, _*_}
 use lib.Dec.{eqb}
 use lib.IntN.{ℤ}
-use lib.ListN.{take}
-use Rattle.catalogue_rules.specs.Word.{Word, see, encode}
+use lib.ListN.{length, take, drop, replicate}
+use Rattle.lattices.specs.Vector.{nth}
+use Rattle.integers.specs.Every.{any}
+use Rattle.catalogue_rules.specs.Word.{Word, head, see, encode}
+use Rattle.catalogue_rules.specs.Laws.ReadVectors.{encoded}
+use Rattle.input_checks.specs.Any.{beyond}
 use Rattle.text_parts.specs.declared.Kind.{Kind}
-use Rattle.text_parts.specs.Parts.{isEnd, isSemicolon, Taken}
-use Rattle.text_rules.specs.Encoding.{fits, at, isSee}
+use Rattle.text_parts.specs.Parts.{isEnd, isSemicolon, Taken, takenAt}
+use Rattle.text_rules.specs.Encoding.{fits, at, isSee, mostNumbers, content, isEmpty}
 use Rattle.text_lines.specs.declared.Mistake.{Mistake}
 use Rattle.text_lines.specs.declared.Mistake.the-variants.{None, PartMissing, TooLarge, TooMany, NoNumber, NotThree, NoHead, NotAll, Beyond, NoSee}
 use Rattle.text_lines.specs.declared.Line.{Line}
+use Rattle.text_lines.specs.Stops.{isLarge, isMany}
 
 abbrev pub isNone : Mistake → Bool
 isNone None = true
@@ -26,13 +31,85 @@ isNone NotAll = false
 isNone Beyond = false
 isNone NoSee = false
 
+-- ---- lines
+
+abbrev pub noWords : Mistake → Bool → Line
+noWords mistake blank = record { mistake = mistake; blank = blank; head = 0; count = 0; coordinates = replicate mostNumbers 0; see = 0 }
+
+abbrev pub wrongLine : Mistake → Line
+wrongLine mistake = noWords mistake false
+
+-- a line without content
+abbrev pub blankLine : Line
+blankLine = noWords None true
+
+-- a head, coordinates and a see word, 0 for none
+abbrev pub rightLine : ℕ → List ℤ → ℕ → Line
+rightLine w zs n =
+    record { mistake = None; blank = false; head = w; count = length zs; coordinates = encoded zs ++ replicate (mostNumbers - length zs) 0; see = n }
+
+-- ---- what is wrong, the first that applies
+
+-- where a part stops in a way that it may not
+abbrev pub stopMistake : Kind → Mistake
+stopMistake k = cond (isEnd k) PartMissing (cond (isLarge k) TooLarge (cond (isMany k) TooMany NoNumber))
+
+abbrev pub headMistake : Kind → ℕ → ℤ → ℤ → ℤ → Mistake
+headMistake stop count number d m =
+    cond (isSemicolon stop) (cond (eqb count 3) (cond (fits 1048575 number && (fits 15 d && fits 15 m)) None NoHead) NotThree) (stopMistake stop)
+
+-- what may follow the coordinates
+abbrev pub isLast : Kind → Bool
+isLast k = isEnd k || isSemicolon k
+
+-- the see word of the last part, 0 for none
+abbrev pub seeNumber : Taken → ℕ
+seeNumber p = cond (isSee p) (encode (see (at (p .numbers) 0))) 0
+
+abbrev pub seeRead : ℕ → List ℤ → ℕ → Line
+seeRead w zs n = cond (eqb n 0) (wrongLine NoSee) (rightLine w zs n)
+
+-- n coordinates, and what follows them
+abbrev pub partsRead : ℕ → ℕ → Taken → List ℕ → Line
+partsRead w n p s =
+    cond (isLast (p .stop))
+    (cond (eqb (length (p .numbers)) n)
+    (cond (any beyond (p .numbers)) (wrongLine Beyond)
+    (cond (isEnd (p .stop)) (rightLine w (p .numbers) 0) (seeRead w (p .numbers) (seeNumber (takenAt 1 (drop (p .length) s))))))
+    (wrongLine NotAll))
+    (wrongLine (stopMistake (p .stop)))
+
+-- the head, then the other parts
+abbrev pub headRead : Mistake → Taken → List ℕ → Line
+headRead mistake p s =
+    let zs = p .numbers in
+    cond (isNone mistake) (partsRead (encode (head (at zs 0) (at zs 1) (at zs 2))) (at zs 1 * at zs 2) (takenAt mostNumbers s) s) (wrongLine mistake)
+
+unfoldable pub contentRead : List ℕ → Line
+contentRead s =
+    let p = takenAt 3 s in
+    let zs = p .numbers in
+    headRead (headMistake (p .stop) (length zs) (nth zs 0) (nth zs 1) (nth zs 2)) p (drop (p .length) s)
+
+abbrev pub textRead : List ℕ → Line
+textRead s = cond (isEmpty s) blankLine (contentRead s)
+
+-- the line that stands before a comment
+abbrev pub lineRead : List ℕ → Line
+lineRead s = textRead (content s)
+
+-- ---- its words
+
 -- a see word, 0 for none
 abbrev pub seeTold : ℕ → List ℕ
 seeTold n = cond (eqb n 0) [] (n ∷ [])
 
--- the words of a line, if nothing is wrong with it
+abbrev pub wordsIn : Line → List ℕ
+wordsIn l = l .head ∷ (take (l .count) (l .coordinates) ++ seeTold (l .see))
+
+-- if nothing is wrong
 abbrev pub told : Line → Option (List ℕ)
-told l = cond (isNone (l .mistake)) (some (l .head ∷ (take (l .count) (l .coordinates) ++ seeTold (l .see)))) none
+told l = cond (isNone (l .mistake)) (some (wordsIn l)) none
 
 abbrev pub encodedLine : Option (List Word) → Option (List ℕ)
 encodedLine none = none
@@ -41,15 +118,3 @@ encodedLine (some ws) = some (map encode ws)
 abbrev pub headed : ℕ → Option (List ℕ) → Option (List ℕ)
 headed w none = none
 headed w (some ws) = some (w ∷ ws)
-
--- ---- the definition's tests, of what the code has in its hands
-
-abbrev pub isHeadOf : Kind → ℕ → ℤ → ℤ → ℤ → Bool
-isHeadOf stop count number d m = isSemicolon stop && (eqb count 3 && (fits 1048575 number && (fits 15 d && fits 15 m)))
-
--- what may follow the coordinates
-abbrev pub isLast : Kind → Bool
-isLast k = isEnd k || isSemicolon k
-
-abbrev pub seeNumber : Taken → ℕ
-seeNumber p = cond (isSee p) (encode (see (at (p .numbers) 0))) 0

@@ -1,15 +1,16 @@
-// The words of a line of text: `number d m ; coordinates`, and `; see` where there is a see word.
+// The words of a line of text: `number d m ; coordinates`, and `; see` where there is a see word. What stands behind a `#` is a comment.
 ghost use mathlib.Core.Path.{_≡_};
 ghost use mathlib.Core.Bool.{false};
-ghost use mathlib.Core.Option.{none};
-ghost use Prim.Native.Nat.{_≤_};
-ghost use lib.ListN.{length, take};
+ghost use mathlib.Core.List.{_++_};
+ghost use Prim.Native.Nat.{_-_, _≤_};
+ghost use lib.ListN.{length, replicate};
 ghost use Rattle.integers.specs.Every.{any};
 ghost use Rattle.catalogue_rules.specs.Laws.ReadVectors.{encoded};
 ghost use Rattle.input_checks.specs.Any.{beyond};
 ghost use Rattle.text_parts.specs.Parts.{takenAt};
-ghost use Rattle.text_rules.specs.Encoding.{fits, lineFrom, coordinatesFrom};
-ghost use Rattle.text_lines.specs.Told.{isNone, isHeadOf, isLast, seeNumber, encodedLine, headed, told};
+ghost use Rattle.text_rules.specs.Encoding.{fits};
+ghost use Rattle.text_lines.specs.Told.{isNone, noWords, wrongLine, stopMistake, headMistake, isLast, seeNumber, partsRead, contentRead, textRead, lineRead};
+ghost use Rattle.text_lines.specs.Lengths.{lengthBefore};
 use text_parts::Kind;
 
 // What is wrong with a line.
@@ -26,19 +27,20 @@ pub enum Mistake {
     NoSee,
 }
 
-// What a line tells: its words, or what is wrong with it. A see word 0 is none.
+// What a line tells: its words, or what is wrong with it, or that it is blank. A see word 0 is none.
 pub struct Line {
     pub mistake: Mistake,
+    pub blank: bool,
     pub head: u32,
     pub count: usize,
-    pub coordinates: [u32; 16],
+    pub coordinates: [u32; 225],
     pub see: u32,
 }
 
 // The words of some coordinates, unless one is beyond the limit.
 struct Words {
     beyond: bool,
-    words: [u32; 16],
+    words: [u32; 225],
 }
 
 pub fn is_none(mistake: Mistake) -> bool
@@ -59,29 +61,37 @@ pub fn is_none(mistake: Mistake) -> bool
 }
 
 // A line that tells nothing.
-fn wrong(mistake: Mistake) -> Line
-    requires { ⌜ isNone mistake ≡ false ⌝ }
-    ensures { λ r. ⌜ told r ≡ none ⌝ }
-    ensures { λ r. ⌜ r .count ≤ 16 ⌝ }
+fn no_words(mistake: Mistake, blank: bool) -> Line
+    ensures { λ r. ⌜ r ≡ noWords mistake blank ⌝ }
 {
     Line {
         mistake,
+        blank,
         head: 0,
         count: 0,
-        coordinates: [0; 16],
+        coordinates: [0; 225],
         see: 0,
     }
 }
 
+fn wrong(mistake: Mistake) -> Line
+    ensures { λ r. ⌜ r ≡ wrongLine mistake ⌝ }
+{
+    no_words(mistake, false)
+}
+
 // What is wrong where a part stops in a way that it may not.
 fn wrong_stop(stop: Kind) -> Mistake
-    ensures { λ r. ⌜ isNone r ≡ false ⌝ }
+    ensures { λ r. ⌜ r ≡ stopMistake stop ⌝ }
 {
     match stop {
+        Kind::Number => Mistake::NoNumber,
+        Kind::Semicolon => Mistake::NoNumber,
         Kind::End => Mistake::PartMissing,
+        Kind::Unexpected => Mistake::NoNumber,
         Kind::TooLarge => Mistake::TooLarge,
         Kind::TooMany => Mistake::TooMany,
-        _ => Mistake::NoNumber,
+        Kind::NoCount => Mistake::NoNumber,
     }
 }
 
@@ -112,7 +122,7 @@ fn fits(most: usize, z: i64) -> bool
 
 // What is wrong with the first part: how it stops, how many numbers it has, or one that does not fit.
 fn head_mistake(stop: Kind, count: usize, number: i64, d: i64, m: i64) -> Mistake
-    ensures { λ r. ⌜ isNone r ≡ isHeadOf stop count number d m ⌝ }
+    ensures { λ r. ⌜ r ≡ headMistake stop count number d m ⌝ }
 {
     if !text_parts::is_semicolon(stop) {
         return wrong_stop(stop);
@@ -132,13 +142,13 @@ fn head_mistake(stop: Kind, count: usize, number: i64, d: i64, m: i64) -> Mistak
     Mistake::None
 }
 
-// The words of up to 16 coordinates.
+// The words of up to 225 coordinates, as many as d and m in four bits each can ask for.
 fn coordinate_words(z: &[i64]) -> Words
-    requires { ⌜ length (now z) ≤ 16 ⌝ }
+    requires { ⌜ length (now z) ≤ 225 ⌝ }
     ensures { λ r. ⌜ r .beyond ≡ any beyond (now (z .entry)) ⌝ }
-    ensures { λ r. ⌜ (r .beyond ≡ false → take (length (now (z .entry))) (r .words) ≡ encoded (now (z .entry))) ⌝ }
+    ensures { λ r. ⌜ (r .beyond ≡ false → r .words ≡ encoded (now (z .entry)) ++ replicate (225 - length (now (z .entry))) 0) ⌝ }
 {
-    let mut words = [0u32; 16];
+    let mut words = [0u32; 225];
     for i in 0..z.len() {
         if input_checks::beyond(z[i]) {
             return Words {
@@ -175,10 +185,10 @@ fn see_of(s: &[u8]) -> u32
 
 // The parts after the head: n coordinates, and a see word or none.
 fn with_parts(s: &[u8], head: u32, n: usize) -> Line
-    ensures { λ r. ⌜ told r ≡ headed head (encodedLine (coordinatesFrom n (takenAt 16 (now (s .entry))) (now (s .entry)))) ⌝ }
-    ensures { λ r. ⌜ r .count ≤ 16 ⌝ }
+    ensures { λ r. ⌜ r ≡ partsRead head n (takenAt 225 (now (s .entry))) (now (s .entry)) ⌝ }
+    ensures { λ r. ⌜ r .count ≤ 225 ⌝ }
 {
-    let mut z = [0i64; 16];
+    let mut z = [0i64; 225];
     let part = text_parts::read_part(s, &mut z);
     let stop = part.stop;
     if !is_last(stop) {
@@ -196,6 +206,7 @@ fn with_parts(s: &[u8], head: u32, n: usize) -> Line
     if text_parts::is_end(stop) {
         return Line {
             mistake: Mistake::None,
+            blank: false,
             head,
             count,
             coordinates: words,
@@ -209,6 +220,7 @@ fn with_parts(s: &[u8], head: u32, n: usize) -> Line
     }
     Line {
         mistake: Mistake::None,
+        blank: false,
         head,
         count,
         coordinates: words,
@@ -216,10 +228,10 @@ fn with_parts(s: &[u8], head: u32, n: usize) -> Line
     }
 }
 
-// A line that is not blank.
-pub fn read_line(s: &[u8]) -> Line
-    ensures { λ r. ⌜ told r ≡ encodedLine (lineFrom (now (s .entry))) ⌝ }
-    ensures { λ r. ⌜ r .count ≤ 16 ⌝ }
+// A line that is not blank, without its comment.
+fn read_content(s: &[u8]) -> Line
+    ensures { λ r. ⌜ r ≡ contentRead (now (s .entry)) ⌝ }
+    ensures { λ r. ⌜ r .count ≤ 225 ⌝ }
 {
     let mut z = [0i64; 3];
     let part = text_parts::read_part(s, &mut z);
@@ -234,4 +246,40 @@ pub fn read_line(s: &[u8]) -> Line
     let head = catalogue_writer::head_word(number as u32, d, m);
     let at = part.length;
     with_parts(&s[at..], head, d * m)
+}
+
+// How many bytes stand before the first byte b, all of them where there is none.
+pub fn length_before(s: &[u8], b: u8) -> usize
+    ensures { λ r. ⌜ r ≡ lengthBefore b (now (s .entry)) ⌝ }
+    ensures { λ r. ⌜ r ≤ length (now (s .entry)) ⌝ }
+{
+    let mut i = 0;
+    while i < s.len() {
+        if s[i] == b {
+            return i;
+        }
+        i += 1;
+    }
+    i
+}
+
+// A line without its comment.
+fn read_text(s: &[u8]) -> Line
+    ensures { λ r. ⌜ r ≡ textRead (now (s .entry)) ⌝ }
+    ensures { λ r. ⌜ r .count ≤ 225 ⌝ }
+{
+    if text_parts::tokens::blanks(s) == s.len() {
+        return no_words(Mistake::None, true);
+    }
+    read_content(s)
+}
+
+// A line of a text: its words, what is wrong with it, or that it is blank. The last clause follows from the other; with it a caller can cut
+// the coordinates out.
+pub fn read_line(s: &[u8]) -> Line
+    ensures { λ r. ⌜ r ≡ lineRead (now (s .entry)) ⌝ }
+    ensures { λ r. ⌜ r .count ≤ 225 ⌝ }
+{
+    let n = length_before(s, b'#');
+    read_text(&s[..n])
 }

@@ -1,11 +1,12 @@
--- The words that a text tells: of each line that is not blank those of an entry, then the end word; none where a line is wrong.
-use mathlib.Core.Bool.{Bool, false, cond, not, _&&_}
+-- The words that a text tells: of each line that is not blank those of an entry, then the end word; none where a line is wrong. What stands
+-- behind a `#` is a comment.
+use mathlib.Core.Bool.{Bool, true, false, cond, not, _&&_, _||_}
 use mathlib.Core.List.{List, [], _∷_, _++_, map}
 use mathlib.Core.Option.{Option, none, some}
-use Prim.Native.Nat.{ℕ, _*_}
+use Prim.Native.Nat.{ℕ, zero, suc, _-_, _*_}
 use lib.Dec.{eqb, leb, ltb}
 use lib.IntN.{ℤ, pos, negsuc, natAbs}
-use lib.ListN.{length, drop}
+use lib.ListN.{length, take, drop}
 use Rattle.lattices.specs.Vector.{nth}
 use Rattle.integers.specs.Every.{any}
 use Rattle.lattices.specs.Refusal.{mostSize}
@@ -48,6 +49,10 @@ areCoordinates n zs = eqb (length zs) n && not (any (λ z. ltb mostSize (natAbs 
 abbrev pub coordinatesFrom : ℕ → Taken → List ℕ → Option (List Word)
 coordinatesFrom n p s = cond (areCoordinates n (p .numbers)) (before (map coordinateWord (p .numbers)) (lastFrom (p .stop) (drop (p .length) s))) none
 
+-- d and m have four bits each in a head, so no more coordinates than these are asked for; whether d and m can be is left to reading
+abbrev pub mostNumbers : ℕ
+mostNumbers = 225
+
 -- number, d and m that fit a head, up to a semicolon; d times m coordinates follow
 abbrev pub isHead : Taken → Bool
 isHead p =
@@ -57,7 +62,7 @@ isHead p =
 abbrev pub headFrom : Taken → List ℕ → Option (List Word)
 headFrom p s =
     let zs = p .numbers in
-    cond (isHead p) (before (head (at zs 0) (at zs 1) (at zs 2) ∷ []) (coordinatesFrom (at zs 1 * at zs 2) (takenAt 16 s) s)) none
+    cond (isHead p) (before (head (at zs 0) (at zs 1) (at zs 2) ∷ []) (coordinatesFrom (at zs 1 * at zs 2) (takenAt mostNumbers s) s)) none
 
 unfoldable pub lineFrom : List ℕ → Option (List Word)
 lineFrom s = let p = takenAt 3 s in headFrom p (drop (p .length) s)
@@ -73,27 +78,64 @@ abbrev pub linesOf : List ℕ → List (List ℕ)
 linesOf [] = [] ∷ []
 linesOf (b ∷ s) = cond (eqb b 10) ([] ∷ linesOf s) (onto b (linesOf s))
 
+-- a line without its comment
+abbrev pub isText : ℕ → Bool
+isText b = not (eqb b 35)
+
+abbrev pub content : List ℕ → List ℕ
+content s = take (leading isText s) s
+
+-- nothing but blanks
 abbrev pub isEmpty : List ℕ → Bool
 isEmpty s = eqb (leading isBlank s) (length s)
 
--- the words of each entry
-abbrev pub ofLine : Option (List Word) → Option (List (List Word)) → Option (List (List Word))
-ofLine none more = none
-ofLine (some ws) none = none
-ofLine (some ws) (some more) = some (ws ∷ more)
+-- ---- entries
 
-abbrev pub entriesFrom : List (List ℕ) → Option (List (List Word))
-entriesFrom [] = some []
-entriesFrom (l ∷ ls) = cond (isEmpty l) (entriesFrom ls) (ofLine (lineFrom l) (entriesFrom ls))
+abbrev pub isWrong : Option (List Word) → Bool
+isWrong none = true
+isWrong (some ws) = false
+
+abbrev pub listed : Option (List Word) → List (List Word)
+listed none = []
+listed (some ws) = ws ∷ []
+
+-- whether a line is wrong, and the words of its entry; a line without content is right and has none
+abbrev pub lineWrong : List ℕ → Bool
+lineWrong s = cond (isEmpty (content s)) false (isWrong (lineFrom (content s)))
+
+abbrev pub lineEntry : List ℕ → List (List Word)
+lineEntry s = cond (isEmpty (content s)) [] (listed (lineFrom (content s)))
+
+abbrev pub anyWrong : List (List ℕ) → Bool
+anyWrong [] = false
+anyWrong (l ∷ ls) = lineWrong l || anyWrong ls
+
+abbrev pub entriesFrom : List (List ℕ) → List (List Word)
+entriesFrom [] = []
+entriesFrom (l ∷ ls) = lineEntry l ++ entriesFrom ls
 
 abbrev pub joined : List (List Word) → List Word
 joined [] = []
 joined (ws ∷ more) = ws ++ joined more
 
 -- with the end word behind them
-abbrev pub ended : Option (List (List Word)) → Option (List Word)
-ended none = none
-ended (some entries) = some (joined entries ++ (end (length entries) ∷ []))
+abbrev pub ended : List (List Word) → List Word
+ended entries = joined entries ++ (end (length entries) ∷ [])
 
 unfoldable pub encoded : List ℕ → Option (List Word)
-encoded text = ended (entriesFrom (linesOf text))
+encoded text = cond (anyWrong (linesOf text)) none (some (ended (entriesFrom (linesOf text))))
+
+-- ---- where a word stands
+
+abbrev pub lineWords : List ℕ → ℕ
+lineWords s = length (joined (lineEntry s))
+
+-- one line further down, where there is a line
+abbrev pub further : ℕ → ℕ
+further zero = 0
+further (suc n) = suc (suc n)
+
+-- the line, from 1, whose entry holds the word with this index; 0 for none, as for the end word
+abbrev pub lineHolding : List (List ℕ) → ℕ → ℕ
+lineHolding [] k = 0
+lineHolding (l ∷ ls) k = cond (ltb k (lineWords l)) 1 (further (lineHolding ls (k - lineWords l)))

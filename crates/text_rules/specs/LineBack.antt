@@ -27,7 +27,7 @@ use Rattle.text_parts.specs.Numbers.{read}
 use Rattle.text_parts.specs.Tokens.{tokenAt}
 use Rattle.text_parts.specs.Parts.{more, takenAt}
 use Rattle.text_rules.specs.Text.{semicolon, seeFields, entryFields, entryText}
-use Rattle.text_rules.specs.Encoding.{seeFrom, lastFrom, before, areCoordinates, coordinatesFrom, headFrom, lineFrom}
+use Rattle.text_rules.specs.Encoding.{seeFrom, lastFrom, before, areCoordinates, coordinatesFrom, mostNumbers, headFrom, lineFrom}
 use Rattle.text_rules.specs.NumberBack.{Written, signed-reads}
 use Rattle.text_rules.specs.PartBack.{spaced, after-spaced, spaced-append, Stop, taken, part-goes, part-back}
 
@@ -59,21 +59,21 @@ all-written (z ∷ zs) e =
     let h = ltb-false mostSize (natAbs z) (p .0) in
     (omega arith, all-written zs (p .1))
 
-module _ (zs : List ℤ) (n : ℕ) (few : length zs ≤ 16) (count : length zs ≡ n) (near : any (λ z. ltb mostSize (natAbs z)) zs ≡ false) where
+module _ (zs : List ℤ) (n : ℕ) (few : length zs ≤ mostNumbers) (count : length zs ≡ n) (near : any (λ z. ltb mostSize (natAbs z)) zs ≡ false) where
   followed : {k : Kind} {j : ℕ} {rest : List ℕ} (ws : List Word) → Stop k j rest → lastFrom k (drop j rest) ≡ some ws
-      → let s = spaced (map signed zs) ++ rest in coordinatesFrom n (takenAt 16 s) s ≡ some (map coordinateWord zs ++ ws)
+      → let s = spaced (map signed zs) ++ rest in coordinatesFrom n (takenAt mostNumbers s) s ≡ some (map coordinateWord zs ++ ws)
   followed {k} {j} {rest} ws stop e =
       let fields = spaced (map signed zs) in
       let s = fields ++ rest in
       let words = map coordinateWord zs in
       let fit : areCoordinates n zs ≡ true = ap₂ (λ b c. b && not c) (eq-eqb (length zs) n count) near in
-      ap (λ p. coordinatesFrom n p s) (part-back 16 zs few (all-written zs near) stop)
+      ap (λ p. coordinatesFrom n p s) (part-back mostNumbers zs few (all-written zs near) stop)
       ∙ ap (λ b. cond b (before words (lastFrom k (drop (length fields + j) s))) none) fit
       ∙ ap (λ l. before words (lastFrom k l)) (drop-append-add fields rest j)
       ∙ ap (before words) e
 
   coordinates-back : (o : Option See) → SeeFits o
-      → let s = spaced (map signed zs) ++ spaced (seeFields o) in coordinatesFrom n (takenAt 16 s) s ≡ some (map coordinateWord zs ++ seeWords o)
+      → let s = spaced (map signed zs) ++ spaced (seeFields o) in coordinatesFrom n (takenAt mostNumbers s) s ≡ some (map coordinateWord zs ++ seeWords o)
   coordinates-back none h = followed [] line-ends refl
   coordinates-back (some s) h = followed (seeWords (some s)) (at-semicolon (spaced (decimal (s .number) ∷ []))) (see-back (s .number) (omega arith))
 
@@ -98,7 +98,7 @@ module _ (h : Head) (fits : HeadFits h) (s : List ℕ) where
   head-left : drop size headed ≡ s
   head-left = drop-append-add (decimal (h .number)) _ _ ∙ drop-append-add (spaced (map signed counts)) (32 ∷ 59 ∷ s) 2
 
-  head-back : (ws : List Word) → coordinatesFrom (h .d * h .m) (takenAt 16 s) s ≡ some ws → lineFrom headed ≡ some (headWord h ∷ ws)
+  head-back : (ws : List Word) → coordinatesFrom (h .d * h .m) (takenAt mostNumbers s) s ≡ some ws → lineFrom headed ≡ some (headWord h ∷ ws)
   unfolding lineFrom
   head-back ws e =
       let r = head-range h fits in
@@ -106,7 +106,7 @@ module _ (h : Head) (fits : HeadFits h) (s : List ℕ) where
       let q = ap₂ _&&_ (le-leb (h .d) 15 (omega arith)) (le-leb (h .m) 15 (omega arith)) in
       ap (λ p. headFrom p (drop (p .length) headed)) head-taken
       ∙ ap (headFrom (taken (pos (h .number) ∷ counts) size Semicolon)) head-left
-      ∙ ap (λ b. cond b (before (headWord h ∷ []) (coordinatesFrom (h .d * h .m) (takenAt 16 s) s)) none) (ap₂ _&&_ p q)
+      ∙ ap (λ b. cond b (before (headWord h ∷ []) (coordinatesFrom (h .d * h .m) (takenAt mostNumbers s) s)) none) (ap₂ _&&_ p q)
       ∙ ap (before (headWord h ∷ [])) e
 
 -- ---- the line
@@ -124,4 +124,4 @@ line-back e p q =
     let two = map signed (pos (e .head .d) ∷ pos (e .head .m) ∷ []) in
     ap (λ l. lineFrom (decimal (e .head .number) ++ l)) (spaced-append two (semicolon ∷ last))
     ∙ ap (λ s. lineFrom (headed (e .head) (p .head) s)) (spaced-append (map signed zs) (seeFields (e .see)))
-    ∙ head-back (e .head) (p .head) _ _ (coordinates-back zs _ (few-coordinates e p) (count-coordinates e p) (all-near (e .head .m) (e .vectors) (p .vectors)) (e .see) q)
+    ∙ head-back (e .head) (p .head) _ _ (coordinates-back zs _ (omega (arith, few-coordinates e p)) (count-coordinates e p) (all-near (e .head .m) (e .vectors) (p .vectors)) (e .see) q)

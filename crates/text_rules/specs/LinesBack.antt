@@ -1,14 +1,14 @@
 -- The text of a catalogue is cut into the lines of its entries: none holds a newline, and none is blank.
 use mathlib.Core.Path.{_≡_, refl, ap, _∙_}
 use mathlib.Core.Logic.{inl}
-use mathlib.Core.Bool.{false, cond}
+use mathlib.Core.Bool.{false, cond, not}
 use mathlib.Core.List.{List, [], _∷_, _++_, map}
 use mathlib.Core.Option.{Option, none, some}
 use Prim.Native.Nat.{ℕ, suc}
 use native.Mathlib.Omega.{arith}
 use lib.Dec.{eqb}
 use lib.IntN.{ℤ, pos, negsuc}
-use lib.ListN.{length}
+use lib.ListN.{length, take}
 use borrow.Author.Tests.{ne-eqb}
 use Rattle.integers.specs.All.{All}
 use Rattle.integers.specs.AllLaws.{all-append, all-imp}
@@ -16,50 +16,65 @@ use Rattle.integers.specs.Decimal.{decimal, signed}
 use Rattle.catalogue_rules.specs.Catalogue.{See, Entry, coordinates}
 use Rattle.text_parts.specs.Numbers.{leading}
 use Rattle.text_parts.specs.Tokens.{isBlank}
-use Rattle.text_rules.specs.Text.{seeFields, entryFields}
-use Rattle.text_rules.specs.Encoding.{onto, linesOf, isEmpty}
+use Rattle.text_rules.specs.Text.{semicolon, seeFields, entryFields}
+use Rattle.text_rules.specs.Encoding.{onto, linesOf, isText, content, isEmpty}
 use Rattle.text_rules.specs.DecimalBack.{Tells, decimal-tells}
 use Rattle.text_rules.specs.NumberBack.{digit-is-not, digit-no-blank}
 use Rattle.text_rules.specs.PartBack.{spaced}
 use Rattle.text_rules.specs.LineBack.{lineOf}
 
--- ---- no newline
+-- ---- neither a newline nor a comment
 
-abbrev pub NoNewline : List ℕ → Type 0
-NoNewline s = All (λ b. eqb b 10 ≡ false) s
+pub record Plain (b : ℕ) : Type 0 where
+  pub inside : eqb b 10 ≡ false
+  pub text : eqb b 35 ≡ false
 
-decimal-plain : (n : ℕ) → NoNewline (decimal n)
-decimal-plain n = all-imp (λ b e. digit-is-not b 10 e (inl (omega arith))) (decimal n) (decimal-tells n .digits)
+abbrev pub AllPlain : List ℕ → Type 0
+AllPlain s = All Plain s
 
-signed-plain : (z : ℤ) → NoNewline (signed z)
+plain : (b : ℕ) → eqb b 10 ≡ false → eqb b 35 ≡ false → Plain b
+plain b e f = record { inside = e; text = f }
+
+decimal-plain : (n : ℕ) → AllPlain (decimal n)
+decimal-plain n = all-imp (λ b e. plain b (digit-is-not b 10 e (inl (omega arith))) (digit-is-not b 35 e (inl (omega arith)))) (decimal n) (decimal-tells n .digits)
+
+signed-plain : (z : ℤ) → AllPlain (signed z)
 signed-plain (pos n) = decimal-plain n
-signed-plain (negsuc n) = (refl, decimal-plain (suc n))
+signed-plain (negsuc n) = (plain 45 refl refl, decimal-plain (suc n))
 
-numbers-plain : (zs : List ℤ) → All NoNewline (map signed zs)
+numbers-plain : (zs : List ℤ) → All AllPlain (map signed zs)
 numbers-plain [] = tt
 numbers-plain (z ∷ zs) = (signed-plain z, numbers-plain zs)
 
-see-plain : (o : Option See) → All NoNewline (seeFields o)
+semicolon-plain : AllPlain semicolon
+semicolon-plain = (plain 59 refl refl, tt)
+
+see-plain : (o : Option See) → All AllPlain (seeFields o)
 see-plain none = tt
-see-plain (some s) = ((refl, tt), (decimal-plain (s .number), tt))
+see-plain (some s) = (semicolon-plain, (decimal-plain (s .number), tt))
 
-spaced-plain : (fields : List (List ℕ)) → All NoNewline fields → NoNewline (spaced fields)
+spaced-plain : (fields : List (List ℕ)) → All AllPlain fields → AllPlain (spaced fields)
 spaced-plain [] p = tt
-spaced-plain (field ∷ fields) p = (refl, all-append (λ b. eqb b 10 ≡ false) field (spaced fields) (p .0) (spaced-plain fields (p .1)))
+spaced-plain (field ∷ fields) p = (plain 32 refl refl, all-append Plain field (spaced fields) (p .0) (spaced-plain fields (p .1)))
 
-fields-plain : (e : Entry) → All NoNewline (entryFields e)
+fields-plain : (e : Entry) → All AllPlain (entryFields e)
 fields-plain e =
     let zs = coordinates (e .vectors) in
-    (decimal-plain (e .head .d), (decimal-plain (e .head .m), ((refl, tt), all-append NoNewline (map signed zs) (seeFields (e .see)) (numbers-plain zs) (see-plain (e .see)))))
+    (decimal-plain (e .head .d), (decimal-plain (e .head .m), (semicolon-plain, all-append AllPlain (map signed zs) (seeFields (e .see)) (numbers-plain zs) (see-plain (e .see)))))
 
-pub line-plain : (e : Entry) → NoNewline (lineOf e)
-line-plain e = all-append (λ b. eqb b 10 ≡ false) (decimal (e .head .number)) (spaced (entryFields e)) (decimal-plain (e .head .number)) (spaced-plain (entryFields e) (fields-plain e))
+pub line-plain : (e : Entry) → AllPlain (lineOf e)
+line-plain e = all-append Plain (decimal (e .head .number)) (spaced (entryFields e)) (decimal-plain (e .head .number)) (spaced-plain (entryFields e) (fields-plain e))
 
-pub lines-cut : (l rest : List ℕ) → NoNewline l → linesOf (l ++ (10 ∷ rest)) ≡ l ∷ linesOf rest
+pub lines-cut : (l rest : List ℕ) → AllPlain l → linesOf (l ++ (10 ∷ rest)) ≡ l ∷ linesOf rest
 lines-cut [] rest p = refl
 lines-cut (b ∷ l) rest p =
     let more = linesOf (l ++ (10 ∷ rest)) in
-    ap (λ c. cond c ([] ∷ more) (onto b more)) (p .0) ∙ ap (onto b) (lines-cut l rest (p .1))
+    ap (λ c. cond c ([] ∷ more) (onto b more)) (p .0 .inside) ∙ ap (onto b) (lines-cut l rest (p .1))
+
+-- a line without a comment is all content
+pub content-all : (l : List ℕ) → AllPlain l → content l ≡ l
+content-all [] p = refl
+content-all (b ∷ l) p = ap (λ c. take (cond (not c) (suc (leading isText l)) 0) (b ∷ l)) (p .0 .text) ∙ ap (λ s. b ∷ s) (content-all l (p .1))
 
 -- ---- not blank
 

@@ -14,7 +14,7 @@ use Rattle.text_parts.specs.declared.Kind.the-variants.{TooMany}
 use Rattle.text_parts.specs.Numbers.{wrong, read}
 use Rattle.text_parts.specs.Tokens.{ends, tokenAt}
 use Rattle.text_parts.specs.Parts.{isNumber, Taken, stopped, more, takenAt}
-use Rattle.fold_rules.specs.Listing.{after}
+use Rattle.text_layout.specs.Fields.{after}
 use Rattle.text_rules.specs.NumberBack.{Reads, Written, signed-reads, blank-reads}
 
 -- ---- fields with a blank before each, and no newline behind them

@@ -1,8 +1,8 @@
 -- The text of a catalogue tells the words of the catalogue; so a file that is accepted, written as text and encoded, is the same file again.
 use mathlib.Core.Path.{_≡_, refl, ap, ap₂, _∙_}
-use mathlib.Core.Bool.{cond}
+use mathlib.Core.Bool.{false, cond, _||_}
 use mathlib.Core.List.{List, [], _∷_, _++_, map, append-assoc}
-use mathlib.Core.Option.{some, Option·map}
+use mathlib.Core.Option.{none, some, Option·map}
 use Prim.Native.Nat.{ℕ, _<_}
 use lib.ListN.{getD, length-map}
 use Rattle.integers.specs.All.{All}
@@ -16,19 +16,37 @@ use Rattle.catalogue_rules.specs.Laws.ReadEntries.{SeeFits}
 use Rattle.catalogue_rules.specs.Laws.ReadBack.{sees-fit}
 use Rattle.catalogue_rules.specs.Laws.RoundTrip.{same-bytes}
 use Rattle.text_rules.specs.Text.{textOf}
-use Rattle.text_rules.specs.Encoding.{lineFrom, linesOf, ofLine, entriesFrom, joined, ended, encoded}
+use Rattle.text_rules.specs.Encoding.{lineFrom, linesOf, content, isEmpty, isWrong, listed, lineWrong, lineEntry, anyWrong, entriesFrom, joined, ended, encoded}
 use Rattle.text_rules.specs.LineBack.{lineOf, text-line, line-back}
-use Rattle.text_rules.specs.LinesBack.{line-plain, lines-cut, line-shown}
+use Rattle.text_rules.specs.LinesBack.{line-plain, lines-cut, content-all, line-shown}
 
-entries-back : (es : List Entry) → All EntryFits es → All (λ e. SeeFits (e .see)) es → entriesFrom (linesOf (textOf es)) ≡ some (map entryWords es)
+-- the line of an entry, before other lines
+module _ (e : Entry) (p : EntryFits e) (q : SeeFits (e .see)) where
+  here : lineFrom (content (lineOf e)) ≡ some (entryWords e)
+  here = ap lineFrom (content-all (lineOf e) (line-plain e)) ∙ line-back e p q
+
+  full : isEmpty (content (lineOf e)) ≡ false
+  full = ap isEmpty (content-all (lineOf e) (line-plain e)) ∙ line-shown e
+
+  line-right : lineWrong (lineOf e) ≡ false
+  line-right = λ i. cond (full i) false (isWrong (here i))
+
+  line-entry : lineEntry (lineOf e) ≡ entryWords e ∷ []
+  line-entry = λ i. cond (full i) [] (listed (here i))
+
+  cut : (es : List Entry) → linesOf (textOf (e ∷ es)) ≡ lineOf e ∷ linesOf (textOf es)
+  cut es =
+      ap (λ l. linesOf (l ++ textOf es)) (text-line e)
+      ∙ ap linesOf (append-assoc (lineOf e) (10 ∷ []) (textOf es))
+      ∙ lines-cut (lineOf e) (textOf es) (line-plain e)
+
+none-wrong : (es : List Entry) → All EntryFits es → All (λ e. SeeFits (e .see)) es → anyWrong (linesOf (textOf es)) ≡ false
+none-wrong [] p q = refl
+none-wrong (e ∷ es) p q = ap anyWrong (cut e (p .0) (q .0) es) ∙ ap₂ _||_ (line-right e (p .0) (q .0)) (none-wrong es (p .1) (q .1))
+
+entries-back : (es : List Entry) → All EntryFits es → All (λ e. SeeFits (e .see)) es → entriesFrom (linesOf (textOf es)) ≡ map entryWords es
 entries-back [] p q = refl
-entries-back (e ∷ es) p q =
-    let others = entriesFrom (linesOf (textOf es)) in
-    ap (λ l. entriesFrom (linesOf (l ++ textOf es))) (text-line e)
-    ∙ ap (λ l. entriesFrom (linesOf l)) (append-assoc (lineOf e) (10 ∷ []) (textOf es))
-    ∙ ap entriesFrom (lines-cut (lineOf e) (textOf es) (line-plain e))
-    ∙ ap (λ b. cond b others (ofLine (lineFrom (lineOf e)) others)) (line-shown e)
-    ∙ ap₂ ofLine (line-back e (p .0) (q .0)) (entries-back es (p .1) (q .1))
+entries-back (e ∷ es) p q = ap entriesFrom (cut e (p .0) (q .0) es) ∙ ap₂ _++_ (line-entry e (p .0) (q .0)) (entries-back es (p .1) (q .1))
 
 joined-words : (es : List Entry) → joined (map entryWords es) ≡ entriesWords es
 joined-words [] = refl
@@ -36,7 +54,8 @@ joined-words (e ∷ es) = ap (λ ws. entryWords e ++ ws) (joined-words es)
 
 pub text-back : (es : List Entry) → All EntryFits es → All (λ e. SeeFits (e .see)) es → encoded (textOf es) ≡ some (catalogueWords es)
 unfolding encoded
-text-back es p q = ap ended (entries-back es p q) ∙ ap₂ (λ ws n. some (ws ++ (end n ∷ []))) (joined-words es) (length-map es entryWords)
+text-back es p q =
+    (λ i. cond (none-wrong es p q i) none (some (ended (entries-back es p q i)))) ∙ ap₂ (λ ws n. some (ws ++ (end n ∷ []))) (joined-words es) (length-map es entryWords)
 
 -- ---- an accepted file, as text and as a file again
 

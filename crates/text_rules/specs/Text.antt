@@ -4,7 +4,7 @@ use mathlib.Core.Option.{Option, none, some}
 use Prim.Native.Nat.{ℕ}
 use Rattle.integers.specs.Decimal.{decimal, signed}
 use Rattle.catalogue_rules.specs.Catalogue.{See, Entry, coordinates}
-use Rattle.fold_rules.specs.Listing.{line}
+use Rattle.text_layout.specs.Fields.{line}
 
 abbrev pub semicolon : List ℕ
 semicolon = 59 ∷ []

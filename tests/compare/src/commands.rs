@@ -7,9 +7,10 @@ use reference::catalogue::cases::case;
 use reference::catalogue::fold::folded;
 use reference::catalogue::listing::listing;
 use reference::catalogue::reader::read;
-use reference::catalogue::text::text;
+use reference::catalogue::text::{commented, text};
 use reference::catalogue::writer::write;
 use reference::catalogue::{lookup, Entry, Refused};
+use reference::random::Random;
 
 const PROGRAM: &str = "target/bin/raghymtos";
 
@@ -48,7 +49,7 @@ fn said<T>(outcome: Result<T, Refused>, accepted: impl FnOnce(T) -> Vec<u8>) -> 
     }
 }
 
-fn compare_one(bytes: &[u8]) -> Result<(), String> {
+fn compare_one(bytes: &[u8], random: &mut Random) -> Result<(), String> {
     let outcome = read(bytes);
     same(&["list"], bytes, listing(bytes).into_bytes())?;
     let fold = |es: Vec<Entry>| write(&folded(&es));
@@ -65,17 +66,23 @@ fn compare_one(bytes: &[u8]) -> Result<(), String> {
         said(lookup(bytes, number), standing),
     )?;
     match outcome {
-        Ok(entries) => same(&["encode"], text(&entries).as_bytes(), bytes.to_vec()),
+        Ok(entries) => {
+            let texts = [text(&entries), commented(&entries, random)];
+            texts
+                .iter()
+                .try_for_each(|t| same(&["encode"], t.as_bytes(), bytes.to_vec()))
+        }
         Err(_) => Ok(()),
     }
 }
 
 /// Compares so many random catalogues of a seed.
 pub fn compare(count: usize, seed: u64) -> Result<(), String> {
+    let mut random = Random::new(seed);
     for index in 0..count {
-        compare_one(&case(seed, index))
+        compare_one(&case(seed, index), &mut random)
             .map_err(|what| format!("seed {seed}, index {index}: {what}"))?;
     }
-    println!("{count} catalogues by the command line: folded, listed, looked up, decoded and encoded as the reference does");
+    println!("{count} catalogues by the command line: folded, listed, looked up, decoded and encoded, with comments and without, as the reference does");
     Ok(())
 }

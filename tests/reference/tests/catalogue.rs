@@ -5,7 +5,7 @@ use reference::catalogue::fold::{folded, standing};
 use reference::catalogue::hermite::hermite;
 use reference::catalogue::listing::listing;
 use reference::catalogue::reader::read;
-use reference::catalogue::text::{entries, text};
+use reference::catalogue::text::{commented, entries, text};
 use reference::catalogue::writer::{bytes, write};
 use reference::catalogue::{fold, lookup, write_out, Refused};
 use reference::random::Random;
@@ -124,11 +124,14 @@ fn folding_again_gives_the_same() {
 
 #[test]
 fn text_and_back() {
+    let mut random = Random::new(4);
     for i in 0..2_000 {
         if let Ok(list) = read(&case(4, i)) {
+            assert_eq!(entries(&commented(&list, &mut random)), Ok(list.clone()));
             assert_eq!(entries(&text(&list)), Ok(list));
         }
     }
     assert_eq!(entries("1 1 1 ; 5\n2 1 1 ; \n"), Err(2));
     assert_eq!(entries("1 1 1 ; 5 ; 1 2\n"), Err(1));
+    assert_eq!(entries("# none\n\n1 1 1 # ; 5\n"), Err(3));
 }

@@ -6,7 +6,7 @@ use mathlib.Core.Option.{Option, none, some, Option·some-ne-none}
 use Prim.Native.Nat.{ℕ, suc, _+_, _*_, _^_, _≤_, _<_}
 use native.Mathlib.Omega.{arith}
 use lib.Dec.{ltb, eqb}
-use lib.IntN.{ℤ, pos, negsuc, natAbs}
+use lib.IntN.{pos, natAbs}
 use lib.ListN.{length, length-append, length-map}
 use lib.Signed.{ltZ}
 use borrow.Author.Tests.{ltb-false}
@@ -15,6 +15,8 @@ use Rattle.integers.specs.AllLaws.{all-imp, all-map}
 use Rattle.integers.specs.Decimal.{decimal, signed}
 use Rattle.integers.specs.DecimalLaws.{decimal-length}
 use Rattle.integers.specs.Tests.{neither}
+use Rattle.text_layout.specs.Fields.{after, line}
+use Rattle.text_layout.specs.Sizes.{signed-length}
 use Rattle.lattices.specs.Vector.{Vec, N}
 use Rattle.lattices.specs.Greedy.{units, start, reduction}
 use Rattle.integers.specs.Every.{any}
@@ -28,7 +30,8 @@ use Rattle.catalogue_rules.specs.Read.{isNumbered, read}
 use Rattle.catalogue_rules.specs.Form.{VectorFits, mostNumber}
 use Rattle.catalogue_rules.specs.Laws.WellFormed.{well-formed}
 use Rattle.fold_rules.specs.Fold.{reducedOf, standing, Stood, stoodOf, closedList, stands, standingIn, lookup, unlessOwn, followed, leads}
-use Rattle.fold_rules.specs.Listing.{after, line, vectorLines, leadNumber, entryLine, vectorsShown, entryLines, listed, listingOf}
+use Rattle.fold_rules.specs.Listing.{vectorLines, leadNumber, entryLine, vectorsShown, entryLines}
+use Rattle.fold_rules.specs.Services.{listingText}
 use Rattle.fold_rules.specs.Meaning.{Among}
 use Rattle.fold_rules.specs.Laws.SameLattice.{Sound, sound-entries, entry-basis}
 use Rattle.fold_rules.specs.Laws.Standing.{all-self, all-among, standing-among}
@@ -39,15 +42,11 @@ fields-length : (k : ℕ) (fields : List (List ℕ)) → All (λ f. length f ≤
 fields-length k [] h = omega arith
 fields-length k (f ∷ fields) h = omega (arith, length-append f (after fields), h .0, fields-length k fields (h .1))
 
-pub signed-length : (z : ℤ) → natAbs z ≤ mostSize → length (signed z) ≤ 6
-signed-length (pos n) h = omega (arith, decimal-length 5 n (omega arith) (omega arith))
-signed-length (negsuc n) h = omega (arith, decimal-length 5 (suc n) (omega arith) (omega arith))
-
 coordinates-length : (v : Vec) → any (λ x. ltb mostSize (natAbs x)) v ≡ false → All (λ f. length f ≤ 6) (map signed v)
 coordinates-length [] h = tt
 coordinates-length (x ∷ v) h =
     let p = neither (ltb mostSize (natAbs x)) (any (λ y. ltb mostSize (natAbs y)) v) h in
-    (signed-length x (ltb-false mostSize (natAbs x) (p .0)), coordinates-length v (p .1))
+    (signed-length 5 x (omega arith) (omega (arith, ltb-false mostSize (natAbs x) (p .0))), coordinates-length v (p .1))
 
 vector-lines : (m : ℕ) → m ≤ mostCoordinates → (vs : List Vec) → All (VectorFits m) vs → length (vectorLines vs) ≤ length vs * 30
 vector-lines m h [] p = omega arith
@@ -155,15 +154,14 @@ module _ (file : List ℕ) (es : List Entry) (e : read file ≡ accepted es) whe
       let s = all-among Sound es sound f a in
       record { number = number-short f s; standing = standing-short f a; passes = few-passes f s; shown = shown-length f (standing es f) s }
 
-  pub listing-size : length (listingOf file) ≤ 40000
-  unfolding listingOf
+  pub listing-size : length (listingText es) ≤ 40000
   listing-size =
       let ss = closedList es in
       let few = well-formed file es e .entered .few in
       let listed-all = all-map Listed (stoodOf es) es (all-imp entry-listed es (all-self es)) in
       let short-all = all-map (λ s. Short (s .standing .head .number)) (stoodOf es) es (all-imp standing-short es (all-self es)) in
       let n : length ss ≡ length es = length-map es (stoodOf es) in
-      subst (λ o. length (listed o) ≤ 40000) (sym e) (omega (
+      omega (
         arith,
         length-append (line (decimal (length ss)) (decimal (length (standingIn ss)) ∷ [])) (entryLines ss ss),
         length-append (decimal (length ss)) (after (decimal (length (standingIn ss)) ∷ [])),
@@ -171,4 +169,4 @@ module _ (file : List ℕ) (es : List Entry) (e : read file ≡ accepted es) whe
         decimal-length 3 (length ss) (omega arith) (omega arith),
         decimal-length 3 (length (standingIn ss)) (omega arith) (omega (arith, standing-fewer ss)),
         entry-lines ss short-all ss listed-all,
-      ))
+      )

@@ -7,7 +7,7 @@ use lib.ListN.{length, length-append}
 use borrow.Author.Needs.{needs}
 use borrow.Author.Tests.{not-true, not-false}
 use Rattle.integers.specs.Decimal.{decimal}
-use Rattle.fold_rules.specs.Listing.{after}
+use Rattle.text_layout.specs.Fields.{after}
 use Rattle.text_output.specs.Puts.{Puts, puts-then}
 use Rattle.text_decoding.specs.Parts.{lastText}
 use Rattle.text_decoding.proofs.put_last.Statement.{statement}

@@ -11,7 +11,7 @@ use Rattle.text_encoding.proofs.put_line.Tie as tie
 put-requires : tie.Need-put-requires
 put-requires c κs = c .before .before .pre .0
 
-wide : (c : tie.Start) → length (c .args .l .coordinates) ≡ 16
+wide : (c : tie.Start) → length (c .args .l .coordinates) ≡ 225
 wide c = search needs
 
 array-share-prefix-words : tie.Need-array-share-prefix-words

@@ -7,7 +7,7 @@ use native.Mathlib.Omega.{arith}
 use lib.ListN.{getD, take}
 use lib.Seq.{take-suc, take-all}
 use borrow.Author.Needs.{needs}
-use Rattle.text_encoding.specs.Stores.{Room, Stores, stores-none, stores-room, stores-then}
+use Rattle.text_encoding.specs.Stores.{Room, Stores, stores-none, stores-length, stores-room, stores-then}
 use Rattle.text_encoding.proofs.put_words.Statement.{statement}
 use Rattle.text_encoding.proofs.put_words.Tie as tie
 
@@ -50,7 +50,7 @@ loop-again c =
     (search needs, subst (λ us. Stores us (a .out .now) (a .k) (p .put .last .0) (p .put .result)) (sym next) (stores-then (s .pre) (l .loop .inv .1) (p .put .ensures)))
 
 same-length : tie.Need-same-length Inv-loop μ-loop
-same-length c = room (c .before) .long ∙ sym (c .before .before .before .before .pre .long)
+same-length c = stores-length (c .before .before .before .before .pre) (c .before .loop .inv .1)
 
 returns : tie.Need-returns Inv-loop μ-loop
 returns c =

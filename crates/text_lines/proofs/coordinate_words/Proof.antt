@@ -2,12 +2,12 @@
 use mathlib.Core.Path.{_≡_, refl, sym, ap, ap₂, _∙_}
 use mathlib.Core.Bool.{false, true≢false}
 use mathlib.Core.List.{[], _∷_, _++_}
-use Prim.Native.Nat.{_+_, _-_, _≤_}
+use Prim.Native.Nat.{suc, _+_, _-_, _≤_}
 use native.Mathlib.Numerals.{add-one}
 use native.Mathlib.Omega.{arith}
 use lib.IntN.{pos, natAbs}
-use lib.ListN.{length, set, take, drop, length-set}
-use lib.Seq.{take-suc-set, take-all}
+use lib.ListN.{length, set, take, drop, replicate, length-set, take-append-drop}
+use lib.Seq.{take-suc-set, take-all, drop-set-lt, drop-drop}
 use mir.Syntax.{w64}
 use mir.Val.{toZ, ofZ}
 use mir.Facts.{toZ-ofZ}
@@ -20,18 +20,19 @@ use Rattle.catalogue_rules.specs.Write.{coordinateWord}
 use Rattle.catalogue_rules.specs.Laws.ReadVectors.{encoded}
 use Rattle.input_checks.specs.Any.{beyond, any-here, any-later, any-end}
 use Rattle.catalogue_writer.specs.Loads.{encoded-more}
+use Rattle.text_lines.specs.Fields.{zeros-next}
 use Rattle.text_lines.proofs.coordinate_words.Statement.{statement}
 use Rattle.text_lines.proofs.coordinate_words.Tie as tie
 
 abbrev Inv-loop : tie.InvT-loop
 Inv-loop z words₀ i₀ i-end words i =
-    (i ≤ length z) × ((length words ≡ 16) × ((any beyond z ≡ any beyond (drop i z)) × (take i words ≡ encoded (take i z))))
+    (i ≤ length z) × ((length words ≡ 225) × ((any beyond z ≡ any beyond (drop i z)) × ((take i words ≡ encoded (take i z)) × (drop i words ≡ replicate (225 - i) 0))))
 
 abbrev μ-loop : tie.MeasureT-loop
 μ-loop z words₀ i₀ i-end words i = i-end - i
 
 loop-holds : tie.Need-loop-holds Inv-loop μ-loop
-loop-holds c = (search needs, (refl, (refl, refl)))
+loop-holds c = (search needs, (refl, (refl, (refl, refl))))
 
 mul-beyond : tie.Need-mul-beyond Inv-loop μ-loop
 mul-beyond c = search needs
@@ -101,10 +102,18 @@ loop-again c =
         length-set (l .loop .words) i w ∙ l .loop .inv .1 .0,
         (
           l .loop .inv .1 .1 .0 ∙ any-later beyond z i (pos 0) here (near (c .before .before)),
-          ap (λ k. take k (set (l .loop .words) i w)) (add-one i)
-              ∙ take-suc-set (l .loop .words) i w (omega (arith, l .before .pre, here, l .loop .inv .1 .0))
-              ∙ ap₂ (λ ws w. ws ++ (w ∷ [])) (l .loop .inv .1 .1 .1) word
-              ∙ encoded-more z i here,
+          (
+            ap (λ k. take k (set (l .loop .words) i w)) (add-one i)
+                ∙ take-suc-set (l .loop .words) i w (omega (arith, l .before .pre, here, l .loop .inv .1 .0))
+                ∙ ap₂ (λ ws w. ws ++ (w ∷ [])) (l .loop .inv .1 .1 .1 .0) word
+                ∙ encoded-more z i here,
+            ap (λ k. drop k (set (l .loop .words) i w)) (add-one i)
+                ∙ drop-set-lt (suc i) (l .loop .words) i w (omega arith)
+                ∙ ap (λ k. drop k (l .loop .words)) (sym (add-one i))
+                ∙ sym (drop-drop 1 i (l .loop .words))
+                ∙ ap (drop 1) (l .loop .inv .1 .1 .1 .1)
+                ∙ zeros-next 225 i (omega (arith, l .before .pre, here)),
+          ),
         ),
       ),
     )
@@ -115,7 +124,8 @@ returns-2 c =
     let z = l .before .args .z .now in
     let end : length z ≡ l .loop .i = omega (arith, l .loop .inv .0, c .loop-test .left) in (
       sym (l .loop .inv .1 .1 .0 ∙ any-end beyond z (l .loop .i) (omega arith)),
-      λ e. ap (λ k. take k (l .loop .words)) end ∙ l .loop .inv .1 .1 .1 ∙ ap encoded (take-all (l .loop .i) z (omega arith)),
+      λ e. sym (take-append-drop (l .loop .i) (l .loop .words))
+          ∙ ap₂ _++_ (l .loop .inv .1 .1 .1 .0 ∙ ap encoded (take-all (l .loop .i) z (omega arith))) (l .loop .inv .1 .1 .1 .1 ∙ ap (λ k. replicate (225 - k) 0) (sym end)),
     )
 
 pub coordinate-words-spec : {M : Type 1} → statement M

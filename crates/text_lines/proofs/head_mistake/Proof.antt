@@ -1,14 +1,22 @@
 -- The definition's tests, in its order.
 use mathlib.Core.Path.{_≡_, sym, ap, _∙_}
-use mathlib.Core.Bool.{true, false, _&&_}
+use mathlib.Core.Bool.{Bool, true, false, cond, _&&_}
 use lib.Dec.{eqb}
 use mir.Facts.{toZ-ofZ}
 use borrow.Author.Needs.{needs}
 use borrow.Author.Tests.{not-true, not-false, eq-eqb, ne-eqb}
+use Rattle.text_parts.specs.declared.Kind.{Kind}
 use Rattle.text_parts.specs.Parts.{isSemicolon}
 use Rattle.text_rules.specs.Encoding.{fits}
+use Rattle.text_lines.specs.declared.Mistake.{Mistake}
+use Rattle.text_lines.specs.declared.Mistake.the-variants.{None, NoHead, NotThree}
+use Rattle.text_lines.specs.Told.{stopMistake}
 use Rattle.text_lines.proofs.head_mistake.Statement.{statement}
 use Rattle.text_lines.proofs.head_mistake.Tie as tie
+
+-- the definition, of its tests
+abbrev tests : Kind → (semicolon three number d m : Bool) → Mistake
+tests stop semicolon three number d m = cond semicolon (cond three (cond (number && (d && m)) None NoHead) NotThree) (stopMistake stop)
 
 is-semicolon-requires : tie.Need-is-semicolon-requires
 is-semicolon-requires c κs = search needs
@@ -21,7 +29,7 @@ returns c =
     let t = c .before in
     let a = t .before .before .args in
     let stop : isSemicolon (a .stop) ≡ false = sym (t .before .is-semicolon .ensures) ∙ not-true (t .before .is-semicolon .result) (t .if1 .taken) in
-    c .wrong-stop .ensures ∙ sym (λ i. stop i && (eqb (a .count) 3 && (fits 1048575 (a .number) && (fits 15 (a .d) && fits 15 (a .m)))))
+    c .wrong-stop .ensures ∙ sym (λ i. tests (a .stop) (stop i) (eqb (a .count) 3) (fits 1048575 (a .number)) (fits 15 (a .d)) (fits 15 (a .m)))
 
 stops : (c : tie.Else1) → isSemicolon (c .before .before .args .stop) ≡ true
 stops c = sym (c .before .is-semicolon .ensures) ∙ not-false (c .before .is-semicolon .result) (c .if1 .left)
@@ -29,7 +37,7 @@ stops c = sym (c .before .is-semicolon .ensures) ∙ not-false (c .before .is-se
 returns-2 : tie.Need-returns-2
 returns-2 c =
     let a = c .before .before .before .args in
-    sym (λ i. stops (c .before) i && (ne-eqb (a .count) 3 (c .if2 .taken) i && (fits 1048575 (a .number) && (fits 15 (a .d) && fits 15 (a .m)))))
+    sym (λ i. tests (a .stop) (stops (c .before) i) (ne-eqb (a .count) 3 (c .if2 .taken) i) (fits 1048575 (a .number)) (fits 15 (a .d)) (fits 15 (a .m)))
 
 three : (c : tie.Else2) → eqb (c .before .before .before .args .count) 3 ≡ true
 three c = eq-eqb (c .before .before .before .args .count) 3 (c .if2 .left)
@@ -45,7 +53,7 @@ returns-3 c =
     let f = c .before in
     let a = f .before .before .before .before .args in
     let number : fits 1048575 (a .number) ≡ false = sym (number-fits f) ∙ not-true (f .fits2 .result) (c .if3 .taken) in
-    sym (λ i. stops (f .before .before) i && (three (f .before) i && (number i && (fits 15 (a .d) && fits 15 (a .m)))))
+    sym (λ i. tests (a .stop) (stops (f .before .before) i) (three (f .before) i) (number i) (fits 15 (a .d)) (fits 15 (a .m)))
 
 first : (c : tie.Else3) → fits 1048575 (c .before .before .before .before .before .args .number) ≡ true
 first c = sym (number-fits (c .before)) ∙ not-false (c .before .fits2 .result) (c .if3 .left)
@@ -61,7 +69,7 @@ returns-4 c =
     let f = c .before in
     let a = f .before .before .before .before .before .before .args in
     let d : fits 15 (a .d) ≡ false = sym (d-fits f) ∙ not-true (f .fits3 .result) (c .if4 .taken) in
-    sym (λ i. stops (f .before .before .before .before) i && (three (f .before .before .before) i && (first (f .before) i && (d i && fits 15 (a .m)))))
+    sym (λ i. tests (a .stop) (stops (f .before .before .before .before) i) (three (f .before .before .before) i) (first (f .before) i) (d i) (fits 15 (a .m)))
 
 second : (c : tie.Else4) → fits 15 (c .before .before .before .before .before .before .before .args .d) ≡ true
 second c = sym (d-fits (c .before)) ∙ not-false (c .before .fits3 .result) (c .if4 .left)
@@ -77,14 +85,14 @@ returns-5 c =
     let f = c .before in
     let a = f .before .before .before .before .before .before .before .before .args in
     let m : fits 15 (a .m) ≡ false = sym (m-fits f) ∙ not-true (f .fits4 .result) (c .if5 .taken) in
-    sym (λ i. stops (f .before .before .before .before .before .before) i && (three (f .before .before .before .before .before) i && (first (f .before .before .before) i && (second (f .before) i && m i))))
+    sym (λ i. tests (a .stop) (stops (f .before .before .before .before .before .before) i) (three (f .before .before .before .before .before) i) (first (f .before .before .before) i) (second (f .before) i) (m i))
 
 returns-6 : tie.Need-returns-6
 returns-6 c =
     let f = c .before in
     let a = f .before .before .before .before .before .before .before .before .args in
     let m : fits 15 (a .m) ≡ true = sym (m-fits f) ∙ not-false (f .fits4 .result) (c .if5 .left) in
-    sym (λ i. stops (f .before .before .before .before .before .before) i && (three (f .before .before .before .before .before) i && (first (f .before .before .before) i && (second (f .before) i && m i))))
+    sym (λ i. tests (a .stop) (stops (f .before .before .before .before .before .before) i) (three (f .before .before .before .before .before) i) (first (f .before .before .before) i) (second (f .before) i) (m i))
 
 pub head-mistake-spec : {M : Type 1} → statement M
 head-mistake-spec =

@@ -27,7 +27,7 @@ slice-aggregate-count-standing c = search needs
 count-standing-requires : tie.Need-count-standing-requires
 count-standing-requires c κs = omega (arith, c .before .before .before .before .pre .0 .few, c .before .closed .ensures .long)
 
--- the first line, and the room for it and for the entries
+-- the first line
 first : (c : tie.After-count-standing) → let a = c .before .before .before .before .before .args in let ss = closedList (entriesIn (a .c)) in countsLine (a .c .count) (c .count-standing .result) ≡ countsLine (length ss) (length (standingIn ss))
 first c =
     let d = c .before .before in
@@ -35,6 +35,15 @@ first c =
     let s = k .before .before in
     counts-text (s .args .c) (s .pre .0) (k .reduce-all .ensures) (d .closed .ensures) (c .count-standing .ensures)
 
+returns : tie.Need-returns
+returns c =
+    let p = c .before .before in
+    let n = p .before .before .before .before .before in
+    let w = n .before .before in
+    let a = w .before .before .before .before .before .args in
+    puts-then (subst (λ t. Puts t (a .out .now) 0 (n .put-counts .last .0) (n .put-counts .result)) (first w) (n .put-counts .ensures)) (p .put-entries .ensures)
+
+-- the room for it and for the entries
 room : (c : tie.After-count-standing) → let a = c .before .before .before .before .before .args in let ss = closedList (entriesIn (a .c)) in length (countsLine (a .c .count) (c .count-standing .result)) + length (entryLines ss ss) ≤ length (a .out .now)
 room c =
     let s = c .before .before .before .before .before in
@@ -58,14 +67,6 @@ put-entries-requires c κs =
 
 same-length : tie.Need-same-length
 same-length c = search needs
-
-returns : tie.Need-returns
-returns c =
-    let p = c .before .before in
-    let n = p .before .before .before .before .before in
-    let w = n .before .before in
-    let a = w .before .before .before .before .before .args in
-    puts-then (subst (λ t. Puts t (a .out .now) 0 (n .put-counts .last .0) (n .put-counts .result)) (first w) (n .put-counts .ensures)) (p .put-entries .ensures)
 
 pub put-catalogue-spec : {M : Type 1} → statement M
 put-catalogue-spec =

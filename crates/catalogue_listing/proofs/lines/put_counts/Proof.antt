@@ -5,7 +5,7 @@ use native.Mathlib.Omega.{arith}
 use lib.ListN.{length, length-append}
 use borrow.Author.Needs.{needs}
 use Rattle.integers.specs.Decimal.{decimal}
-use Rattle.fold_rules.specs.Listing.{after}
+use Rattle.text_layout.specs.Fields.{after}
 use Rattle.text_output.specs.Puts.{puts-then}
 use Rattle.catalogue_listing.proofs.lines.put_counts.Statement.{statement}
 use Rattle.catalogue_listing.proofs.lines.put_counts.Tie as tie

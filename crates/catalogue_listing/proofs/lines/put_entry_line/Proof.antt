@@ -5,10 +5,16 @@ use native.Mathlib.Omega.{arith}
 use lib.ListN.{length, length-append}
 use borrow.Author.Needs.{needs}
 use Rattle.integers.specs.Decimal.{decimal}
-use Rattle.fold_rules.specs.Listing.{after}
+use Rattle.text_layout.specs.Fields.{after}
 use Rattle.text_output.specs.Puts.{puts-then}
 use Rattle.catalogue_listing.proofs.lines.put_entry_line.Statement.{statement}
 use Rattle.catalogue_listing.proofs.lines.put_entry_line.Tie as tie
+
+-- the text, before the room for it
+returns : tie.Need-returns
+returns c =
+    let p = c .before .before in
+    puts-then (p .before .before .before .before .before .put-decimal .ensures) (p .put-numbers .ensures)
 
 room : (c : tie.Start) → let a = c .args in a .at + length (decimal (a .number)) + length (after (decimal (a .standing) ∷ decimal (a .lead) ∷ decimal (a .passes) ∷ [])) ≤ length (a .out .now)
 room c = let a = c .args in omega (arith, c .pre, length-append (decimal (a .number)) (after (decimal (a .standing) ∷ decimal (a .lead) ∷ decimal (a .passes) ∷ [])))
@@ -26,11 +32,6 @@ put-numbers-requires c κs =
 
 same-length : tie.Need-same-length
 same-length c = search needs
-
-returns : tie.Need-returns
-returns c =
-    let p = c .before .before in
-    puts-then (p .before .before .before .before .before .put-decimal .ensures) (p .put-numbers .ensures)
 
 pub put-entry-line-spec : {M : Type 1} → statement M
 put-entry-line-spec =

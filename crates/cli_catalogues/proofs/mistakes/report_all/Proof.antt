@@ -17,23 +17,23 @@ abbrev μ-loop : tie.MeasureT-loop
 loop-holds : tie.Need-loop-holds Inv-loop μ-loop
 loop-holds c = (omega arith, omega arith)
 
-sub-line-length : tie.Need-sub-line-length Inv-loop μ-loop
-sub-line-length c = search needs
+sub-length-before : tie.Need-sub-length-before Inv-loop μ-loop
+sub-length-before c = search needs
 
-part-line-length-start : tie.Need-part-line-length-start Inv-loop μ-loop
-part-line-length-start c = search needs
+part-length-before-start : tie.Need-part-length-before-start Inv-loop μ-loop
+part-length-before-start c = search needs
 
-part-line-length-end : tie.Need-part-line-length-end Inv-loop μ-loop
-part-line-length-end c = search needs
+part-length-before-end : tie.Need-part-length-before-end Inv-loop μ-loop
+part-length-before-end c = search needs
 
-line-length-requires : tie.Need-line-length-requires Inv-loop μ-loop
-line-length-requires c κs = search needs
+length-before-requires : tie.Need-length-before-requires Inv-loop μ-loop
+length-before-requires c κs = search needs
 
-within : (c : tie.After-line-length Inv-loop μ-loop) → c .before .before .before .loop .from + c .line-length .result ≤ length (c .before .before .before .before .before .args .text .now)
+within : (c : tie.After-length-before Inv-loop μ-loop) → c .before .before .before .loop .from + c .length-before .result ≤ length (c .before .before .before .before .before .args .text .now)
 within c =
     let from = c .before .before .before .loop .from in
     let text = c .before .before .before .before .before .args .text .now in
-    omega (arith, c .line-length .ensures .1, ap length (to-end from text), length-drop from text, c .before .before .loop-test .taken)
+    omega (arith, c .length-before .ensures .1, ap length (to-end from text), length-drop from text, c .before .before .loop-test .taken)
 
 add-end : tie.Need-add-end Inv-loop μ-loop
 add-end c = omega (arith, within c, c .before .before .before .before .before .pre)
@@ -72,10 +72,10 @@ report-all-spec =
     Inv-loop
     μ-loop
     loop-holds
-    sub-line-length
-    part-line-length-start
-    part-line-length-end
-    line-length-requires
+    sub-length-before
+    part-length-before-start
+    part-length-before-end
+    length-before-requires
     add-end
     sub-check
     part-check-start

@@ -1,4 +1,4 @@
--- i bytes of the line are passed, and those from i on are to come.
+-- i bytes are passed, and those from i on are to come.
 use mathlib.Core.Path.{_≡_, ap}
 use mathlib.Core.Bool.{not}
 use Prim.Native.Nat.{_+_, _-_, _≤_}
@@ -7,15 +7,15 @@ use lib.ListN.{length, getD, drop}
 use borrow.Author.Needs.{needs}
 use borrow.Author.Tests.{eq-eqb, ne-eqb}
 use Rattle.text_parts.specs.NumberLaws.{leading-next, leading-end}
-use Rattle.text_encoding.specs.Splits.{inLine, lineLength}
-use Rattle.text_encoding.proofs.line_length.Statement.{statement}
-use Rattle.text_encoding.proofs.line_length.Tie as tie
+use Rattle.text_lines.specs.Lengths.{isOther, lengthBefore}
+use Rattle.text_lines.proofs.length_before.Statement.{statement}
+use Rattle.text_lines.proofs.length_before.Tie as tie
 
 abbrev Inv-loop : tie.InvT-loop
-Inv-loop s i₀ i = (i ≤ length s) × (lineLength s ≡ i + lineLength (drop i s))
+Inv-loop s b i₀ i = (i ≤ length s) × (lengthBefore b s ≡ i + lengthBefore b (drop i s))
 
 abbrev μ-loop : tie.MeasureT-loop
-μ-loop s i₀ i = length s - i
+μ-loop s b i₀ i = length s - i
 
 loop-holds : tie.Need-loop-holds Inv-loop μ-loop
 loop-holds c = (omega arith, omega arith)
@@ -27,7 +27,8 @@ returns : tie.Need-returns Inv-loop μ-loop
 returns c =
     let l = c .before .before .before in
     let s = l .before .args .s .now in
-    (omega (arith, l .loop .inv .1, leading-next inLine s (l .loop .i) (c .before .before .loop-test .taken) (ap not (eq-eqb (getD s (l .loop .i) 0) 10 (c .if1 .taken)))), omega (arith, l .loop .inv .0))
+    let b = l .before .args .b in
+    (omega (arith, l .loop .inv .1, leading-next (isOther b) s (l .loop .i) (c .before .before .loop-test .taken) (ap not (eq-eqb (getD s (l .loop .i) 0) b (c .if1 .taken)))), omega (arith, l .loop .inv .0))
 
 add-i : tie.Need-add-i Inv-loop μ-loop
 add-i c = search needs
@@ -39,17 +40,19 @@ loop-again : tie.Need-loop-again Inv-loop μ-loop
 loop-again c =
     let l = c .before .before .before in
     let s = l .before .args .s .now in
+    let b = l .before .args .b in
     let here = c .before .before .loop-test .taken in
-    (omega (arith, here), omega (arith, l .loop .inv .1, leading-next inLine s (l .loop .i) here (ap not (ne-eqb (getD s (l .loop .i) 0) 10 (c .if1 .left)))))
+    (omega (arith, here), omega (arith, l .loop .inv .1, leading-next (isOther b) s (l .loop .i) here (ap not (ne-eqb (getD s (l .loop .i) 0) b (c .if1 .left)))))
 
 returns-2 : tie.Need-returns-2 Inv-loop μ-loop
 returns-2 c =
     let l = c .before in
+    let b = l .before .args .b in
     let end = c .loop-test .left in
-    (omega (arith, l .loop .inv .1, leading-end inLine (l .before .args .s .now) (l .loop .i) (omega (arith, end))), omega (arith, l .loop .inv .0))
+    (omega (arith, l .loop .inv .1, leading-end (isOther b) (l .before .args .s .now) (l .loop .i) (omega (arith, end))), omega (arith, l .loop .inv .0))
 
-pub line-length-spec : {M : Type 1} → statement M
-line-length-spec =
+pub length-before-spec : {M : Type 1} → statement M
+length-before-spec =
     tie.close
     (tie.spec
     Inv-loop

@@ -1,0 +1,3 @@
+-- How text is laid out. Definitions: Fields.
+pub mod Fields
+pub mod Sizes
