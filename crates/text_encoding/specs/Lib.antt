@@ -1,4 +1,5 @@
--- The words that a text tells: stored as far as there is room, a line after the other. What `tell` says is defined at the beginning of Tells.
+-- The words that a text tells. Encoded defines what `tell` says of it; the rest proves it, a line after the other.
+pub mod Encoded
 pub mod Stores
 pub mod Splits
 pub mod Tells

@@ -1,21 +1,11 @@
--- Words stored from index k on, as many as the output has room for.
+-- Words stored one after another, as many as the output has room for.
 use mathlib.Core.Path.{_≡_, refl, sym, ap, _∙_}
 use mathlib.Core.List.{List, [], _∷_, _++_}
 use Prim.Native.Nat.{ℕ, zero, suc, _+_, _-_, _*_, _/_, _≤_}
 use native.Mathlib.Omega.{arith}
 use lib.ListN.{length, take, length-append, length-take}
 use Rattle.catalogue_writer.specs.Over.{overWords, length-over, over-none, over-more}
-
--- how many words there is room for
-abbrev pub roomIn : List ℕ → ℕ
-roomIn out = length out / 4
-
-abbrev pub kept : List ℕ → ℕ → List ℕ → List ℕ
-kept out k ws = take (roomIn out - k) ws
-
-pub record Stores (ws before : List ℕ) (k : ℕ) (after : List ℕ) (end : ℕ) : Type 0 where
-  pub bytes : after ≡ overWords before k (kept before k ws)
-  pub place : end ≡ k + length (kept before k ws)
+use Rattle.text_encoding.specs.Encoded.{roomIn, kept, Stores}
 
 -- an index that is in the output, or behind its last word
 pub record Room (out : List ℕ) (k : ℕ) : Type 0 where

@@ -1,4 +1,4 @@
--- What `tell` says of a text, and how far it is told: the words of its first lines, and what the others will add.
+-- How far a text is told: the words of its first lines, and what the others will add.
 use mathlib.Core.Path.{_≡_, refl, sym, ap, ap₂, _∙_, subst}
 use mathlib.Core.Bool.{Bool, true, false, cond, _||_}
 use mathlib.Core.List.{List, [], _∷_, _++_, map, map-append, append-nil, append-assoc}
@@ -10,37 +10,14 @@ use lib.ListN.{length, take, drop, drop-of-length-le, length-append}
 use lib.Seq.{drop-drop}
 use borrow.Author.Tests.{lt-ltb, le-ltb}
 use Rattle.catalogue_rules.specs.Word.{Word, end, encode}
-use Rattle.text_rules.specs.Encoding.{lineFrom, linesOf, content, isEmpty, isWrong, listed, lineWrong, lineEntry, anyWrong, entriesFrom, joined, ended}
+use Rattle.text_rules.specs.Encoding.{lineFrom, linesOf, content, isEmpty, isWrong, listed, lineWrong, lineEntry, anyWrong, entriesFrom, joined, ended, encoded}
 use Rattle.text_lines.specs.declared.Line.{Line}
 use Rattle.text_lines.specs.Told.{isNone, wordsIn, encodedLine, lineRead}
 use Rattle.text_lines.specs.ToldLaws.{line-blank, line-told}
 use Rattle.text_encoding.specs.declared.Told.{Told}
-use Rattle.text_encoding.specs.Stores.{Room, Stores, stores-none, stores-room, stores-then}
+use Rattle.text_encoding.specs.Encoded.{Stores, mostText, isLong, textEntries, textWords, textWrong, Tells}
+use Rattle.text_encoding.specs.Stores.{Room, stores-none, stores-room, stores-then}
 use Rattle.text_encoding.specs.Splits.{lineLength, entries-split, wrong-split}
-
--- ---- the definition
-
--- a longer text is not read
-abbrev pub mostText : ℕ
-mostText = 65535
-
-abbrev pub isLong : List ℕ → Bool
-isLong text = ltb mostText (length text)
-
-abbrev pub textEntries : List ℕ → List (List Word)
-textEntries text = cond (isLong text) [] (entriesFrom (linesOf text))
-
-abbrev pub textWords : List ℕ → List ℕ
-textWords text = cond (isLong text) [] (map encode (ended (entriesFrom (linesOf text))))
-
-abbrev pub textWrong : List ℕ → Bool
-textWrong text = cond (isLong text) true (anyWrong (linesOf text))
-
--- the words of the lines that are right, as far as there is room; how many entries there are, and whether a line is wrong
-pub record Tells (text before after : List ℕ) (r : Told) : Type 0 where
-  pub stored : Stores (textWords text) before 0 after (r .words)
-  pub counted : r .entries ≡ length (textEntries text)
-  pub wrong : r .wrong ≡ textWrong text
 
 -- ---- one line more
 
@@ -194,3 +171,22 @@ going-ends {text} {before} {from} {out} {e} {after} {k} {w} small room g h f p =
       counted = g .counted ∙ ap length (sym all) ∙ sym (ap (λ b. length (cond b [] (entriesFrom (linesOf text)))) short);
       wrong = sym bad ∙ sym (ap (λ b. cond b true (anyWrong (linesOf text))) short);
     }
+
+-- ---- as the rules of text have it
+
+-- a text that tells words is right, and these are the words; so what `file-back` says of `encoded` holds of what is stored
+pub told-words : (text : List ℕ) (ws : List Word) → length text ≤ mostText → encoded text ≡ some ws → (textWrong text ≡ false) × (textWords text ≡ map encode ws)
+unfolding encoded
+told-words text ws small e = go (anyWrong (linesOf text)) refl
+  where
+    short : isLong text ≡ false
+    short = le-ltb mostText (length text) small
+
+    words : List Word
+    words = ended (entriesFrom (linesOf text))
+
+    go : (b : Bool) → anyWrong (linesOf text) ≡ b → (textWrong text ≡ false) × (textWords text ≡ map encode ws)
+    go true f = absurd (Option·some-ne-none ws (sym (sym (ap (λ b. cond b none (some words)) f) ∙ e)))
+    go false f =
+        let same : words ≡ ws = ap (λ o. elim o as (λ o. List Word) [ none ↦ [] | some l ↦ l ]) (sym (ap (λ b. cond b none (some words)) f) ∙ e) in
+        ((λ i. cond (short i) true (f i)), ap (λ b. cond b [] (map encode words)) short ∙ ap (map encode) same)

@@ -18,7 +18,7 @@ use Rattle.input_checks.specs.Any.{beyond}
 use Rattle.text_parts.specs.declared.Kind.{Kind}
 use Rattle.text_parts.specs.Parts.{isEnd, isSemicolon, Taken, takenAt}
 use Rattle.text_rules.specs.Encoding.{fits, at, isSee, seeFrom, lastFrom, before, areCoordinates, coordinatesFrom, mostNumbers, isHead, lineFrom}
-use Rattle.text_lines.specs.Told.{encodedLine, headed, isLast, seeTold, seeNumber}
+use Rattle.text_lines.specs.Told.{encodedLine, headed, isLast, seeTold, lastSee}
 
 -- ---- what a line tells, as numbers
 
@@ -94,17 +94,17 @@ module _ (n : ℕ) (p : Taken) (s : List ℕ) where
 
 -- ---- the see word, 0 for none
 
-see-word : (p : Taken) {b : Bool} → isSee p ≡ b → seeNumber p ≡ cond b (encode (see (at (p .numbers) 0))) 0
+see-word : (p : Taken) {b : Bool} → isSee p ≡ b → lastSee p ≡ cond b (encode (see (at (p .numbers) 0))) 0
 see-word p e = ap (λ b. cond b (encode (see (at (p .numbers) 0))) 0) e
 
-pub see-none : (p : Taken) → isSee p ≡ false → 0 ≡ seeNumber p
+pub see-none : (p : Taken) → isSee p ≡ false → 0 ≡ lastSee p
 see-none p e = sym (see-word p e)
 
-pub see-some : (p : Taken) → isSee p ≡ true → encode (see (at (p .numbers) 0)) ≡ seeNumber p
+pub see-some : (p : Taken) → isSee p ≡ true → encode (see (at (p .numbers) 0)) ≡ lastSee p
 see-some p e = sym (see-word p e)
 
 -- so it tells whether there is one
-pub is-none : (p : Taken) → seeNumber p ≡ 0 → isSee p ≡ false
+pub is-none : (p : Taken) → lastSee p ≡ 0 → isSee p ≡ false
 unfolding encode
 is-none p e = go (isSee p) refl
   where
@@ -112,14 +112,14 @@ is-none p e = go (isSee p) refl
     go true f = absurd (omega (arith, see-some p f, e))
     go false f = f
 
-pub is-some : (p : Taken) → seeNumber p ≢ 0 → isSee p ≡ true
+pub is-some : (p : Taken) → lastSee p ≢ 0 → isSee p ≡ true
 is-some p h = go (isSee p) refl
   where
     go : (b : Bool) → isSee p ≡ b → isSee p ≡ true
     go true f = f
     go false f = absurd (h (sym (see-none p f)))
 
-pub see-told : (p : Taken) {n : ℕ} → n ≡ seeNumber p → n ≢ 0 → seeTold n ≡ map encode (see (at (p .numbers) 0) ∷ [])
+pub see-told : (p : Taken) {n : ℕ} → n ≡ lastSee p → n ≢ 0 → seeTold n ≡ map encode (see (at (p .numbers) 0) ∷ [])
 see-told p {n} e h =
     ap (λ b. cond b [] (n ∷ [])) (ne-eqb n 0 h) ∙ ap (λ w. w ∷ []) (e ∙ sym (see-some p (is-some p (λ z. h (e ∙ z)))))
 

@@ -63,8 +63,8 @@ abbrev pub isLast : Kind → Bool
 isLast k = isEnd k || isSemicolon k
 
 -- the see word of the last part, 0 for none
-abbrev pub seeNumber : Taken → ℕ
-seeNumber p = cond (isSee p) (encode (see (at (p .numbers) 0))) 0
+abbrev pub lastSee : Taken → ℕ
+lastSee p = cond (isSee p) (encode (see (at (p .numbers) 0))) 0
 
 abbrev pub seeRead : ℕ → List ℤ → ℕ → Line
 seeRead w zs n = cond (eqb n 0) (wrongLine NoSee) (rightLine w zs n)
@@ -75,7 +75,7 @@ partsRead w n p s =
     cond (isLast (p .stop))
     (cond (eqb (length (p .numbers)) n)
     (cond (any beyond (p .numbers)) (wrongLine Beyond)
-    (cond (isEnd (p .stop)) (rightLine w (p .numbers) 0) (seeRead w (p .numbers) (seeNumber (takenAt 1 (drop (p .length) s))))))
+    (cond (isEnd (p .stop)) (rightLine w (p .numbers) 0) (seeRead w (p .numbers) (lastSee (takenAt 1 (drop (p .length) s))))))
     (wrongLine NotAll))
     (wrongLine (stopMistake (p .stop)))
 

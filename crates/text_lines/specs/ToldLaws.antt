@@ -24,7 +24,7 @@ use Rattle.text_rules.specs.Encoding.{fits, at, coordinatesFrom, mostNumbers, i
 use Rattle.text_lines.specs.declared.Mistake.{Mistake}
 use Rattle.text_lines.specs.declared.Mistake.the-variants.{None, NotThree, NoHead, NotAll, Beyond, NoSee}
 use Rattle.text_lines.specs.declared.Line.{Line}
-use Rattle.text_lines.specs.Told.{isNone, wrongLine, blankLine, rightLine, stopMistake, headMistake, isLast, seeNumber, seeRead, partsRead, headRead, contentRead, textRead, lineRead, seeTold, told, encodedLine, headed}
+use Rattle.text_lines.specs.Told.{isNone, wrongLine, blankLine, rightLine, stopMistake, headMistake, isLast, lastSee, seeRead, partsRead, headRead, contentRead, textRead, lineRead, seeTold, told, encodedLine, headed}
 use Rattle.text_lines.specs.Parts.{told-none, told-some, head-first, stops-wrong, other-count, some-beyond, with-none, no-see, with-see, is-none, is-some, see-told, no-head, with-head}
 
 -- ---- the head
@@ -60,32 +60,32 @@ module _ (w n : ℕ) (p : Taken) (s : List ℕ) where
   claim l = told l ≡ headed w (encodedLine (coordinatesFrom n p s))
 
   module _ (count : length (p .numbers) ≡ n) (near : any beyond (p .numbers) ≡ false) (last : isLast (p .stop) ≡ true) (more : isEnd (p .stop) ≡ false) where
-    with-last : claim (seeRead w (p .numbers) (seeNumber last-part))
-    with-last = go (ℕ-discrete (seeNumber last-part) 0)
+    with-last : claim (seeRead w (p .numbers) (lastSee last-part))
+    with-last = go (ℕ-discrete (lastSee last-part) 0)
       where
-        go : Dec (seeNumber last-part ≡ 0) → claim (seeRead w (p .numbers) (seeNumber last-part))
+        go : Dec (lastSee last-part ≡ 0) → claim (seeRead w (p .numbers) (lastSee last-part))
         go (yes e) =
-            ap (λ b. told (cond b (wrongLine NoSee) (rightLine w (p .numbers) (seeNumber last-part)))) (eq-eqb _ _ e)
+            ap (λ b. told (cond b (wrongLine NoSee) (rightLine w (p .numbers) (lastSee last-part)))) (eq-eqb _ _ e)
             ∙ told-none w (no-see n p s count near last more (is-none last-part e))
         go (no h) =
-            ap (λ b. told (cond b (wrongLine NoSee) (rightLine w (p .numbers) (seeNumber last-part)))) (ne-eqb _ _ h)
-            ∙ right-told w (p .numbers) (seeNumber last-part)
+            ap (λ b. told (cond b (wrongLine NoSee) (rightLine w (p .numbers) (lastSee last-part)))) (ne-eqb _ _ h)
+            ∙ right-told w (p .numbers) (lastSee last-part)
             ∙ told-some w (map coordinateWord (p .numbers)) (see (at (last-part .numbers) 0) ∷ []) (with-see n p s count near last more (is-some last-part h)) refl (see-told last-part refl h)
 
   module _ (count : length (p .numbers) ≡ n) (near : any beyond (p .numbers) ≡ false) (last : isLast (p .stop) ≡ true) where
-    after-coordinates : (b : Bool) → isEnd (p .stop) ≡ b → claim (cond b (rightLine w (p .numbers) 0) (seeRead w (p .numbers) (seeNumber last-part)))
+    after-coordinates : (b : Bool) → isEnd (p .stop) ≡ b → claim (cond b (rightLine w (p .numbers) 0) (seeRead w (p .numbers) (lastSee last-part)))
     after-coordinates true e = right-told w (p .numbers) 0 ∙ told-some w (map coordinateWord (p .numbers)) [] (with-none n p s count near e) refl refl
     after-coordinates false e = with-last count near last e
 
   module _ (count : length (p .numbers) ≡ n) (last : isLast (p .stop) ≡ true) where
     in-limit : (b : Bool) → any beyond (p .numbers) ≡ b
-        → claim (cond b (wrongLine Beyond) (cond (isEnd (p .stop)) (rightLine w (p .numbers) 0) (seeRead w (p .numbers) (seeNumber last-part))))
+        → claim (cond b (wrongLine Beyond) (cond (isEnd (p .stop)) (rightLine w (p .numbers) 0) (seeRead w (p .numbers) (lastSee last-part))))
     in-limit true e = told-none w (some-beyond n p s count e)
     in-limit false e = after-coordinates count e last (isEnd (p .stop)) refl
 
   module _ (last : isLast (p .stop) ≡ true) where
     abbrev counted : Line
-    counted = cond (any beyond (p .numbers)) (wrongLine Beyond) (cond (isEnd (p .stop)) (rightLine w (p .numbers) 0) (seeRead w (p .numbers) (seeNumber last-part)))
+    counted = cond (any beyond (p .numbers)) (wrongLine Beyond) (cond (isEnd (p .stop)) (rightLine w (p .numbers) 0) (seeRead w (p .numbers) (lastSee last-part)))
 
     so-many : Dec (length (p .numbers) ≡ n) → claim (cond (eqb (length (p .numbers)) n) counted (wrongLine NotAll))
     so-many (yes e) = ap (λ b. told (cond b counted (wrongLine NotAll))) (eq-eqb _ _ e) ∙ in-limit e last (any beyond (p .numbers)) refl
@@ -95,7 +95,7 @@ module _ (w n : ℕ) (p : Taken) (s : List ℕ) where
   parts-told = go (isLast (p .stop)) refl
     where
       go : (b : Bool) → isLast (p .stop) ≡ b
-          → claim (cond b (cond (eqb (length (p .numbers)) n) (cond (any beyond (p .numbers)) (wrongLine Beyond) (cond (isEnd (p .stop)) (rightLine w (p .numbers) 0) (seeRead w (p .numbers) (seeNumber last-part)))) (wrongLine NotAll)) (wrongLine (stopMistake (p .stop))))
+          → claim (cond b (cond (eqb (length (p .numbers)) n) (cond (any beyond (p .numbers)) (wrongLine Beyond) (cond (isEnd (p .stop)) (rightLine w (p .numbers) 0) (seeRead w (p .numbers) (lastSee last-part)))) (wrongLine NotAll)) (wrongLine (stopMistake (p .stop))))
       go true e = so-many e (ℕ-discrete (length (p .numbers)) n)
       go false e = ap (λ b. cond b (some (0 ∷ [])) none) (stop-wrong (p .stop)) ∙ told-none w (stops-wrong n p s e)
 
@@ -156,7 +156,7 @@ content-shown s = go (isNone (mistake s)) refl
     go : (b : Bool) → isNone (mistake s) ≡ b → contentRead s .blank ≡ false
     go true e =
         let p = takenAt mostNumbers (rest s) in
-        let seen = seeNumber (takenAt 1 (drop (p .length) (rest s))) in
+        let seen = lastSee (takenAt 1 (drop (p .length) (rest s))) in
         ap (λ l. l .blank) (sym (content-right s e))
         ∙ parts-shown (isLast (p .stop)) (eqb (length (p .numbers)) (asked s)) (any beyond (p .numbers)) (isEnd (p .stop)) (eqb seen 0) (p .stop) (headWord s) seen (p .numbers)
     go false e = ap (λ l. l .blank) (sym (content-wrong s e))

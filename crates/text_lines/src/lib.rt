@@ -9,7 +9,7 @@ ghost use Rattle.catalogue_rules.specs.Laws.ReadVectors.{encoded};
 ghost use Rattle.input_checks.specs.Any.{beyond};
 ghost use Rattle.text_parts.specs.Parts.{takenAt};
 ghost use Rattle.text_rules.specs.Encoding.{fits};
-ghost use Rattle.text_lines.specs.Told.{isNone, noWords, wrongLine, stopMistake, headMistake, isLast, seeNumber, partsRead, contentRead, textRead, lineRead};
+ghost use Rattle.text_lines.specs.Told.{isNone, noWords, wrongLine, stopMistake, headMistake, isLast, lastSee, partsRead, contentRead, textRead, lineRead};
 ghost use Rattle.text_lines.specs.Lengths.{lengthBefore};
 use text_parts::Kind;
 
@@ -166,7 +166,7 @@ fn coordinate_words(z: &[i64]) -> Words
 
 // The see word that the last part tells, 0 for none.
 fn see_of(s: &[u8]) -> u32
-    ensures { λ r. ⌜ r ≡ seeNumber (takenAt 1 (now (s .entry))) ⌝ }
+    ensures { λ r. ⌜ r ≡ lastSee (takenAt 1 (now (s .entry))) ⌝ }
 {
     let mut z = [0i64; 1];
     let part = text_parts::read_part(s, &mut z);

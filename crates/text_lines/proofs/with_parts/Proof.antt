@@ -16,7 +16,7 @@ use Rattle.text_parts.specs.Parts.{isEnd, Taken, takenAt}
 use Rattle.text_lines.specs.declared.Mistake.{Mistake}
 use Rattle.text_lines.specs.declared.Mistake.the-variants.{None, NotAll, Beyond, NoSee}
 use Rattle.text_lines.specs.declared.Line.{Line}
-use Rattle.text_lines.specs.Told.{wrongLine, rightLine, stopMistake, isLast, seeNumber, seeRead}
+use Rattle.text_lines.specs.Told.{wrongLine, rightLine, stopMistake, isLast, lastSee, seeRead}
 use Rattle.text_lines.specs.Fields.{to-end}
 use Rattle.text_lines.proofs.with_parts.Statement.{statement}
 use Rattle.text_lines.proofs.with_parts.Tie as tie
@@ -28,7 +28,7 @@ tests head p last all far ended none see =
 
 -- the last part
 abbrev seeIn : Taken → List ℕ → ℕ
-seeIn p s = seeNumber (takenAt 1 (drop (p .length) s))
+seeIn p s = lastSee (takenAt 1 (drop (p .length) s))
 
 slice-aggregate-read-part : tie.Need-slice-aggregate-read-part
 slice-aggregate-read-part c = search needs
@@ -171,10 +171,10 @@ wrong-requires-4 : tie.Need-wrong-requires-4
 wrong-requires-4 c κs = search needs
 
 -- the last part
-seen : (c : tie.After-see-of) → let s = c .before .before .before .before .before .before .before .before .before .before .before .before .before .before .before .args .s .now in c .see-of .result ≡ seeNumber (takenAt 1 (drop (takenAt 225 s .length) s))
+seen : (c : tie.After-see-of) → let s = c .before .before .before .before .before .before .before .before .before .before .before .before .before .before .before .args .s .now in c .see-of .result ≡ lastSee (takenAt 1 (drop (takenAt 225 s .length) s))
 seen c =
     let s = c .before .before .before .before .before .before .before .before .before .before .before .before .before .before .before .args .s .now in
-    c .see-of .ensures ∙ ap (λ l. seeNumber (takenAt 1 l)) (to-end (c .before .before .before .before .before .before .before .before .before .before .before .before .read-part .result .length) s) ∙ (λ i. seeNumber (takenAt 1 (drop (c .before .before .before .before .before .before .before .before .before .before .before .before .read-part .ensures .0 i .length) s)))
+    c .see-of .ensures ∙ ap (λ l. lastSee (takenAt 1 l)) (to-end (c .before .before .before .before .before .before .before .before .before .before .before .before .read-part .result .length) s) ∙ (λ i. lastSee (takenAt 1 (drop (c .before .before .before .before .before .before .before .before .before .before .before .before .read-part .ensures .0 i .length) s)))
 
 returns-5 : tie.Need-returns-5
 returns-5 c =
