@@ -95,7 +95,14 @@ pub fn put_line(out: &mut [u8], at: usize, letter: u8, row: [i64; 4], n: usize) 
 }
 
 // A line for each of the first d rows, of n numbers each.
-pub fn put_lines(out: &mut [u8], at: usize, letter: u8, rows: [[i64; 4]; 4], d: usize, n: usize) -> usize
+pub fn put_lines(
+    out: &mut [u8],
+    at: usize,
+    letter: u8,
+    rows: [[i64; 4]; 4],
+    d: usize,
+    n: usize,
+) -> usize
     requires { ⌜ at + 344 ≤ length (now out) ⌝ }
     ensures { λ r. ⌜ Puts (joined (rowLine letter n) (take d rows)) (now (out .entry)) at (now (out .exit)) r ⌝ }
     ensures { λ r. ⌜ r ≤ at + 344 ⌝ }
