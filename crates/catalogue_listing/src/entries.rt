@@ -31,14 +31,7 @@ fn put_vectors(out: &mut [u8], at: usize, k: ReducedEntry) -> usize
 }
 
 // An entry's line, and its vectors if it stands.
-fn put_entry(
-    out: &mut [u8],
-    at: usize,
-    number: u32,
-    standing: u32,
-    lead: u32,
-    k: ReducedEntry,
-) -> usize
+fn put_entry(out: &mut [u8], at: usize, number: u32, standing: u32, lead: u32, k: ReducedEntry) -> usize
     requires { ⌜ Full k ⌝ }
     requires { ⌜ at + length (entryText number standing lead (k .passes) (vectorsOf k)) ≤ length (now out) ⌝ }
     ensures { λ r. ⌜ Puts (entryText number standing lead (k .passes) (vectorsOf k)) (now (out .entry)) at (now (out .exit)) r ⌝ }
