@@ -1,5 +1,6 @@
 // The refusals, a sentence each, and what goes to standard error. A write that fails there can be said nowhere.
 use libc::STDERR_FILENO;
+use libc::STDOUT_FILENO;
 
 // Writes what a refusal's number means.
 fn meaning(fd: i32, number: u64) -> bool {
@@ -52,4 +53,28 @@ pub fn say_error(line: u64, what: &[u8]) {
     io::write_all(STDERR_FILENO, b": ");
     io::write_all(STDERR_FILENO, what);
     io::write_all(STDERR_FILENO, b"\n");
+}
+
+// Writes a refusal's number and what it means.
+fn row(number: u64) -> bool {
+    if !io::print_decimal(STDOUT_FILENO, number) {
+        return false;
+    }
+    if !io::write_all(STDOUT_FILENO, b" ") {
+        return false;
+    }
+    if !meaning(STDOUT_FILENO, number) {
+        return false;
+    }
+    io::write_all(STDOUT_FILENO, b"\n")
+}
+
+// Writes the table of refusals, a line each.
+pub fn table() {
+    for number in 1..18 {
+        if !row(number) {
+            os::fail(b"raghymtos: cannot write");
+            return;
+        }
+    }
 }
