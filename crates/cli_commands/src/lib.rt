@@ -36,7 +36,7 @@ fn with_word(o: Options, word: &[u8]) -> Options {
     }
 }
 
-fn options(first: &[u8], second: &[u8]) -> Options {
+fn options_of(first: &[u8], second: &[u8]) -> Options {
     let none = Options {
         numbered: false,
         basis: false,
@@ -47,7 +47,7 @@ fn options(first: &[u8], second: &[u8]) -> Options {
 
 // Answers a stream of requests for reductions.
 fn reduce(first: &[u8], second: &[u8]) {
-    let o = options(first, second);
+    let o = options_of(first, second);
     if !o.fit || o.basis {
         help::say_usage();
         return;
@@ -57,7 +57,7 @@ fn reduce(first: &[u8], second: &[u8]) {
 
 // Answers a stream of requests for nearest vectors.
 fn nearest(first: &[u8], second: &[u8]) {
-    let o = options(first, second);
+    let o = options_of(first, second);
     if !o.fit {
         help::say_usage();
         return;
