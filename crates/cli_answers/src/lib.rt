@@ -1,80 +1,104 @@
-// Answers written to standard output, one space between fields and a newline after every line. What is written, no contract can
-// say: the answers themselves are under contract in the engine.
-use libc::STDOUT_FILENO;
+// Answers as text, put into lent bytes: one space between fields, a newline after every line. Each function puts its own from a place on, asks
+// for the room that the longest answer of its kind takes, and gives the place after it.
+ghost use Prim.Native.Nat.{_+_, _≤_};
+ghost use lib.ListN.{length};
+ghost use Rattle.text_output.specs.Puts.{Puts};
+ghost use Rattle.cli_answers.specs.Answers.{refusedText, errorText, reducedText, reductionText, foundText, nearestText, basisText};
 
-// Writes `refused`, the refusal's number and its place.
-pub fn refused(number: u64, place: u64) {
-    io::write_all(STDOUT_FILENO, b"refused ");
-    cli_output::number(number);
-    io::write_all(STDOUT_FILENO, b" ");
-    cli_output::number(place);
-    cli_output::newline();
+pub mod refusals;
+
+// No answer takes more bytes.
+pub const MOST_BYTES: usize = 1145;
+
+// A refusal's number and its place.
+pub fn put_refused(out: &mut [u8], at: usize, number: u64, place: u64) -> usize
+    requires { ⌜ at + 50 ≤ length (now out) ⌝ }
+    ensures { λ r. ⌜ Puts (refusedText number place) (now (out .entry)) at (now (out .exit)) r ⌝ }
+    ensures { λ r. ⌜ r ≤ at + 50 ⌝ }
+{
+    let first = text_output::put_bytes(out, at, b"refused ");
+    let second = cli_output::put_number(out, first, number);
+    let third = text_output::put_byte(out, second, b' ');
+    let fourth = cli_output::put_number(out, third, place);
+    text_output::put_byte(out, fourth, b'\n')
 }
 
-// Writes what is wrong with a line of the input.
-pub fn error(line: u64, what: &[u8]) {
-    io::write_all(STDOUT_FILENO, b"error ");
-    cli_output::number(line);
-    io::write_all(STDOUT_FILENO, b": ");
-    io::write_all(STDOUT_FILENO, what);
-    cli_output::newline();
+// What is wrong with a line of the input.
+pub fn put_error(out: &mut [u8], at: usize, line: u64, what: &[u8]) -> usize
+    requires { ⌜ at + 29 + length (now what) ≤ length (now out) ⌝ }
+    ensures { λ r. ⌜ Puts (errorText line (now (what .entry))) (now (out .entry)) at (now (out .exit)) r ⌝ }
+    ensures { λ r. ⌜ r ≤ at + 29 + length (now (what .entry)) ⌝ }
+{
+    let first = text_output::put_bytes(out, at, b"error ");
+    let second = cli_output::put_number(out, first, line);
+    let third = text_output::put_bytes(out, second, b": ");
+    let fourth = text_output::put_bytes(out, third, what);
+    text_output::put_byte(out, fourth, b'\n')
 }
 
-// Writes a line: its name and the first n numbers of r.
-fn line(name: &[u8], r: [i64; 4], n: usize) {
-    io::write_all(STDOUT_FILENO, name);
-    cli_output::row(r, n);
-    cli_output::newline();
-}
-
-// Writes a line for each of the first d rows of t, of n numbers each.
-fn lines(name: &[u8], t: [[i64; 4]; 4], d: usize, n: usize) {
-    for i in 0..4 {
-        if i < d {
-            line(name, t[i], n);
-        }
-    }
-}
-
-// Writes `reduced`, the passes and the squared lengths, then the reduced vectors, U and V, a line for each row.
-fn reduced(a: engine::Reduction, d: usize, m: usize) {
-    io::write_all(STDOUT_FILENO, b"reduced ");
-    cli_output::number(a.passes);
+// The passes and the squared lengths, then the reduced vectors, U and V, a line for each row.
+fn put_reduced(out: &mut [u8], at: usize, a: engine::Reduction, d: usize, m: usize) -> usize
+    requires { ⌜ at + 1145 ≤ length (now out) ⌝ }
+    ensures { λ r. ⌜ Puts (reducedText d m a) (now (out .entry)) at (now (out .exit)) r ⌝ }
+    ensures { λ r. ⌜ r ≤ at + 1145 ⌝ }
+{
+    let first = text_output::put_bytes(out, at, b"reduced ");
+    let second = cli_output::put_number(out, first, a.passes);
     let squares = a.squares;
-    line(b"", squares, d);
+    let third = cli_output::put_row(out, second, squares, d);
     let vectors = a.vectors;
-    lines(b"v", row_operations::vectors_of(vectors), d, m);
+    let fourth = cli_output::put_lines(out, third, b'v', row_operations::vectors_of(vectors), d, m);
     let u = a.u;
-    lines(b"U", row_operations::tables_of(u), d, d);
+    let fifth = cli_output::put_lines(out, fourth, b'U', row_operations::tables_of(u), d, d);
     let v = a.v;
-    lines(b"V", row_operations::tables_of(v), d, d);
+    cli_output::put_lines(out, fifth, b'V', row_operations::tables_of(v), d, d)
 }
 
-// Writes the answer to a reduction of d vectors of m coordinates.
-pub fn reduction(a: engine::Reduction, d: usize, m: usize) {
+// The answer to a reduction of d vectors of m coordinates.
+pub fn put_reduction(out: &mut [u8], at: usize, a: engine::Reduction, d: usize, m: usize) -> usize
+    requires { ⌜ at + 1145 ≤ length (now out) ⌝ }
+    ensures { λ r. ⌜ Puts (reductionText d m a) (now (out .entry)) at (now (out .exit)) r ⌝ }
+    ensures { λ r. ⌜ r ≤ at + 1145 ⌝ }
+{
     if a.refusal != 0 {
-        refused(a.refusal, a.place);
-        return;
+        return put_refused(out, at, a.refusal, a.place);
     }
-    reduced(a, d, m);
+    put_reduced(out, at, a, d, m)
 }
 
-// Writes `nearest` and the squared distance, then a line with the coefficients and one with the vector.
-fn found(a: engine::NearestVector, d: usize, m: usize) {
-    io::write_all(STDOUT_FILENO, b"nearest ");
-    cli_output::signed(a.square);
-    cli_output::newline();
+// The reduced vectors alone, a line each.
+pub fn put_basis(out: &mut [u8], at: usize, a: engine::Reduction, d: usize, m: usize) -> usize
+    requires { ⌜ at + 344 ≤ length (now out) ⌝ }
+    ensures { λ r. ⌜ Puts (basisText d m a) (now (out .entry)) at (now (out .exit)) r ⌝ }
+    ensures { λ r. ⌜ r ≤ at + 344 ⌝ }
+{
+    let vectors = a.vectors;
+    cli_output::put_lines(out, at, b'v', row_operations::vectors_of(vectors), d, m)
+}
+
+// The squared distance, then a line with the coefficients and one with the vector.
+fn put_found(out: &mut [u8], at: usize, a: engine::NearestVector, d: usize, m: usize) -> usize
+    requires { ⌜ at + 201 ≤ length (now out) ⌝ }
+    ensures { λ r. ⌜ Puts (foundText d m a) (now (out .entry)) at (now (out .exit)) r ⌝ }
+    ensures { λ r. ⌜ r ≤ at + 201 ⌝ }
+{
+    let first = text_output::put_bytes(out, at, b"nearest");
+    let second = cli_output::put_field(out, first, a.square);
+    let third = text_output::put_byte(out, second, b'\n');
     let x = a.coefficients;
-    line(b"c", x, d);
+    let fourth = cli_output::put_line(out, third, b'c', x, d);
     let v = a.vector;
-    line(b"v", v, m);
+    cli_output::put_line(out, fourth, b'v', v, m)
 }
 
-// Writes the answer to a search for the vector nearest to a target.
-pub fn nearest(a: engine::NearestVector, d: usize, m: usize) {
+// The answer to a search for the vector nearest to a target.
+pub fn put_nearest(out: &mut [u8], at: usize, a: engine::NearestVector, d: usize, m: usize) -> usize
+    requires { ⌜ at + 201 ≤ length (now out) ⌝ }
+    ensures { λ r. ⌜ Puts (nearestText d m a) (now (out .entry)) at (now (out .exit)) r ⌝ }
+    ensures { λ r. ⌜ r ≤ at + 201 ⌝ }
+{
     if a.refusal != 0 {
-        refused(a.refusal, a.place);
-        return;
+        return put_refused(out, at, a.refusal, a.place);
     }
-    found(a, d, m);
+    put_found(out, at, a, d, m)
 }

@@ -1,26 +1,31 @@
-// Whole catalogues on standard input: folded, looked up, listed, and turned into text and back. What is written, no contract can say: the
-// answers themselves are under contract in the catalogue.
-use libc::STDIN_FILENO;
-use libc::STDOUT_FILENO;
+// Whole catalogues from a file or standard input: folded, looked up, listed, and turned into text and back. What is no answer goes to standard
+// error, but for the listing, whose text is that of a refusal then. What is written, no contract can say: the answers themselves are under
+// contract in the catalogue.
+ghost use mathlib.Core.Path.{_≡_};
+ghost use Rattle.cli_catalogues.specs.Asked.{askedNumber};
 
 mod mistakes;
 
-// Writes the refusal of a catalogue.
+// Says the refusal of a catalogue.
 fn refused(number: u64, place: usize) {
-    cli_answers::refused(number, place as u64);
+    cli_answers::refusals::say_refused(number, place as u64);
 }
 
-// Writes the first n bytes, all of them where n is more.
+// Writes the first n bytes of a text that has so many.
 fn write_first(bytes: &[u8], n: usize) {
     if n <= bytes.len() {
-        io::write_all(STDOUT_FILENO, &bytes[..n]);
+        cli_output::write(&bytes[..n]);
     }
 }
 
 // Writes the folded catalogue.
-pub fn fold() {
+pub fn fold(fd: i32) {
     let mut bytes = [0u8; 18443];
-    let n = cli_input::read_catalogue(&mut bytes);
+    let f = cli_input::read_catalogue(fd, &mut bytes);
+    if !f.is_open {
+        return;
+    }
+    let n = f.end;
     let mut out = [0u8; 18436];
     let w = catalogue::fold(&bytes[..n], &mut out);
     if w.refusal != 0 {
@@ -31,7 +36,9 @@ pub fn fold() {
 }
 
 // A number as lookup takes it. What is no entry's number becomes 0, which is none either.
-fn asked(n: i64) -> u32 {
+fn asked(n: i64) -> u32
+    ensures { λ r. ⌜ r ≡ askedNumber n ⌝ }
+{
     let k = text_parts::first_part::count(n);
     if 1048575 < k {
         return 0;
@@ -40,37 +47,47 @@ fn asked(n: i64) -> u32 {
 }
 
 // Writes the standing number of the entry with this number.
-fn look_up(number: u32) {
+fn look_up(fd: i32, number: u32) {
     let mut bytes = [0u8; 18443];
-    let n = cli_input::read_catalogue(&mut bytes);
+    let r = cli_input::read_catalogue(fd, &mut bytes);
+    if !r.is_open {
+        return;
+    }
+    let n = r.end;
     let f = catalogue::lookup(&bytes[..n], number);
     if f.refusal != 0 {
         refused(f.refusal, f.place);
         return;
     }
-    cli_output::number(f.standing as u64);
-    cli_output::newline();
+    let mut text = [0u8; 64];
+    let k = cli_output::put_number(&mut text, 0, f.standing as u64);
+    let end = text_output::put_byte(&mut text, k, b'\n');
+    cli_output::write(&text[..end]);
 }
 
 // The lookup of the number that a word writes.
-pub fn lookup(word: &[u8]) {
+pub fn lookup(fd: i32, word: &[u8]) {
     let mut numbers = [0i64; 1];
     let p = text_parts::read_part(word, &mut numbers);
     let stop = p.stop;
     if p.count != 1 || !text_parts::is_end(stop) {
         io::write_all(
-            STDOUT_FILENO,
+            libc::STDERR_FILENO,
             b"error: lookup wants the number of an entry\n",
         );
         return;
     }
-    look_up(asked(numbers[0]));
+    look_up(fd, asked(numbers[0]));
 }
 
 // Writes the listing.
-pub fn list() {
+pub fn list(fd: i32) {
     let mut bytes = [0u8; 18443];
-    let n = cli_input::read_catalogue(&mut bytes);
+    let f = cli_input::read_catalogue(fd, &mut bytes);
+    if !f.is_open {
+        return;
+    }
+    let n = f.end;
     let mut text = [0u8; 40000];
     let w = catalogue_listing::list(&bytes[..n], &mut text);
     if w.refusal != 0 {
@@ -78,13 +95,17 @@ pub fn list() {
         return;
     }
     let length = w.length;
-    io::write_all(STDOUT_FILENO, &text[..length]);
+    cli_output::write(&text[..length]);
 }
 
 // Writes the entries of a catalogue as text, a line each.
-pub fn decode() {
+pub fn decode(fd: i32) {
     let mut bytes = [0u8; 18443];
-    let n = cli_input::read_catalogue(&mut bytes);
+    let f = cli_input::read_catalogue(fd, &mut bytes);
+    if !f.is_open {
+        return;
+    }
+    let n = f.end;
     let c = catalogue::read(&bytes[..n]);
     if c.refusal != 0 {
         refused(c.refusal, c.place);
@@ -96,11 +117,18 @@ pub fn decode() {
 }
 
 // Writes the catalogue that a text tells, unless something in it is wrong.
-pub fn encode() {
+pub fn encode(fd: i32) {
     let mut text = io::large_buffer();
-    let n = io::read_full(STDIN_FILENO, &mut text);
+    let f = cli_input::read_all(fd, &mut text);
+    if !f.is_open {
+        return;
+    }
+    let n = f.end;
     if n == 65536 {
-        io::write_all(STDOUT_FILENO, b"error: a text of more than 65535 bytes\n");
+        io::write_all(
+            libc::STDERR_FILENO,
+            b"error: a text of more than 65535 bytes\n",
+        );
         return;
     }
     let mut out = [0u8; 18440];

@@ -3,30 +3,30 @@ ghost use Prim.Native.Nat.{_≤_};
 ghost use lib.ListN.{length};
 use text_lines::Mistake;
 
-// Writes what a mistake is.
+// Says what a mistake is.
 fn report(line: u64, mistake: Mistake) {
     match mistake {
         Mistake::None => {}
-        Mistake::PartMissing => cli_answers::error(line, b"a part is missing"),
-        Mistake::TooLarge => cli_answers::error(line, b"a number beyond 64 bits"),
-        Mistake::TooMany => cli_answers::error(line, b"too many numbers"),
-        Mistake::NoNumber => cli_answers::error(line, b"something that is no number"),
-        Mistake::NotThree => cli_answers::error(line, b"not number, d and m"),
-        Mistake::NoHead => cli_answers::error(line, b"number, d or m that no head holds"),
-        Mistake::NotAll => cli_answers::error(line, b"not d times m coordinates"),
-        Mistake::Beyond => cli_answers::error(line, b"a coordinate beyond 20000"),
-        Mistake::NoSee => cli_answers::error(line, b"the last part is not the number of an entry"),
+        Mistake::PartMissing => cli_answers::refusals::say_error(line, b"a part is missing"),
+        Mistake::TooLarge => cli_answers::refusals::say_error(line, b"a number beyond 64 bits"),
+        Mistake::TooMany => cli_answers::refusals::say_error(line, b"too many numbers"),
+        Mistake::NoNumber => cli_answers::refusals::say_error(line, b"something that is no number"),
+        Mistake::NotThree => cli_answers::refusals::say_error(line, b"not number, d and m"),
+        Mistake::NoHead => cli_answers::refusals::say_error(line, b"number, d or m that no head holds"),
+        Mistake::NotAll => cli_answers::refusals::say_error(line, b"not d times m coordinates"),
+        Mistake::Beyond => cli_answers::refusals::say_error(line, b"a coordinate beyond 20000"),
+        Mistake::NoSee => cli_answers::refusals::say_error(line, b"the last part is not the number of an entry"),
     }
 }
 
-// Writes what is wrong with a line.
+// Says what is wrong with a line.
 fn check(s: &[u8], line: u64) {
     let l = text_lines::read_line(s);
     let mistake = l.mistake;
     report(line, mistake);
 }
 
-// Writes what is wrong with each line of a text.
+// Says what is wrong with each line of a text.
 pub(crate) fn report_all(text: &[u8])
     requires { ⌜ length (now text) ≤ 65536 ⌝ }
 {

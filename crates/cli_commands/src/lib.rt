@@ -1,70 +1,165 @@
-// The sub-commands of the command line.
-use libc::STDOUT_FILENO;
+// The sub-commands of the command line: what the words ask for is done, and what they cannot mean is said on standard error.
+use libc::STDIN_FILENO;
 
-// Writes a line.
-fn line(text: &[u8]) {
-    io::write_all(STDOUT_FILENO, text);
-    cli_output::newline();
+mod help;
+
+// Whether the options of a stream stand among the two words that may follow: the number of each line, the reduced vectors.
+struct Options {
+    numbered: bool,
+    basis: bool,
+    fit: bool,
 }
 
-// Writes what there is, requests first.
-fn usage() {
-    line(
-        b"usage: raghymtos reduce | nearest | fold | lookup NUMBER | list | encode | decode | help",
-    );
-    line(b"reduce and nearest read requests from standard input, one to a line");
-    line(b"reduce   d m ; the numbers of d vectors of m coordinates");
-    line(b"         answers: reduced PASSES SQUARED LENGTHS, and lines v, U and V");
-    line(b"nearest  d m ; the numbers of d vectors of m coordinates ; the m numbers of a target");
-    line(b"         answers: nearest SQUARED DISTANCE, and lines c (coefficients) and v");
-    line(b"both answer: refused NUMBER PLACE, or: error LINE: what is wrong");
-    catalogue_usage();
+// One word more.
+fn with_word(o: Options, word: &[u8]) -> Options {
+    if word.len() == 0 {
+        return o;
+    }
+    if check::same(word, b"-n") {
+        return Options {
+            numbered: true,
+            basis: o.basis,
+            fit: o.fit,
+        };
+    }
+    if check::same(word, b"-r") {
+        return Options {
+            numbered: o.numbered,
+            basis: true,
+            fit: o.fit,
+        };
+    }
+    Options {
+        numbered: o.numbered,
+        basis: o.basis,
+        fit: false,
+    }
 }
 
-// Writes what there is for catalogues.
-fn catalogue_usage() {
-    line(b"the others read a catalogue from standard input");
-    line(b"fold     writes the folded catalogue");
-    line(b"lookup   writes the standing number of the entry with this number");
-    line(
-        b"list     writes entries and standing entries, then each entry: number, standing number,",
-    );
-    line(b"         number that its see word leads to, passes; under a standing entry lines v");
-    line(b"decode   writes the entries as text, one to a line: number d m ; coordinates ; see");
-    line(b"         the last part only where there is a see word");
-    line(b"encode   reads that text and writes the catalogue, or: error LINE: what is wrong");
-    line(b"all answer: refused NUMBER PLACE");
+fn options_of(first: &[u8], second: &[u8]) -> Options {
+    let none = Options {
+        numbered: false,
+        basis: false,
+        fit: true,
+    };
+    with_word(with_word(none, first), second)
 }
 
-// Does what the sub-command says. The word after it is the number that lookup wants.
-pub fn run(word: &[u8], number: &[u8]) {
+// Answers a stream of requests for reductions.
+fn reduce(first: &[u8], second: &[u8]) {
+    let o = options_of(first, second);
+    if !o.fit || o.basis {
+        help::say_usage();
+        return;
+    }
+    cli_requests::reduce(o.numbered);
+}
+
+// Answers a stream of requests for nearest vectors.
+fn nearest(first: &[u8], second: &[u8]) {
+    let o = options_of(first, second);
+    if !o.fit {
+        help::say_usage();
+        return;
+    }
+    cli_requests::nearest(o.numbered, o.basis);
+}
+
+// The descriptor to read from: of the file that is named, or standard input where none is. What cannot be opened is said on standard error,
+// and the answer is negative.
+fn source(path: &[u8]) -> i32 {
+    if path.len() == 0 {
+        return STDIN_FILENO;
+    }
+    let fd = os::open_read(path);
+    if fd < 0 {
+        os::fail(path);
+    }
+    fd
+}
+
+// Does what is done with a whole catalogue. False where the word is no such command.
+fn catalogue(word: &[u8], fd: i32) -> bool {
+    if fd < 0 {
+        return true;
+    }
+    if check::same(word, b"fold") {
+        cli_catalogues::fold(fd);
+        return true;
+    }
+    if check::same(word, b"list") {
+        cli_catalogues::list(fd);
+        return true;
+    }
+    if check::same(word, b"encode") {
+        cli_catalogues::encode(fd);
+        return true;
+    }
+    if check::same(word, b"decode") {
+        cli_catalogues::decode(fd);
+        return true;
+    }
+    false
+}
+
+fn is_catalogue(word: &[u8]) -> bool {
+    check::same(word, b"fold") || check::same(word, b"list") || check::same(word, b"encode") || check::same(word, b"decode")
+}
+
+// Looks a number up in the catalogue that is named.
+fn lookup(number: &[u8], path: &[u8]) {
+    let fd = source(path);
+    if fd < 0 {
+        return;
+    }
+    cli_catalogues::lookup(fd, number);
+}
+
+// What the program says of itself. False where the word asks for something else.
+fn about(word: &[u8], first: &[u8]) -> bool {
+    if check::same(word, b"help") || check::same(word, b"--help") || check::same(word, b"-h") {
+        help::help(first);
+        return true;
+    }
+    if check::same(word, b"--version") {
+        help::version();
+        return true;
+    }
+    if check::same(word, b"refusals") {
+        cli_answers::refusals::table();
+        return true;
+    }
+    false
+}
+
+// Does what the sub-command says. Two words may follow it; words are empty where there are none, and `more` says that there are others.
+pub fn run(word: &[u8], first: &[u8], second: &[u8], more: bool) {
+    if more {
+        help::say_usage();
+        return;
+    }
     if check::same(word, b"reduce") {
-        cli_requests::reduce();
+        reduce(first, second);
         return;
     }
     if check::same(word, b"nearest") {
-        cli_requests::nearest();
-        return;
-    }
-    if check::same(word, b"fold") {
-        cli_catalogues::fold();
+        nearest(first, second);
         return;
     }
     if check::same(word, b"lookup") {
-        cli_catalogues::lookup(number);
+        lookup(first, second);
         return;
     }
-    if check::same(word, b"list") {
-        cli_catalogues::list();
+    if second.len() != 0 {
+        help::say_usage();
         return;
     }
-    if check::same(word, b"encode") {
-        cli_catalogues::encode();
+    if about(word, first) {
         return;
     }
-    if check::same(word, b"decode") {
-        cli_catalogues::decode();
+    if is_catalogue(word) {
+        catalogue(word, source(first));
         return;
     }
-    usage();
+    help::say_usage();
 }

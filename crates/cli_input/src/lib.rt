@@ -1,42 +1,123 @@
-// A whole catalogue on standard input.
-ghost use Prim.Native.Nat.{_<_};
+// Input read with its failures seen: a read that fails is said on standard error, and the caller leaves. What is read, no contract can say.
+ghost use mathlib.Core.Path.{_≡_};
+ghost use Prim.Native.Nat.{_+_, _%_, _≤_, _<_};
+ghost use lib.ListN.{length};
 ghost use Rattle.io.specs.Counts.{Counts};
-use libc::STDIN_FILENO;
+ghost use Rattle.cli_input.specs.Kept.{keptLength};
 
-// How many bytes are left of the input, modulo 4. Nothing says that a stream ends and a proved loop must, so the turns are counted down from a
-// number that no run uses up.
-fn rest() -> usize
-    ensures { λ r. ⌜ r < 4 ⌝ }
+// How many bytes have come, and whether every read went through.
+pub struct Filled {
+    pub end: usize,
+    pub is_open: bool,
+}
+
+// How many bytes were left, modulo 4.
+struct Rest {
+    count: usize,
+    is_open: bool,
+}
+
+// Reads once, behind the bytes that have come. The input is at its end where no more come.
+pub fn read_more(fd: i32, bytes: &mut [u8], have: usize) -> Filled
+    requires { ⌜ have ≤ length (now bytes) ⌝ }
+    ensures { λ r. ⌜ have ≤ r .end ⌝ }
+    ensures { λ r. ⌜ r .end ≤ length (now (bytes .entry)) ⌝ }
+{
+    let got = libc::read(fd, &mut bytes[have..]);
+    if got < 0 {
+        os::fail(b"raghymtos: cannot read");
+        return Filled {
+            end: have,
+            is_open: false,
+        };
+    }
+    Filled {
+        end: have + io::count(got, &bytes[have..]),
+        is_open: true,
+    }
+}
+
+// Reads until the bytes are full or the input ends.
+pub fn read_all(fd: i32, bytes: &mut [u8]) -> Filled
+    ensures { λ r. ⌜ Counts (r .end) (now (bytes .exit)) ⌝ }
+{
+    let mut have = 0;
+    while have < bytes.len() {
+        let f = read_more(fd, bytes, have);
+        if !f.is_open {
+            return Filled {
+                end: have,
+                is_open: false,
+            };
+        }
+        let end = f.end;
+        if end == have {
+            break;
+        }
+        have = end;
+    }
+    Filled {
+        end: have,
+        is_open: true,
+    }
+}
+
+// What is left of the input. Nothing says that a stream ends and a proved loop must, so the turns are counted down from a number that no run
+// uses up.
+fn read_rest(fd: i32) -> Rest
+    ensures { λ r. ⌜ r .count < 4 ⌝ }
 {
     let mut space = io::buffer();
-    let mut r = 0;
+    let bytes: &mut [u8] = &mut space;
+    let mut count = 0;
     let mut turns = u64::MAX;
     while turns > 0 {
-        let n = io::read_full(STDIN_FILENO, &mut space);
+        let f = read_more(fd, bytes, 0);
+        if !f.is_open {
+            return Rest {
+                count,
+                is_open: false,
+            };
+        }
+        let n = f.end;
         if n == 0 {
             break;
         }
-        r = (r + n) % 4;
+        count = (count + n) % 4;
         turns -= 1;
     }
-    r
+    Rest {
+        count,
+        is_open: true,
+    }
 }
 
-// How many bytes stand for the input of which so many came: all of them, or where the buffer is full at least 18,440 and as many modulo 4.
-fn kept(got: usize) -> usize
-    ensures { λ r. ⌜ r < 18444 ⌝ }
+// How many bytes stand for an input of which so many came into the buffer, and behind them so many more.
+fn kept_length(got: usize, more: usize) -> usize
+    requires { ⌜ (got ≤ 18443) × (more < 4) ⌝ }
+    ensures { λ r. ⌜ r ≡ keptLength got more ⌝ }
 {
     if got < 18443 {
         return got;
     }
-    18440 + (3 + rest()) % 4
+    18440 + (got + more) % 4
 }
 
-// Reads a catalogue and gives its length. Of more than 18,442 bytes, which are too many, it keeps so many that the refusal is that of the whole
-// input: bytes over the limit count only modulo 4 (`long-alike` of catalogue_rules/specs/Laws/TooLong.antt).
-pub fn read_catalogue(bytes: &mut [u8; 18443]) -> usize
-    ensures { λ r. ⌜ Counts r (now (bytes .exit)) ⌝ }
+// Reads a catalogue. Of more than 18,442 bytes, which are too many, it keeps so many that the refusal is that of the whole input
+// (`kept-refused` of specs/Kept.antt).
+pub fn read_catalogue(fd: i32, bytes: &mut [u8; 18443]) -> Filled
+    ensures { λ r. ⌜ Counts (r .end) (now (bytes .exit)) ⌝ }
 {
-    let got = io::read_full(STDIN_FILENO, bytes);
-    kept(got)
+    let f = read_all(fd, bytes);
+    if !f.is_open {
+        return f;
+    }
+    if f.end < 18443 {
+        return f;
+    }
+    let more = read_rest(fd);
+    Filled {
+        end: kept_length(f.end, more.count),
+        is_open: more.is_open,
+    }
 }

@@ -1,85 +1,257 @@
 // A line answered: a request, or what is wrong with it.
+ghost use mathlib.Core.Path.{_≡_};
+ghost use Prim.Native.Nat.{_+_, _≤_};
+ghost use lib.ListN.{length};
+ghost use Rattle.text_output.specs.Puts.{Puts};
+ghost use Rattle.cli_requests.specs.Replies.{mistakeText, reducedOf, reduceWith, reduceReply, basisOf, foundOn, withTarget, withVectors, nearestReply, reply, numberText, answer};
 use text_parts::Kind;
 
 // What the lines ask for.
-pub enum Command {
+pub(crate) enum Command {
     Reduce,
     Nearest,
+    NearestOnBasis,
 }
 
-// Says what is wrong where a part stops in a way that it may not.
-fn mistake(line: u64, stop: Kind) {
+// What is wrong where a part stops in a way that it may not.
+fn put_mistake(out: &mut [u8], at: usize, line: u64, stop: Kind) -> usize
+    requires { ⌜ at + 56 ≤ length (now out) ⌝ }
+    ensures { λ r. ⌜ Puts (mistakeText line stop) (now (out .entry)) at (now (out .exit)) r ⌝ }
+    ensures { λ r. ⌜ r ≤ at + 56 ⌝ }
+{
     match stop {
-        Kind::Semicolon => cli_answers::error(line, b"a part too many"),
-        Kind::End => cli_answers::error(line, b"a part is missing"),
-        Kind::TooLarge => cli_answers::error(line, b"a number beyond 64 bits"),
-        Kind::NoCount => cli_answers::error(line, b"d and m are counts"),
-        Kind::TooMany => cli_answers::error(line, b"too many numbers"),
-        _ => cli_answers::error(line, b"something that is no number"),
+        Kind::Number => cli_answers::put_error(out, at, line, b"something that is no number"),
+        Kind::Semicolon => cli_answers::put_error(out, at, line, b"a part too many"),
+        Kind::End => cli_answers::put_error(out, at, line, b"a part is missing"),
+        Kind::Unexpected => cli_answers::put_error(out, at, line, b"something that is no number"),
+        Kind::TooLarge => cli_answers::put_error(out, at, line, b"a number beyond 64 bits"),
+        Kind::TooMany => cli_answers::put_error(out, at, line, b"too many numbers"),
+        Kind::NoCount => cli_answers::put_error(out, at, line, b"d and m are counts"),
     }
 }
 
-// Answers `d m ; numbers`, vector by vector.
-fn reduce(s: &[u8], line: u64) {
-    let counts = text_parts::first_part::read_counts(s);
-    let first = counts.stop;
-    if !text_parts::is_semicolon(first) {
-        mistake(line, first);
-        return;
-    }
-    let at = counts.length;
-    let mut numbers = [0i64; 2048];
-    let part = text_parts::read_part(&s[at..], &mut numbers);
-    let last = part.stop;
-    if !text_parts::is_end(last) {
-        mistake(line, last);
-        return;
+// The reduction of the numbers.
+fn put_reduction(out: &mut [u8], at: usize, d: usize, m: usize, numbers: &[i64]) -> usize
+    requires { ⌜ at + 1145 ≤ length (now out) ⌝ }
+    ensures { λ r. ⌜ Puts (reducedOf d m (now (numbers .entry))) (now (out .entry)) at (now (out .exit)) r ⌝ }
+    ensures { λ r. ⌜ r ≤ at + 1145 ⌝ }
+{
+    cli_answers::put_reduction(out, at, engine::reduce(numbers, d, m), d, m)
+}
+
+// Answers the second part of a reduction, the numbers, vector by vector.
+fn reduce_with(
+    out: &mut [u8],
+    at: usize,
+    line: u64,
+    d: usize,
+    m: usize,
+    s: &[u8],
+    numbers: &mut [i64],
+) -> usize
+    requires { ⌜ at + 1145 ≤ length (now out) ⌝ }
+    requires { ⌜ length (now numbers) ≡ 2048 ⌝ }
+    ensures { λ r. ⌜ Puts (reduceWith line d m (now (s .entry))) (now (out .entry)) at (now (out .exit)) r ⌝ }
+    ensures { λ r. ⌜ r ≤ at + 1145 ⌝ }
+{
+    let part = text_parts::read_part(s, numbers);
+    let stop = part.stop;
+    if !text_parts::is_end(stop) {
+        return put_mistake(out, at, line, stop);
     }
     let n = part.count;
-    cli_answers::reduction(
-        engine::reduce(&numbers[..n], counts.d, counts.m),
-        counts.d,
-        counts.m,
-    );
+    put_reduction(out, at, d, m, &numbers[..n])
+}
+
+// Answers `d m ; numbers`.
+fn reduce(out: &mut [u8], at: usize, line: u64, s: &[u8], numbers: &mut [i64]) -> usize
+    requires { ⌜ at + 1145 ≤ length (now out) ⌝ }
+    requires { ⌜ length (now numbers) ≡ 2048 ⌝ }
+    ensures { λ r. ⌜ Puts (reduceReply line (now (s .entry))) (now (out .entry)) at (now (out .exit)) r ⌝ }
+    ensures { λ r. ⌜ r ≤ at + 1145 ⌝ }
+{
+    let counts = text_parts::first_part::read_counts(s);
+    let stop = counts.stop;
+    if !text_parts::is_semicolon(stop) {
+        return put_mistake(out, at, line, stop);
+    }
+    let from = counts.length;
+    reduce_with(out, at, line, counts.d, counts.m, &s[from..], numbers)
+}
+
+// The reduced vectors, unless the search is refused.
+fn put_basis(out: &mut [u8], at: usize, basis: bool, refusal: u64, d: usize, m: usize, numbers: &[i64]) -> usize
+    requires { ⌜ at + 344 ≤ length (now out) ⌝ }
+    ensures { λ r. ⌜ Puts (basisOf basis refusal d m (now (numbers .entry))) (now (out .entry)) at (now (out .exit)) r ⌝ }
+    ensures { λ r. ⌜ r ≤ at + 344 ⌝ }
+{
+    if !basis {
+        return at;
+    }
+    if refusal != 0 {
+        return at;
+    }
+    cli_answers::put_basis(out, at, engine::reduce(numbers, d, m), d, m)
+}
+
+// The vector nearest to the target.
+fn put_nearest(
+    out: &mut [u8],
+    at: usize,
+    basis: bool,
+    d: usize,
+    m: usize,
+    numbers: &[i64],
+    target: &[i64],
+) -> usize
+    requires { ⌜ at + 545 ≤ length (now out) ⌝ }
+    ensures { λ r. ⌜ Puts (foundOn basis d m (now (numbers .entry)) (now (target .entry))) (now (out .entry)) at (now (out .exit)) r ⌝ }
+    ensures { λ r. ⌜ r ≤ at + 545 ⌝ }
+{
+    let a = engine::nearest(numbers, d, m, target);
+    let k = put_basis(out, at, basis, a.refusal, d, m, numbers);
+    cli_answers::put_nearest(out, k, a, d, m)
+}
+
+// Answers the last part of a search, the target.
+fn with_target(
+    out: &mut [u8],
+    at: usize,
+    basis: bool,
+    line: u64,
+    d: usize,
+    m: usize,
+    numbers: &[i64],
+    s: &[u8],
+    target: &mut [i64],
+) -> usize
+    requires { ⌜ at + 545 ≤ length (now out) ⌝ }
+    requires { ⌜ length (now target) ≡ 2048 ⌝ }
+    ensures { λ r. ⌜ Puts (withTarget basis line d m (now (numbers .entry)) (now (s .entry))) (now (out .entry)) at (now (out .exit)) r ⌝ }
+    ensures { λ r. ⌜ r ≤ at + 545 ⌝ }
+{
+    let part = text_parts::read_part(s, target);
+    let stop = part.stop;
+    if !text_parts::is_end(stop) {
+        return put_mistake(out, at, line, stop);
+    }
+    let n = part.count;
+    put_nearest(out, at, basis, d, m, numbers, &target[..n])
+}
+
+// Answers the parts after the first of a search, vectors and target.
+fn with_vectors(
+    out: &mut [u8],
+    at: usize,
+    basis: bool,
+    line: u64,
+    d: usize,
+    m: usize,
+    s: &[u8],
+    numbers: &mut [i64],
+    target: &mut [i64],
+) -> usize
+    requires { ⌜ at + 545 ≤ length (now out) ⌝ }
+    requires { ⌜ length (now numbers) ≡ 2048 ⌝ }
+    requires { ⌜ length (now target) ≡ 2048 ⌝ }
+    ensures { λ r. ⌜ Puts (withVectors basis line d m (now (s .entry))) (now (out .entry)) at (now (out .exit)) r ⌝ }
+    ensures { λ r. ⌜ r ≤ at + 545 ⌝ }
+{
+    let part = text_parts::read_part(s, numbers);
+    let stop = part.stop;
+    if !text_parts::is_semicolon(stop) {
+        return put_mistake(out, at, line, stop);
+    }
+    let n = part.count;
+    let from = part.length;
+    with_target(out, at, basis, line, d, m, &numbers[..n], &s[from..], target)
 }
 
 // Answers `d m ; numbers ; target`.
-fn nearest(s: &[u8], line: u64) {
+fn nearest(
+    out: &mut [u8],
+    at: usize,
+    basis: bool,
+    line: u64,
+    s: &[u8],
+    numbers: &mut [i64],
+    target: &mut [i64],
+) -> usize
+    requires { ⌜ at + 545 ≤ length (now out) ⌝ }
+    requires { ⌜ length (now numbers) ≡ 2048 ⌝ }
+    requires { ⌜ length (now target) ≡ 2048 ⌝ }
+    ensures { λ r. ⌜ Puts (nearestReply basis line (now (s .entry))) (now (out .entry)) at (now (out .exit)) r ⌝ }
+    ensures { λ r. ⌜ r ≤ at + 545 ⌝ }
+{
     let counts = text_parts::first_part::read_counts(s);
-    let first = counts.stop;
-    if !text_parts::is_semicolon(first) {
-        mistake(line, first);
-        return;
+    let stop = counts.stop;
+    if !text_parts::is_semicolon(stop) {
+        return put_mistake(out, at, line, stop);
     }
-    let at = counts.length;
-    let mut numbers = [0i64; 2048];
-    let part = text_parts::read_part(&s[at..], &mut numbers);
-    let second = part.stop;
-    if !text_parts::is_semicolon(second) {
-        mistake(line, second);
-        return;
-    }
-    let from = at + part.length;
-    let mut target = [0i64; 2048];
-    let rest = text_parts::read_part(&s[from..], &mut target);
-    let last = rest.stop;
-    if !text_parts::is_end(last) {
-        mistake(line, last);
-        return;
-    }
-    let n = part.count;
-    let k = rest.count;
-    cli_answers::nearest(
-        engine::nearest(&numbers[..n], counts.d, counts.m, &target[..k]),
-        counts.d,
-        counts.m,
-    );
+    let from = counts.length;
+    with_vectors(out, at, basis, line, counts.d, counts.m, &s[from..], numbers, target)
 }
 
 // Answers a line that is not blank.
-pub fn reply(command: Command, s: &[u8], line: u64) {
+fn put_reply(
+    out: &mut [u8],
+    at: usize,
+    command: Command,
+    line: u64,
+    s: &[u8],
+    numbers: &mut [i64],
+    target: &mut [i64],
+) -> usize
+    requires { ⌜ at + 1145 ≤ length (now out) ⌝ }
+    requires { ⌜ length (now numbers) ≡ 2048 ⌝ }
+    requires { ⌜ length (now target) ≡ 2048 ⌝ }
+    ensures { λ r. ⌜ Puts (reply command line (now (s .entry))) (now (out .entry)) at (now (out .exit)) r ⌝ }
+    ensures { λ r. ⌜ r ≤ at + 1145 ⌝ }
+{
     match command {
-        Command::Reduce => reduce(s, line),
-        Command::Nearest => nearest(s, line),
+        Command::Reduce => reduce(out, at, line, s, numbers),
+        Command::Nearest => nearest(out, at, false, line, s, numbers, target),
+        Command::NearestOnBasis => nearest(out, at, true, line, s, numbers, target),
     }
+}
+
+// The line's number and a blank, where they are asked for.
+fn put_line_number(out: &mut [u8], at: usize, numbered: bool, line: u64) -> usize
+    requires { ⌜ at + 21 ≤ length (now out) ⌝ }
+    ensures { λ r. ⌜ Puts (numberText numbered line) (now (out .entry)) at (now (out .exit)) r ⌝ }
+    ensures { λ r. ⌜ r ≤ at + 21 ⌝ }
+{
+    if !numbered {
+        return at;
+    }
+    let k = cli_output::put_number(out, at, line);
+    text_output::put_byte(out, k, b' ')
+}
+
+// Answers a line: nothing where it holds nothing but blanks.
+pub(crate) fn answer(
+    command: Command,
+    numbered: bool,
+    s: &[u8],
+    line: u64,
+    numbers: &mut [i64],
+    target: &mut [i64],
+    out: &mut [u8],
+    at: usize,
+) -> usize
+    requires { ⌜ at + 1166 ≤ length (now out) ⌝ }
+    requires { ⌜ length (now numbers) ≡ 2048 ⌝ }
+    requires { ⌜ length (now target) ≡ 2048 ⌝ }
+    ensures { λ r. ⌜ Puts (answer command numbered line (now (s .entry))) (now (out .entry)) at (now (out .exit)) r ⌝ }
+    ensures { λ r. ⌜ r ≤ at + 1166 ⌝ }
+{
+    if 4096 < s.len() {
+        let k = put_line_number(out, at, numbered, line);
+        return cli_answers::put_error(out, k, line, b"longer than 4096 bytes");
+    }
+    if text_parts::tokens::blanks(s) == s.len() {
+        return at;
+    }
+    let k = put_line_number(out, at, numbered, line);
+    put_reply(out, k, command, line, s, numbers, target)
 }

@@ -1,12 +1,12 @@
 // The known results of document 01 on the compiled engine, with the limits of length, the refusals, and targets that tell wrong readings
 // of "nearest" apart.
-use libc::STDOUT_FILENO;
-
 // Writes the name of an input, then the answer to its reduction.
 fn reduced(name: &[u8], numbers: &[i64], d: usize, m: usize) {
-    io::write_all(STDOUT_FILENO, name);
+    cli_output::write(name);
     cli_output::newline();
-    cli_answers::reduction(engine::reduce(numbers, d, m), d, m);
+    let mut out = [0u8; cli_answers::MOST_BYTES];
+    let n = cli_answers::put_reduction(&mut out, 0, engine::reduce(numbers, d, m), d, m);
+    cli_output::write(&out[..n]);
 }
 
 // P1 to P8: what reduction gives.
@@ -49,9 +49,11 @@ fn counts() {
 
 // Writes the name of an input, then the answer to the search for the vector nearest to the target.
 fn near(name: &[u8], numbers: &[i64], d: usize, m: usize, target: &[i64]) {
-    io::write_all(STDOUT_FILENO, name);
+    cli_output::write(name);
     cli_output::newline();
-    cli_answers::nearest(engine::nearest(numbers, d, m, target), d, m);
+    let mut out = [0u8; cli_answers::MOST_BYTES];
+    let n = cli_answers::put_nearest(&mut out, 0, engine::nearest(numbers, d, m, target), d, m);
+    cli_output::write(&out[..n]);
 }
 
 // P9 and P10, and cases where a hasty search ends elsewhere.

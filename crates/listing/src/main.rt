@@ -1,4 +1,4 @@
 // The listing program: a catalogue on standard input, its listing on standard output.
 fn main() {
-    cli_catalogues::list();
+    cli_catalogues::list(libc::STDIN_FILENO);
 }

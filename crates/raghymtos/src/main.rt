@@ -1,8 +1,10 @@
 // The command line: the first word says what to do.
 fn main() {
-    let mut word = [0u8; 8];
+    let mut word = [0u8; 16];
     let n = os::arg(1, &mut word);
-    let mut number = [0u8; 24];
-    let k = os::arg(2, &mut number);
-    cli_commands::run(&word[..n], &number[..k]);
+    let mut first = [0u8; 4096];
+    let k = os::arg(2, &mut first);
+    let mut second = [0u8; 4096];
+    let l = os::arg(3, &mut second);
+    cli_commands::run(&word[..n], &first[..k], &second[..l], os::arg_count() > 4);
 }

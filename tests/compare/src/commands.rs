@@ -14,19 +14,32 @@ use reference::random::Random;
 
 const PROGRAM: &str = "target/bin/raghymtos";
 
-/// What the program writes for these words and this input.
+/// What the program writes for these words and this input, on standard output or else on standard error.
 fn run(words: &[&str], input: &[u8]) -> Result<Vec<u8>, String> {
     let fails = |e: std::io::Error| format!("{PROGRAM}: {e}");
     let mut child = Command::new(PROGRAM)
         .args(words)
         .stdin(Stdio::piped())
         .stdout(Stdio::piped())
+        .stderr(Stdio::piped())
         .spawn()
         .map_err(fails)?;
     let mut stdin = child.stdin.take().ok_or("no standard input")?;
     stdin.write_all(input).map_err(fails)?;
     drop(stdin);
-    Ok(child.wait_with_output().map_err(fails)?.stdout)
+    let output = child.wait_with_output().map_err(fails)?;
+    match (output.stdout.is_empty(), output.stderr.is_empty()) {
+        (_, true) => Ok(output.stdout),
+        (true, false) => Ok(without_sentence(&output.stderr)),
+        (false, false) => Err(format!("{words:?} writes and says something")),
+    }
+}
+
+/// A refusal on standard error has its sentence behind the numbers.
+fn without_sentence(said: &[u8]) -> Vec<u8> {
+    let said = String::from_utf8_lossy(said);
+    let numbers = said.split_once(": ").map_or(&*said, |(numbers, _)| numbers);
+    format!("{numbers}\n").into_bytes()
 }
 
 fn same(words: &[&str], input: &[u8], expected: Vec<u8>) -> Result<(), String> {

@@ -1,19 +1,22 @@
 -- The bytes handed on are a prefix.
+use borrow.Author.Needs.{needs}
 use mathlib.Core.Path.{sym}
 use native.Mathlib.Omega.{arith}
 use lib.Seq.{length-take-le}
-use borrow.Author.Needs.{needs}
 use Rattle.cli_catalogues.proofs.encode.Statement.{statement}
 use Rattle.cli_catalogues.proofs.encode.Tie as tie
 
 large-buffer-requires : tie.Need-large-buffer-requires
 large-buffer-requires c κs = search needs
 
-slice-aggregate-read-full : tie.Need-slice-aggregate-read-full
-slice-aggregate-read-full c = search needs
+slice-aggregate-read-all : tie.Need-slice-aggregate-read-all
+slice-aggregate-read-all c = search needs
 
-read-full-requires : tie.Need-read-full-requires
-read-full-requires c κs = search needs
+read-all-requires : tie.Need-read-all-requires
+read-all-requires c κs = search needs
+
+returns : tie.Need-returns
+returns c = search needs
 
 slice-aggregate-write-all : tie.Need-slice-aggregate-write-all
 slice-aggregate-write-all c = search needs
@@ -21,8 +24,8 @@ slice-aggregate-write-all c = search needs
 write-all-requires : tie.Need-write-all-requires
 write-all-requires c κs = search needs
 
-returns : tie.Need-returns
-returns c = search needs
+returns-2 : tie.Need-returns-2
+returns-2 c = search needs
 
 array-share-prefix-text : tie.Need-array-share-prefix-text
 array-share-prefix-text c = search needs
@@ -45,8 +48,8 @@ slice-aggregate-report-all c = search needs
 report-all-requires : tie.Need-report-all-requires
 report-all-requires c κs = search needs
 
-returns-2 : tie.Need-returns-2
-returns-2 c = search needs
+returns-3 : tie.Need-returns-3
+returns-3 c = search needs
 
 mul-k : tie.Need-mul-k
 mul-k c = search needs
@@ -63,8 +66,8 @@ read-requires c κs = search needs
 refused-requires : tie.Need-refused-requires
 refused-requires c κs = search needs
 
-returns-3 : tie.Need-returns-3
-returns-3 c = search needs
+returns-4 : tie.Need-returns-4
+returns-4 c = search needs
 
 slice-aggregate-write-first : tie.Need-slice-aggregate-write-first
 slice-aggregate-write-first c = search needs
@@ -72,19 +75,20 @@ slice-aggregate-write-first c = search needs
 write-first-requires : tie.Need-write-first-requires
 write-first-requires c κs = search needs
 
-returns-4 : tie.Need-returns-4
-returns-4 c = search needs
+returns-5 : tie.Need-returns-5
+returns-5 c = search needs
 
 pub encode-spec : {M : Type 1} → statement M
 encode-spec =
     tie.close
     (tie.spec
     large-buffer-requires
-    slice-aggregate-read-full
-    read-full-requires
+    slice-aggregate-read-all
+    read-all-requires
+    returns
     slice-aggregate-write-all
     write-all-requires
-    returns
+    returns-2
     array-share-prefix-text
     slice-aggregate-tell
     slice-aggregate-tell-2
@@ -92,13 +96,13 @@ encode-spec =
     array-share-prefix-text-2
     slice-aggregate-report-all
     report-all-requires
-    returns-2
+    returns-3
     mul-k
     array-share-prefix-out
     slice-aggregate-read
     read-requires
     refused-requires
-    returns-3
+    returns-4
     slice-aggregate-write-first
     write-first-requires
-    returns-4)
+    returns-5)

@@ -1,94 +1,76 @@
--- The numbers that were read lie within their arrays, and the target's part within the line.
-use mathlib.Core.Path.{sym}
-use lib.Seq.{length-take-le}
-use native.Mathlib.Omega.{arith}
+-- The counts, then the vectors and the target.
 use borrow.Author.Needs.{needs}
+use Prim.Native.Nat.{_≤_, _-_}
+use mathlib.Core.Path.{_≡_, sym, ap, _∙_, subst}
+use native.Mathlib.Omega.{arith}
+use lib.ListN.{drop}
+use borrow.Author.Tests.{not-true, not-false}
+use Rattle.text_output.specs.Puts.{Puts}
+use Rattle.text_parts.specs.Parts.{isSemicolon}
+use Rattle.text_parts.specs.Counts.{countsAt}
+use Rattle.cli_requests.specs.Cases.{behind, first-of, second-of}
+use Rattle.cli_requests.specs.Replies.{mistakeText, withVectors}
 use Rattle.cli_requests.proofs.replies.nearest.Statement.{statement}
 use Rattle.cli_requests.proofs.replies.nearest.Tie as tie
 
 read-counts-requires : tie.Need-read-counts-requires
 read-counts-requires c κs = search needs
 
+stops : (c : tie.After-is-semicolon) → c .is-semicolon .result ≡ isSemicolon (countsAt (c .before .before .before .before .args .s .now) .stop)
+stops c = c .is-semicolon .ensures ∙ ap (λ p. isSemicolon (p .stop)) (c .before .read-counts .ensures .0)
+
 is-semicolon-requires : tie.Need-is-semicolon-requires
 is-semicolon-requires c κs = search needs
 
-mistake-requires : tie.Need-mistake-requires
-mistake-requires c κs = search needs
+put-mistake-requires : tie.Need-put-mistake-requires
+put-mistake-requires c κs = search needs
+
+same-length : tie.Need-same-length
+same-length c = search needs
 
 returns : tie.Need-returns
-returns c = search needs
+returns c =
+    let p = c .before .before in
+    let r = c .before .before .before .before .before .before in
+    let a = c .before .before .before .before .before .before .before .before .before .args in
+    let s = a .s .now in
+    let q = countsAt s in
+    let text = ap (λ x. mistakeText (a .line) (x .stop)) (r .read-counts .ensures .0)
+        ∙ second-of (withVectors (a .basis) (a .line) (q .d) (q .m) (drop (q .length) s)) (mistakeText (a .line) (q .stop)) (sym (stops (c .before .before .before .before .before)) ∙ not-true _ (c .before .before .before .before .if1 .taken)) in
+    (subst (λ t. Puts t (a .out .now) (a .at) (p .put-mistake .last .0) (p .put-mistake .result)) text (p .put-mistake .ensures .0), omega (arith, p .put-mistake .ensures .1))
 
-sub-read-part : tie.Need-sub-read-part
-sub-read-part c = search needs
+sub-with-vectors : tie.Need-sub-with-vectors
+sub-with-vectors c = search needs
 
-part-read-part-start : tie.Need-part-read-part-start
-part-read-part-start c = search needs
+part-with-vectors-start : tie.Need-part-with-vectors-start
+part-with-vectors-start c = search needs
 
-part-read-part-end : tie.Need-part-read-part-end
-part-read-part-end c = search needs
+part-with-vectors-end : tie.Need-part-with-vectors-end
+part-with-vectors-end c = search needs
 
-slice-aggregate-read-part : tie.Need-slice-aggregate-read-part
-slice-aggregate-read-part c = search needs
+with-vectors-requires : tie.Need-with-vectors-requires
+with-vectors-requires c κs = search needs
 
-read-part-requires : tie.Need-read-part-requires
-read-part-requires c κs = search needs
+same-length-2 : tie.Need-same-length-2
+same-length-2 c = search needs
 
-is-semicolon-requires-2 : tie.Need-is-semicolon-requires-2
-is-semicolon-requires-2 c κs = search needs
+same-length-3 : tie.Need-same-length-3
+same-length-3 c = search needs
 
-mistake-requires-2 : tie.Need-mistake-requires-2
-mistake-requires-2 c κs = search needs
+same-length-4 : tie.Need-same-length-4
+same-length-4 c = search needs
 
 returns-2 : tie.Need-returns-2
-returns-2 c = search needs
-
-add-from : tie.Need-add-from
-add-from c = search needs
-
-sub-read-part-2 : tie.Need-sub-read-part-2
-sub-read-part-2 c = search needs
-
-part-read-part-start-2 : tie.Need-part-read-part-start-2
-part-read-part-start-2 c = search needs
-
-part-read-part-end-2 : tie.Need-part-read-part-end-2
-part-read-part-end-2 c = search needs
-
-slice-aggregate-read-part-2 : tie.Need-slice-aggregate-read-part-2
-slice-aggregate-read-part-2 c = search needs
-
-read-part-requires-2 : tie.Need-read-part-requires-2
-read-part-requires-2 c κs = search needs
-
-is-end-requires : tie.Need-is-end-requires
-is-end-requires c κs = search needs
-
-mistake-requires-3 : tie.Need-mistake-requires-3
-mistake-requires-3 c κs = search needs
-
-returns-3 : tie.Need-returns-3
-returns-3 c = search needs
-
-array-share-prefix-numbers : tie.Need-array-share-prefix-numbers
-array-share-prefix-numbers c = search needs
-
-slice-aggregate-nearest : tie.Need-slice-aggregate-nearest
-slice-aggregate-nearest c = sym (length-take-le _ _ (omega arith))
-
-array-share-prefix-target : tie.Need-array-share-prefix-target
-array-share-prefix-target c = search needs
-
-slice-aggregate-nearest-2 : tie.Need-slice-aggregate-nearest-2
-slice-aggregate-nearest-2 c = sym (length-take-le _ _ (omega arith))
-
-nearest-requires : tie.Need-nearest-requires
-nearest-requires c κs = search needs
-
-nearest-requires-2 : tie.Need-nearest-requires-2
-nearest-requires-2 c κs = search needs
-
-returns-4 : tie.Need-returns-4
-returns-4 c = search needs
+returns-2 c =
+    let p = c .before .before .before .before in
+    let r = c .before .before .before .before .before .before .before .before .before .before .before in
+    let a = r .before .before .before .args in
+    let s = a .s .now in
+    let q = countsAt s in
+    let text = ap (withVectors (a .basis) (a .line) (r .read-counts .result .d) (r .read-counts .result .m)) (behind (r .read-counts .result .length) s)
+        ∙ ap (λ x. withVectors (a .basis) (a .line) (x .d) (x .m) (drop (x .length) s)) (r .read-counts .ensures .0)
+        ∙ first-of (withVectors (a .basis) (a .line) (q .d) (q .m) (drop (q .length) s)) (mistakeText (a .line) (q .stop)) (sym (stops (c .before .before .before .before .before .before .before .before .before .before)) ∙ not-false _ (c .before .before .before .before .before .before .before .before .before .if1 .left)) in
+    (subst (λ t. Puts t (a .out .now) (a .at) (p .with-vectors .last .0) (p .with-vectors .result)) text (p .with-vectors .ensures .0), p .with-vectors .ensures .1)
 
 pub nearest-spec : {M : Type 1} → statement M
 nearest-spec =
@@ -96,29 +78,14 @@ nearest-spec =
     (tie.spec
     read-counts-requires
     is-semicolon-requires
-    mistake-requires
+    put-mistake-requires
+    same-length
     returns
-    sub-read-part
-    part-read-part-start
-    part-read-part-end
-    slice-aggregate-read-part
-    read-part-requires
-    is-semicolon-requires-2
-    mistake-requires-2
-    returns-2
-    add-from
-    sub-read-part-2
-    part-read-part-start-2
-    part-read-part-end-2
-    slice-aggregate-read-part-2
-    read-part-requires-2
-    is-end-requires
-    mistake-requires-3
-    returns-3
-    array-share-prefix-numbers
-    slice-aggregate-nearest
-    array-share-prefix-target
-    slice-aggregate-nearest-2
-    nearest-requires
-    nearest-requires-2
-    returns-4)
+    sub-with-vectors
+    part-with-vectors-start
+    part-with-vectors-end
+    with-vectors-requires
+    same-length-2
+    same-length-3
+    same-length-4
+    returns-2)

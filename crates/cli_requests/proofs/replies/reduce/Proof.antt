@@ -1,61 +1,73 @@
--- The numbers that were read lie within their array.
-use mathlib.Core.Path.{sym}
-use lib.Seq.{length-take-le}
-use native.Mathlib.Omega.{arith}
+-- The counts, then the numbers.
 use borrow.Author.Needs.{needs}
+use Prim.Native.Nat.{_≤_, _-_}
+use mathlib.Core.Path.{_≡_, sym, ap, _∙_, subst}
+use native.Mathlib.Omega.{arith}
+use lib.ListN.{drop}
+use borrow.Author.Tests.{not-true, not-false}
+use Rattle.text_output.specs.Puts.{Puts}
+use Rattle.text_parts.specs.Parts.{isSemicolon}
+use Rattle.text_parts.specs.Counts.{countsAt}
+use Rattle.cli_requests.specs.Cases.{behind, first-of, second-of}
+use Rattle.cli_requests.specs.Replies.{mistakeText, reduceWith}
 use Rattle.cli_requests.proofs.replies.reduce.Statement.{statement}
 use Rattle.cli_requests.proofs.replies.reduce.Tie as tie
 
 read-counts-requires : tie.Need-read-counts-requires
 read-counts-requires c κs = search needs
 
+stops : (c : tie.After-is-semicolon) → c .is-semicolon .result ≡ isSemicolon (countsAt (c .before .before .before .before .args .s .now) .stop)
+stops c = c .is-semicolon .ensures ∙ ap (λ p. isSemicolon (p .stop)) (c .before .read-counts .ensures .0)
+
 is-semicolon-requires : tie.Need-is-semicolon-requires
 is-semicolon-requires c κs = search needs
 
-mistake-requires : tie.Need-mistake-requires
-mistake-requires c κs = search needs
+put-mistake-requires : tie.Need-put-mistake-requires
+put-mistake-requires c κs = search needs
+
+same-length : tie.Need-same-length
+same-length c = search needs
 
 returns : tie.Need-returns
-returns c = search needs
+returns c =
+    let p = c .before .before in
+    let r = c .before .before .before .before .before .before in
+    let a = c .before .before .before .before .before .before .before .before .before .args in
+    let s = a .s .now in
+    let q = countsAt s in
+    let text = ap (λ x. mistakeText (a .line) (x .stop)) (r .read-counts .ensures .0)
+        ∙ second-of (reduceWith (a .line) (q .d) (q .m) (drop (q .length) s)) (mistakeText (a .line) (q .stop)) (sym (stops (c .before .before .before .before .before)) ∙ not-true _ (c .before .before .before .before .if1 .taken)) in
+    (subst (λ t. Puts t (a .out .now) (a .at) (p .put-mistake .last .0) (p .put-mistake .result)) text (p .put-mistake .ensures .0), omega (arith, p .put-mistake .ensures .1))
 
-sub-read-part : tie.Need-sub-read-part
-sub-read-part c = search needs
+sub-reduce-with : tie.Need-sub-reduce-with
+sub-reduce-with c = search needs
 
-part-read-part-start : tie.Need-part-read-part-start
-part-read-part-start c = search needs
+part-reduce-with-start : tie.Need-part-reduce-with-start
+part-reduce-with-start c = search needs
 
-part-read-part-end : tie.Need-part-read-part-end
-part-read-part-end c = search needs
+part-reduce-with-end : tie.Need-part-reduce-with-end
+part-reduce-with-end c = search needs
 
-slice-aggregate-read-part : tie.Need-slice-aggregate-read-part
-slice-aggregate-read-part c = search needs
+reduce-with-requires : tie.Need-reduce-with-requires
+reduce-with-requires c κs = search needs
 
-read-part-requires : tie.Need-read-part-requires
-read-part-requires c κs = search needs
+same-length-2 : tie.Need-same-length-2
+same-length-2 c = search needs
 
-is-end-requires : tie.Need-is-end-requires
-is-end-requires c κs = search needs
-
-mistake-requires-2 : tie.Need-mistake-requires-2
-mistake-requires-2 c κs = search needs
+same-length-3 : tie.Need-same-length-3
+same-length-3 c = search needs
 
 returns-2 : tie.Need-returns-2
-returns-2 c = search needs
-
-array-share-prefix-numbers : tie.Need-array-share-prefix-numbers
-array-share-prefix-numbers c = search needs
-
-slice-aggregate-reduce : tie.Need-slice-aggregate-reduce
-slice-aggregate-reduce c = sym (length-take-le _ _ (omega arith))
-
-reduce-requires : tie.Need-reduce-requires
-reduce-requires c κs = search needs
-
-reduction-requires : tie.Need-reduction-requires
-reduction-requires c κs = search needs
-
-returns-3 : tie.Need-returns-3
-returns-3 c = search needs
+returns-2 c =
+    let p = c .before .before .before in
+    let r = c .before .before .before .before .before .before .before .before .before in
+    let a = r .before .before .before .args in
+    let s = a .s .now in
+    let q = countsAt s in
+    let text = ap (reduceWith (a .line) (r .read-counts .result .d) (r .read-counts .result .m)) (behind (r .read-counts .result .length) s)
+        ∙ ap (λ x. reduceWith (a .line) (x .d) (x .m) (drop (x .length) s)) (r .read-counts .ensures .0)
+        ∙ first-of (reduceWith (a .line) (q .d) (q .m) (drop (q .length) s)) (mistakeText (a .line) (q .stop)) (sym (stops (c .before .before .before .before .before .before .before .before)) ∙ not-false _ (c .before .before .before .before .before .before .before .if1 .left)) in
+    (subst (λ t. Puts t (a .out .now) (a .at) (p .reduce-with .last .0) (p .reduce-with .result)) text (p .reduce-with .ensures .0), p .reduce-with .ensures .1)
 
 pub reduce-spec : {M : Type 1} → statement M
 reduce-spec =
@@ -63,18 +75,13 @@ reduce-spec =
     (tie.spec
     read-counts-requires
     is-semicolon-requires
-    mistake-requires
+    put-mistake-requires
+    same-length
     returns
-    sub-read-part
-    part-read-part-start
-    part-read-part-end
-    slice-aggregate-read-part
-    read-part-requires
-    is-end-requires
-    mistake-requires-2
-    returns-2
-    array-share-prefix-numbers
-    slice-aggregate-reduce
-    reduce-requires
-    reduction-requires
-    returns-3)
+    sub-reduce-with
+    part-reduce-with-start
+    part-reduce-with-end
+    reduce-with-requires
+    same-length-2
+    same-length-3
+    returns-2)

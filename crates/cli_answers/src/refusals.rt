@@ -1,0 +1,80 @@
+// The refusals, a sentence each, and what goes to standard error. A write that fails there can be said nowhere.
+use libc::STDERR_FILENO;
+use libc::STDOUT_FILENO;
+
+// Writes what a refusal's number means.
+fn meaning(fd: i32, number: u64) -> bool {
+    match number {
+        1 => io::write_all(fd, b"d is not from 1 to 4"),
+        2 => io::write_all(fd, b"m is not from 1 to 4"),
+        3 => io::write_all(fd, b"the numbers given are not d times m"),
+        4 => io::write_all(
+            fd,
+            b"a coordinate beyond 20000 or a vector whose squared length is over 400000000",
+        ),
+        5 => io::write_all(fd, b"the vectors are dependent"),
+        6 => io::write_all(fd, b"the target has not m numbers"),
+        7 => io::write_all(
+            fd,
+            b"a coordinate of the target beyond 20000 or its squared length over 400000000",
+        ),
+        8 => io::write_all(fd, b"the bytes are not a multiple of 4"),
+        9 => io::write_all(fd, b"more than 18436 bytes"),
+        10 => io::write_all(
+            fd,
+            b"a word of a kind that cannot stand here, or no word where one is due",
+        ),
+        11 => io::write_all(fd, b"an entry number that is zero or already used"),
+        12 => io::write_all(fd, b"a see word that names no entry"),
+        13 => io::write_all(fd, b"the end word counts other than the entries"),
+        14 => io::write_all(fd, b"words follow the end word"),
+        15 => io::write_all(fd, b"more than 256 entries"),
+        16 => io::write_all(fd, b"the output is shorter than what is to be written"),
+        17 => io::write_all(fd, b"the number is in no entry"),
+        _ => io::write_all(fd, b"no such refusal"),
+    }
+}
+
+// Says a refusal, its place and what it means on standard error.
+pub fn say_refused(number: u64, place: u64) {
+    io::write_all(STDERR_FILENO, b"refused ");
+    io::print_decimal(STDERR_FILENO, number);
+    io::write_all(STDERR_FILENO, b" ");
+    io::print_decimal(STDERR_FILENO, place);
+    io::write_all(STDERR_FILENO, b": ");
+    meaning(STDERR_FILENO, number);
+    io::write_all(STDERR_FILENO, b"\n");
+}
+
+// Says on standard error what is wrong with a line of the input.
+pub fn say_error(line: u64, what: &[u8]) {
+    io::write_all(STDERR_FILENO, b"error ");
+    io::print_decimal(STDERR_FILENO, line);
+    io::write_all(STDERR_FILENO, b": ");
+    io::write_all(STDERR_FILENO, what);
+    io::write_all(STDERR_FILENO, b"\n");
+}
+
+// Writes a refusal's number and what it means.
+fn row(number: u64) -> bool {
+    if !io::print_decimal(STDOUT_FILENO, number) {
+        return false;
+    }
+    if !io::write_all(STDOUT_FILENO, b" ") {
+        return false;
+    }
+    if !meaning(STDOUT_FILENO, number) {
+        return false;
+    }
+    io::write_all(STDOUT_FILENO, b"\n")
+}
+
+// Writes the table of refusals, a line each.
+pub fn table() {
+    for number in 1..18 {
+        if !row(number) {
+            os::fail(b"raghymtos: cannot write");
+            return;
+        }
+    }
+}

@@ -1,0 +1,2 @@
+-- The number that a lookup asks for.
+pub mod Asked

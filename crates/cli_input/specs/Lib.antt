@@ -1,0 +1,2 @@
+-- What is kept of an input that is too long.
+pub mod Kept

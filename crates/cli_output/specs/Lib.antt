@@ -1,0 +1,3 @@
+-- The lines of an answer, and how long they may be.
+pub mod Rows
+pub mod Sizes

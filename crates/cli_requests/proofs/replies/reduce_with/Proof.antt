@@ -1,0 +1,91 @@
+-- The numbers, then their reduction.
+use borrow.Author.Needs.{needs}
+use Prim.Native.Nat.{_≤_, _-_}
+use mathlib.Core.Path.{_≡_, sym, ap, _∙_, subst}
+use native.Mathlib.Omega.{arith}
+use lib.ListN.{length, take, drop}
+use lib.Seq.{length-take-le}
+use borrow.Author.Tests.{not-true, not-false}
+use Rattle.text_output.specs.Puts.{Puts}
+use Rattle.text_parts.specs.Parts.{isEnd, takenAt, partOf, filled}
+use Rattle.cli_requests.specs.Cases.{behind, numbers-of, first-of, second-of}
+use Rattle.cli_requests.specs.Replies.{mistakeText, reducedOf}
+use Rattle.cli_requests.proofs.replies.reduce_with.Statement.{statement}
+use Rattle.cli_requests.proofs.replies.reduce_with.Tie as tie
+
+read-part-requires : tie.Need-read-part-requires
+read-part-requires c κs = search needs
+
+-- what the part is, and its numbers at the start of what was lent
+part : (c : tie.After-read-part) → c .read-part .result ≡ partOf (takenAt 2048 (c .before .before .before .before .args .s .now))
+part c = let s = c .before .before .before .before in c .read-part .ensures .0 ∙ ap (λ n. partOf (takenAt n (s .args .s .now))) (s .pre .1)
+
+cut : (c : tie.After-read-part) → take (c .read-part .result .count) (c .read-part .last .1 .0) ≡ takenAt 2048 (c .before .before .before .before .args .s .now) .numbers
+cut c =
+    let s = c .before .before .before .before in
+    numbers-of (takenAt 2048 (s .args .s .now)) (s .args .numbers .now) (part c) (c .read-part .ensures .1 .0 ∙ ap (λ n. filled (takenAt n (s .args .s .now)) (s .args .numbers .now)) (s .pre .1))
+
+stops : (c : tie.After-is-end) → c .is-end .result ≡ isEnd (takenAt 2048 (c .before .before .before .before .before .before .args .s .now) .stop)
+stops c = c .is-end .ensures ∙ ap (λ p. isEnd (p .stop)) (part (c .before .before))
+
+is-end-requires : tie.Need-is-end-requires
+is-end-requires c κs = search needs
+
+put-mistake-requires : tie.Need-put-mistake-requires
+put-mistake-requires c κs = search needs
+
+same-length : tie.Need-same-length
+same-length c = search needs
+
+same-length-2 : tie.Need-same-length-2
+same-length-2 c = search needs
+
+returns : tie.Need-returns
+returns c =
+    let p = c .before .before in
+    let r = c .before .before .before .before .before .before .before in
+    let a = c .before .before .before .before .before .before .before .before .before .before .before .args in
+    let q = takenAt 2048 (a .s .now) in
+    let text = ap (λ x. mistakeText (a .line) (x .stop)) (part r) ∙ second-of (reducedOf (a .d) (a .m) (q .numbers)) (mistakeText (a .line) (q .stop)) (sym (stops (c .before .before .before .before .before)) ∙ not-true _ (c .before .before .before .before .if1 .taken)) in
+    (subst (λ t. Puts t (a .out .now) (a .at) (p .put-mistake .last .0) (p .put-mistake .result)) text (p .put-mistake .ensures .0), omega (arith, p .put-mistake .ensures .1))
+
+slice-reshare-prefix-put-reduction : tie.Need-slice-reshare-prefix-put-reduction
+slice-reshare-prefix-put-reduction c = search needs
+
+slice-aggregate-put-reduction : tie.Need-slice-aggregate-put-reduction
+slice-aggregate-put-reduction c = sym (length-take-le _ _ (omega (arith, c .before .before .before .before .before .read-part .ensures .1 .1 .0)))
+
+put-reduction-requires : tie.Need-put-reduction-requires
+put-reduction-requires c κs = search needs
+
+same-length-3 : tie.Need-same-length-3
+same-length-3 c = search needs
+
+same-length-4 : tie.Need-same-length-4
+same-length-4 c = search needs
+
+returns-2 : tie.Need-returns-2
+returns-2 c =
+    let p = c .before .before in
+    let r = c .before .before .before .before .before .before .before .before in
+    let a = c .before .before .before .before .before .before .before .before .before .before .before .before .args in
+    let q = takenAt 2048 (a .s .now) in
+    let text = ap (reducedOf (a .d) (a .m)) (cut r) ∙ first-of (reducedOf (a .d) (a .m) (q .numbers)) (mistakeText (a .line) (q .stop)) (sym (stops (c .before .before .before .before .before .before)) ∙ not-false _ (c .before .before .before .before .before .if1 .left)) in
+    (subst (λ t. Puts t (a .out .now) (a .at) (p .put-reduction .last .0) (p .put-reduction .result)) text (p .put-reduction .ensures .0), p .put-reduction .ensures .1)
+
+pub reduce-with-spec : {M : Type 1} → statement M
+reduce-with-spec =
+    tie.close
+    (tie.spec
+    read-part-requires
+    is-end-requires
+    put-mistake-requires
+    same-length
+    same-length-2
+    returns
+    slice-reshare-prefix-put-reduction
+    slice-aggregate-put-reduction
+    put-reduction-requires
+    same-length-3
+    same-length-4
+    returns-2)
