@@ -10,7 +10,11 @@ use printing::way_of;
 pub mod printing;
 
 // Of a catalogue that was read; the list of standing entries is closed before any see word is led.
-pub fn folded(c: catalogue_records::Catalogue, list: [ReducedEntry; 256], standing: &[usize]) -> catalogue_records::Catalogue
+pub fn folded(
+    c: catalogue_records::Catalogue,
+    list: [ReducedEntry; 256],
+    standing: &[usize],
+) -> catalogue_records::Catalogue
     requires { ⌜ WasRead c ⌝ }
     requires { ⌜ HoldReduced c (c .count) list ⌝ }
     requires { ⌜ Closed list (c .count) (now standing) ⌝ }

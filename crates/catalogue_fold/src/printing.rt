@@ -11,8 +11,8 @@ ghost use Rattle.catalogue_standing.specs.ReducedEntry.{basisIn};
 ghost use lib.Seq.{sets};
 ghost use Rattle.catalogue_fold.specs.Spread.{Full};
 ghost use Rattle.catalogue_fold.specs.Printing.{Led, printedAs};
-use catalogue_standing::standing_places::place_of;
 use catalogue_standing::reduced_entry::ReducedEntry;
+use catalogue_standing::standing_places::place_of;
 
 // The first m coordinates of a vector, from place n on.
 fn put_row(out: &mut [i64], n: usize, v: [i64; 4], m: usize)
@@ -60,7 +60,13 @@ fn nowhere() -> Way
 }
 
 // The way of the see word of an entry: to the standing number of the entry named, and nowhere when that is its own.
-pub fn way_of(e: catalogue_records::Entry, own: u32, numbers: &[u32], standing: &[usize], count: usize) -> Way
+pub fn way_of(
+    e: catalogue_records::Entry,
+    own: u32,
+    numbers: &[u32],
+    standing: &[usize],
+    count: usize,
+) -> Way
     requires { ⌜ (count ≤ length (now numbers)) × (count ≤ length (now standing)) ⌝ }
     requires { ⌜ count ≤ 256 ⌝ }
     requires { ⌜ ((k : ℕ) → k < count → getD (now standing) k 0 ≤ k) ⌝ }

@@ -101,7 +101,12 @@ fn refused(f: ReducedEntry, rests: [[i64; 16]; 4], whole: [i64; 16], d: usize) -
 }
 
 // Whether f is of the lattice of e: most others are refused at once.
-pub(crate) fn same_as(f: ReducedEntry, e: ReducedEntry, rests: [[i64; 16]; 4], whole: [i64; 16]) -> bool
+pub(crate) fn same_as(
+    f: ReducedEntry,
+    e: ReducedEntry,
+    rests: [[i64; 16]; 4],
+    whole: [i64; 16],
+) -> bool
     requires { ⌜ Fair f ⌝ }
     requires { ⌜ Fair e ⌝ }
     requires { ⌜ Screen e rests whole ⌝ }

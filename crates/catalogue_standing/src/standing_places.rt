@@ -4,9 +4,9 @@ ghost use lib.Dec.{eqb};
 ghost use lib.ListN.{length, getD};
 ghost use Rattle.catalogue_standing.specs.ReducedEntry.{noReduced, Fair};
 ghost use Rattle.catalogue_standing.specs.Places.{First, stander, Closed};
-use super::reduced_entry::ReducedEntry;
 use super::other_lattices::same_as;
 use super::other_lattices::volumes_without;
+use super::reduced_entry::ReducedEntry;
 
 // The place of the first standing entry before k of the same lattice, else k. Only standing entries are compared.
 fn standing_of(list: [ReducedEntry; 256], standing: &[usize], k: usize) -> usize

@@ -5,12 +5,12 @@ use libc::STDOUT_FILENO;
 // Writes what a refusal's number means.
 fn meaning(fd: i32, number: u64) -> bool {
     match number {
-        1 => io::write_all(fd, b"d is not from 1 to 4"),
-        2 => io::write_all(fd, b"m is not from 1 to 4"),
-        3 => io::write_all(fd, b"the numbers given are not d times m"),
+        1 => io::write_all(fd, b"d is not 1 to 4"),
+        2 => io::write_all(fd, b"m is not 1 to 4"),
+        3 => io::write_all(fd, b"there are not d times m numbers"),
         4 => io::write_all(
             fd,
-            b"a coordinate beyond 20000 or a vector whose squared length is over 400000000",
+            b"a coordinate beyond 20000 or a squared length over 400000000",
         ),
         5 => io::write_all(fd, b"the vectors are dependent"),
         6 => io::write_all(fd, b"the target has not m numbers"),
@@ -18,31 +18,46 @@ fn meaning(fd: i32, number: u64) -> bool {
             fd,
             b"a coordinate of the target beyond 20000 or its squared length over 400000000",
         ),
-        8 => io::write_all(fd, b"the bytes are not a multiple of 4"),
+        8 => io::write_all(fd, b"the number of bytes is not a multiple of 4"),
         9 => io::write_all(fd, b"more than 18436 bytes"),
         10 => io::write_all(
             fd,
-            b"a word of a kind that cannot stand here, or no word where one is due",
+            b"a word that cannot stand here, or none where one must come",
         ),
-        11 => io::write_all(fd, b"an entry number that is zero or already used"),
-        12 => io::write_all(fd, b"a see word that names no entry"),
-        13 => io::write_all(fd, b"the end word counts other than the entries"),
-        14 => io::write_all(fd, b"words follow the end word"),
+        11 => io::write_all(fd, b"the entry's number is 0 or used before"),
+        12 => io::write_all(fd, b"the see word names no entry"),
+        13 => io::write_all(fd, b"the end word counts another number of entries"),
+        14 => io::write_all(fd, b"a word behind the end word"),
         15 => io::write_all(fd, b"more than 256 entries"),
         16 => io::write_all(fd, b"the output is shorter than what is to be written"),
-        17 => io::write_all(fd, b"the number is in no entry"),
+        17 => io::write_all(fd, b"no entry has the number"),
         _ => io::write_all(fd, b"no such refusal"),
     }
 }
 
-// Says a refusal, its place and what it means on standard error.
-pub fn say_refused(number: u64, place: u64) {
+// Says a refusal, its place and what it means.
+fn say(number: u64, place: u64) {
     io::write_all(STDERR_FILENO, b"refused ");
     io::print_decimal(STDERR_FILENO, number);
     io::write_all(STDERR_FILENO, b" ");
     io::print_decimal(STDERR_FILENO, place);
     io::write_all(STDERR_FILENO, b": ");
     meaning(STDERR_FILENO, number);
+}
+
+// Says a refusal on standard error.
+pub fn say_refused(number: u64, place: u64) {
+    say(number, place);
+    io::write_all(STDERR_FILENO, b"\n");
+}
+
+// Says a refusal of what a line of a text tells, 0 where no line tells the word.
+pub fn say_refused_line(number: u64, place: u64, line: u64) {
+    say(number, place);
+    if line != 0 {
+        io::write_all(STDERR_FILENO, b", line ");
+        io::print_decimal(STDERR_FILENO, line);
+    }
     io::write_all(STDERR_FILENO, b"\n");
 }
 

@@ -91,7 +91,8 @@ pub fn list(fd: i32) {
     let mut text = [0u8; 40000];
     let w = catalogue_listing::list(&bytes[..n], &mut text);
     if w.refusal != 0 {
-        refused(w.refusal, w.place);
+        let end = cli_answers::put_refused(&mut text, 0, w.refusal, w.place as u64);
+        write_first(&text, end);
         return;
     }
     let length = w.length;
@@ -140,7 +141,8 @@ pub fn encode(fd: i32) {
     let k = e.words * 4;
     let c = catalogue::read(&out[..k]);
     if c.refusal != 0 {
-        refused(c.refusal, c.place);
+        let line = text_encoding::line_of_word(&text[..n], c.place);
+        cli_answers::refusals::say_refused_line(c.refusal, c.place as u64, line as u64);
         return;
     }
     write_first(&out, k);

@@ -103,7 +103,10 @@ fn catalogue(word: &[u8], fd: i32) -> bool {
 }
 
 fn is_catalogue(word: &[u8]) -> bool {
-    check::same(word, b"fold") || check::same(word, b"list") || check::same(word, b"encode") || check::same(word, b"decode")
+    check::same(word, b"fold")
+        || check::same(word, b"list")
+        || check::same(word, b"encode")
+        || check::same(word, b"decode")
 }
 
 // Looks a number up in the catalogue that is named.

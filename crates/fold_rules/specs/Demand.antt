@@ -91,7 +91,7 @@ module _ (file : List ℕ) (es : List Entry) (e : read file ≡ accepted es) whe
       let gives : s .head .number ≡ lookupOf file (f .head .number) .standing = ap (λ r. r .standing) (sym (looked f a)) in
       let same : (g : Entry) → From es es g → g .head .number ≡ lookupOf file (f .head .number) .standing → OneLattice g f =
       λ g p q. one-trans (p .prints .one) (subst (λ x. OneLattice x f)
-          (sym (one-number es (w .entered .distinct) (p .entry) s (p .among) there (sym (p .prints .number) ∙ q ∙ sym gives))) (standing-one es sound f a)) in
+      (sym (one-number es (w .entered .distinct) (p .entry) s (p .among) there (sym (p .prints .number) ∙ q ∙ sym gives))) (standing-one es sound f a)) in
       record {
         accepted = ap (λ r. r .refusal) (looked f a);
         standing = some-imp (λ h q. (ap (λ x. x .head .number) q ∙ gives, subst (Stands es f) (sym q) (standing-is es sound f a))) es there;
