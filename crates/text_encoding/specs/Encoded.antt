@@ -2,29 +2,13 @@
 use mathlib.Core.Path.{_≡_}
 use mathlib.Core.Bool.{Bool, true, cond}
 use mathlib.Core.List.{List, [], map}
-use Prim.Native.Nat.{ℕ, _+_, _-_, _/_}
+use Prim.Native.Nat.{ℕ, _/_}
 use lib.Dec.{ltb}
 use lib.ListN.{length, take}
-use Rattle.catalogue_rules.specs.Word.{Word, encode}
-use Rattle.catalogue_writer.specs.Over.{overWords}
+use Rattle.catalogue_rules.specs.Word.{Word, encode, bytesOf}
+use Rattle.catalogue_rules.specs.Output.{filledWith}
 use Rattle.text_rules.specs.Encoding.{linesOf, anyWrong, entriesFrom, ended}
 use Rattle.text_encoding.specs.declared.Told.{Told}
-
--- ---- words in a lent output
-
--- how many words there is room for
-abbrev pub roomIn : List ℕ → ℕ
-roomIn out = length out / 4
-
-abbrev pub kept : List ℕ → ℕ → List ℕ → List ℕ
-kept out k ws = take (roomIn out - k) ws
-
--- words from index k on, and the index behind them; all else stays
-pub record Stores (ws before : List ℕ) (k : ℕ) (after : List ℕ) (end : ℕ) : Type 0 where
-  pub bytes : after ≡ overWords before k (kept before k ws)
-  pub place : end ≡ k + length (kept before k ws)
-
--- ---- a text
 
 -- a longer text is not read
 abbrev pub mostText : ℕ
@@ -42,8 +26,13 @@ textWords text = cond (isLong text) [] (map encode (ended (entriesFrom (linesOf 
 abbrev pub textWrong : List ℕ → Bool
 textWrong text = cond (isLong text) true (anyWrong (linesOf text))
 
--- the words of the lines that are right, as far as there is room; how many entries there are, and whether a line is wrong
+-- as many of the words of the lines that are right as an output has room for
+abbrev pub storedWords : List ℕ → List ℕ → List ℕ
+storedWords text out = take (length out / 4) (textWords text)
+
+-- how many they are, and the output with them at its beginning; how many entries there are, and whether a line is wrong
 pub record Tells (text before after : List ℕ) (r : Told) : Type 0 where
-  pub stored : Stores (textWords text) before 0 after (r .words)
+  pub stored : r .words ≡ length (storedWords text before)
+  pub lent : after ≡ filledWith (bytesOf (storedWords text before)) before .lent
   pub counted : r .entries ≡ length (textEntries text)
   pub wrong : r .wrong ≡ textWrong text

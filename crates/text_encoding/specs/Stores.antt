@@ -4,8 +4,21 @@ use mathlib.Core.List.{List, [], _∷_, _++_}
 use Prim.Native.Nat.{ℕ, zero, suc, _+_, _-_, _*_, _/_, _≤_}
 use native.Mathlib.Omega.{arith}
 use lib.ListN.{length, take, length-append, length-take}
-use Rattle.catalogue_writer.specs.Over.{overWords, length-over, over-none, over-more}
-use Rattle.text_encoding.specs.Encoded.{roomIn, kept, Stores}
+use Rattle.catalogue_rules.specs.Word.{bytesOf}
+use Rattle.catalogue_rules.specs.Output.{filledWith}
+use Rattle.catalogue_writer.specs.Over.{overWords, length-over, over-none, over-more, over-start}
+
+-- how many words there is room for
+abbrev pub roomIn : List ℕ → ℕ
+roomIn out = length out / 4
+
+abbrev pub kept : List ℕ → ℕ → List ℕ → List ℕ
+kept out k ws = take (roomIn out - k) ws
+
+-- words from index k on, and the index behind them; all else stays
+pub record Stores (ws before : List ℕ) (k : ℕ) (after : List ℕ) (end : ℕ) : Type 0 where
+  pub bytes : after ≡ overWords before k (kept before k ws)
+  pub place : end ≡ k + length (kept before k ws)
 
 -- an index that is in the output, or behind its last word
 pub record Room (out : List ℕ) (k : ℕ) : Type 0 where
@@ -63,3 +76,15 @@ stores-one {w} {before} {k} h e =
     let some : roomIn before - k ≡ suc (roomIn before - k - 1) = omega arith in
     let all : kept before k (w ∷ []) ≡ w ∷ [] = ap (λ n. take n (w ∷ [])) some ∙ ap (λ l. w ∷ l) (take-none (roomIn before - k - 1)) in
     record { bytes = e ∙ ap (overWords before k) (sym all); place = omega (arith, ap length all) }
+
+-- ---- from the start
+
+module _ {ws before after : List ℕ} {end : ℕ} (p : Stores ws before 0 after end) where
+  all-kept : kept before 0 ws ≡ take (roomIn before) ws
+  all-kept = let same : roomIn before - 0 ≡ roomIn before = omega arith in ap (λ n. take n ws) same
+
+  pub stored-count : end ≡ length (take (roomIn before) ws)
+  stored-count = omega (arith, p .place, ap length all-kept)
+
+  pub stored-bytes : after ≡ filledWith (bytesOf (take (roomIn before) ws)) before .lent
+  stored-bytes = p .bytes ∙ ap (overWords before 0) all-kept ∙ over-start before (take (roomIn before) ws)

@@ -15,8 +15,8 @@ use Rattle.text_lines.specs.declared.Line.{Line}
 use Rattle.text_lines.specs.Told.{isNone, wordsIn, encodedLine, lineRead}
 use Rattle.text_lines.specs.ToldLaws.{line-blank, line-told}
 use Rattle.text_encoding.specs.declared.Told.{Told}
-use Rattle.text_encoding.specs.Encoded.{Stores, mostText, isLong, textEntries, textWords, textWrong, Tells}
-use Rattle.text_encoding.specs.Stores.{Room, stores-none, stores-room, stores-then}
+use Rattle.text_encoding.specs.Encoded.{mostText, isLong, textEntries, textWords, textWrong, Tells}
+use Rattle.text_encoding.specs.Stores.{Stores, Room, stores-none, stores-room, stores-then, stored-count, stored-bytes}
 use Rattle.text_encoding.specs.Splits.{lineLength, entries-split, wrong-split}
 
 -- ---- one line more
@@ -146,8 +146,10 @@ pub tells-nothing : (text before : List ℕ) → mostText < length text → Tell
 tells-nothing text before h =
     let long : isLong text ≡ true = lt-ltb mostText (length text) h in
     let words : textWords text ≡ [] = ap (λ b. cond b [] (map encode (ended (entriesFrom (linesOf text))))) long in
+    let stored = subst (λ ws. Stores ws before 0 before 0) (sym words) (stores-none before 0) in
     record {
-      stored = subst (λ ws. Stores ws before 0 before 0) (sym words) (stores-none before 0);
+      stored = stored-count stored;
+      lent = stored-bytes stored;
       counted = sym (ap (λ b. length (cond b [] (entriesFrom (linesOf text)))) long);
       wrong = sym (ap (λ b. cond b true (anyWrong (linesOf text))) long);
     }
@@ -166,8 +168,10 @@ going-ends {text} {before} {from} {out} {e} {after} {k} {w} small room g h f p =
     ∙ sym (map-append encode (joined (g .entries)) (end (length (g .entries)) ∷ []))
     ∙ ap (λ es. map encode (ended es)) (sym all)
     ∙ sym (ap (λ b. cond b [] (map encode (ended (entriesFrom (linesOf text))))) short) in
+    let stored = subst (λ ws. Stores ws before 0 after k) words (stores-then room (g .stored) p) in
     record {
-      stored = subst (λ ws. Stores ws before 0 after k) words (stores-then room (g .stored) p);
+      stored = stored-count stored;
+      lent = stored-bytes stored;
       counted = g .counted ∙ ap length (sym all) ∙ sym (ap (λ b. length (cond b [] (entriesFrom (linesOf text)))) short);
       wrong = sym bad ∙ sym (ap (λ b. cond b true (anyWrong (linesOf text))) short);
     }

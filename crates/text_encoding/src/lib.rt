@@ -5,8 +5,8 @@ ghost use Prim.Native.Nat.{_*_, _≤_};
 ghost use lib.ListN.{length};
 ghost use Rattle.text_rules.specs.Encoding.{linesOf, lineWords, lineHolding};
 ghost use Rattle.text_lines.specs.Told.{seeTold, wordsIn};
-ghost use Rattle.text_encoding.specs.Encoded.{Stores, Tells};
-ghost use Rattle.text_encoding.specs.Stores.{Room};
+ghost use Rattle.text_encoding.specs.Encoded.{Tells};
+ghost use Rattle.text_encoding.specs.Stores.{Room, Stores};
 ghost use Rattle.text_encoding.specs.Tells.{Adds};
 use text_lines::Line;
 

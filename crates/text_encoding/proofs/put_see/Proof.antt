@@ -5,8 +5,7 @@ use mathlib.Core.List.{[], _∷_}
 use borrow.Author.Needs.{needs}
 use borrow.Author.Tests.{eq-eqb, ne-eqb}
 use Rattle.text_lines.specs.Told.{seeTold}
-use Rattle.text_encoding.specs.Encoded.{Stores}
-use Rattle.text_encoding.specs.Stores.{stores-none}
+use Rattle.text_encoding.specs.Stores.{Stores, stores-none}
 use Rattle.text_encoding.proofs.put_see.Statement.{statement}
 use Rattle.text_encoding.proofs.put_see.Tie as tie
 

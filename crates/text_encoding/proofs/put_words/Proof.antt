@@ -7,8 +7,7 @@ use native.Mathlib.Omega.{arith}
 use lib.ListN.{getD, take}
 use lib.Seq.{take-suc, take-all}
 use borrow.Author.Needs.{needs}
-use Rattle.text_encoding.specs.Encoded.{Stores}
-use Rattle.text_encoding.specs.Stores.{Room, stores-none, stores-length, stores-room, stores-then}
+use Rattle.text_encoding.specs.Stores.{Stores, Room, stores-none, stores-length, stores-room, stores-then}
 use Rattle.text_encoding.proofs.put_words.Statement.{statement}
 use Rattle.text_encoding.proofs.put_words.Tie as tie
 
