@@ -6,7 +6,8 @@ use lib.Dec.{eqb}
 use lib.IntN.{ℤ}
 use lib.ListN.{take}
 use Rattle.integers.specs.Decimal.{decimal, signed}
-use Rattle.fold_rules.specs.Listing.{line, refusedWord}
+use Rattle.text_layout.specs.Fields.{line}
+use Rattle.fold_rules.specs.Listing.{refusedWord}
 use Rattle.text_output.specs.Joined.{joined}
 use Rattle.engine.specs.declared.Reduction.{Reduction}
 use Rattle.engine.specs.declared.NearestVector.{NearestVector}

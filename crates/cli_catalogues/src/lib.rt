@@ -117,6 +117,16 @@ pub fn decode(fd: i32) {
     write_first(&text, length);
 }
 
+// Says the refusal of what a text tells, with the line of its word. 9 is about the whole.
+fn say_told(text: &[u8], number: u64, place: usize) {
+    if number == 9 {
+        refused(number, place);
+        return;
+    }
+    let line = text_encoding::line_of_word(text, place);
+    cli_answers::refusals::say_refused_line(number, place as u64, line as u64);
+}
+
 // Writes the catalogue that a text tells, unless something in it is wrong.
 pub fn encode(fd: i32) {
     let mut text = io::large_buffer();
@@ -141,8 +151,7 @@ pub fn encode(fd: i32) {
     let k = e.words * 4;
     let c = catalogue::read(&out[..k]);
     if c.refusal != 0 {
-        let line = text_encoding::line_of_word(&text[..n], c.place);
-        cli_answers::refusals::say_refused_line(c.refusal, c.place as u64, line as u64);
+        say_told(&text[..n], c.refusal, c.place);
         return;
     }
     write_first(&out, k);

@@ -65,26 +65,15 @@ fn nearest(first: &[u8], second: &[u8]) {
     cli_requests::nearest(o.numbered, o.basis);
 }
 
-// The descriptor to read from: of the file that is named, or standard input where none is. What cannot be opened is said on standard error,
-// and the answer is negative.
-fn source(path: &[u8]) -> i32 {
-    if path.len() == 0 {
-        return STDIN_FILENO;
-    }
-    let fd = os::open_read(path);
-    if fd < 0 {
-        os::fail(path);
-    }
-    fd
-}
-
-// Does what is done with a whole catalogue. False where the word is no such command.
-fn catalogue(word: &[u8], fd: i32) -> bool {
-    if fd < 0 {
-        return true;
-    }
+// Does what is done with a whole catalogue. False where the word is no such command. It is called from two places, so that its arrays do not
+// become part of the stack that the streams need.
+fn catalogue(word: &[u8], number: &[u8], fd: i32) -> bool {
     if check::same(word, b"fold") {
         cli_catalogues::fold(fd);
+        return true;
+    }
+    if check::same(word, b"lookup") {
+        cli_catalogues::lookup(fd, number);
         return true;
     }
     if check::same(word, b"list") {
@@ -104,18 +93,30 @@ fn catalogue(word: &[u8], fd: i32) -> bool {
 
 fn is_catalogue(word: &[u8]) -> bool {
     check::same(word, b"fold")
+        || check::same(word, b"lookup")
         || check::same(word, b"list")
         || check::same(word, b"encode")
         || check::same(word, b"decode")
 }
 
-// Looks a number up in the catalogue that is named.
-fn lookup(number: &[u8], path: &[u8]) {
-    let fd = source(path);
-    if fd < 0 {
+// The same from the file that is named, or from standard input where none is.
+fn from_source(word: &[u8], number: &[u8], path: &[u8]) {
+    if path.len() == 0 {
+        if !catalogue(word, number, STDIN_FILENO) {
+            help::say_usage();
+        }
         return;
     }
-    cli_catalogues::lookup(fd, number);
+    if !is_catalogue(word) {
+        help::say_usage();
+        return;
+    }
+    let fd = os::open_read(path);
+    if fd < 0 {
+        os::fail(path);
+        return;
+    }
+    catalogue(word, number, fd);
 }
 
 // What the program says of itself. False where the word asks for something else.
@@ -150,7 +151,7 @@ pub fn run(word: &[u8], first: &[u8], second: &[u8], more: bool) {
         return;
     }
     if check::same(word, b"lookup") {
-        lookup(first, second);
+        from_source(word, first, second);
         return;
     }
     if second.len() != 0 {
@@ -160,9 +161,5 @@ pub fn run(word: &[u8], first: &[u8], second: &[u8], more: bool) {
     if about(word, first) {
         return;
     }
-    if is_catalogue(word) {
-        catalogue(word, source(first));
-        return;
-    }
-    help::say_usage();
+    from_source(word, b"", first);
 }

@@ -4,7 +4,7 @@ use Prim.Native.Nat.{ℕ}
 use lib.IntN.{ℤ}
 use lib.ListN.{take}
 use Rattle.integers.specs.Decimal.{signed}
-use Rattle.fold_rules.specs.Listing.{line}
+use Rattle.text_layout.specs.Fields.{line}
 
 abbrev pub rowLine : ℕ → ℕ → List ℤ → List ℕ
 rowLine letter n row = line (letter ∷ []) (map signed (take n row))

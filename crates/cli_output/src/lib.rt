@@ -4,7 +4,7 @@ ghost use mathlib.Core.List.{[], _∷_, map};
 ghost use Prim.Native.Nat.{_+_, _*_, _≤_, min};
 ghost use lib.ListN.{length, take};
 ghost use Rattle.integers.specs.Decimal.{decimal, signed};
-ghost use Rattle.fold_rules.specs.Listing.{after};
+ghost use Rattle.text_layout.specs.Fields.{after};
 ghost use Rattle.text_output.specs.Puts.{Puts};
 ghost use Rattle.text_output.specs.Joined.{joined};
 ghost use Rattle.text_fields.specs.Blank.{blank};

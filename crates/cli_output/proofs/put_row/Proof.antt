@@ -10,7 +10,7 @@ use mir.Val.{toZ, ofZ}
 use mir.Facts.{toZ-ofZ}
 use borrow.Author.Needs.{needs}
 use Rattle.integers.specs.Decimal.{signed}
-use Rattle.fold_rules.specs.Listing.{after}
+use Rattle.text_layout.specs.Fields.{after}
 use Rattle.text_output.specs.Puts.{Puts, puts-none, puts-then, puts-length}
 use Rattle.text_output.specs.Joined.{joined, puts-next, puts-all}
 use Rattle.text_fields.specs.Blank.{blank, after-joined}
