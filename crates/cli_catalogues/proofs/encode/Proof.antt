@@ -63,8 +63,14 @@ slice-aggregate-read c = sym (length-take-le _ _ (omega arith))
 read-requires : tie.Need-read-requires
 read-requires c κs = search needs
 
-refused-requires : tie.Need-refused-requires
-refused-requires c κs = search needs
+array-share-prefix-text-3 : tie.Need-array-share-prefix-text-3
+array-share-prefix-text-3 c = search needs
+
+slice-aggregate-say-told : tie.Need-slice-aggregate-say-told
+slice-aggregate-say-told c = search needs
+
+say-told-requires : tie.Need-say-told-requires
+say-told-requires c κs = search needs
 
 returns-4 : tie.Need-returns-4
 returns-4 c = search needs
@@ -101,7 +107,9 @@ encode-spec =
     array-share-prefix-out
     slice-aggregate-read
     read-requires
-    refused-requires
+    array-share-prefix-text-3
+    slice-aggregate-say-told
+    say-told-requires
     returns-4
     slice-aggregate-write-first
     write-first-requires
