@@ -6,57 +6,61 @@ use lib.IntN.{ℤ}
 use Rattle.lattices.specs.Vector.{Vec}
 use Rattle.lattices.specs.Refusal.{Input}
 
--- "The limits belong to the catalogue form: 256 entries, 18,436 bytes"; a coordinate's load is at most 40,000
+-- R2.7: "The limits belong to the catalogue form: 256 entries, 18,436 bytes"; a coordinate's load is at most 40,000
 abbrev pub mostEntries : ℕ
 mostEntries = 256
 
+-- R2.7
 abbrev pub mostBytes : ℕ
 mostBytes = 18436
 
+-- R6.4
 abbrev pub mostLoad : ℕ
 mostLoad = 40000
 
--- a head, and the index of its word
+-- R6.3, R6.5, R6.8: a head, and the index of its word
 pub record Head : Type 0 where
   pub number : ℕ
   pub d : ℕ
   pub m : ℕ
   pub place : ℕ
 
--- a see word: the number of the entry referred to, and the index of the word
+-- R6.3, R6.5, R6.8: a see word: the number of the entry referred to, and the index of the word
 pub record See : Type 0 where
   pub number : ℕ
   pub place : ℕ
 
--- "An entry is a head, then d times m coordinates vector by vector, then at most one see word."
+-- R6.3, R6.5, R6.8: "An entry is a head, then d times m coordinates vector by vector, then at most one see word."
 pub record Entry : Type 0 where
   pub head : Head
   pub vectors : List Vec
   pub see : Option See
 
--- the coordinates vector by vector
+-- R6.3, R6.5, R6.8: the coordinates vector by vector
 abbrev pub coordinates : List Vec → List ℤ
 coordinates [] = []
 coordinates (v ∷ vs) = v ++ coordinates vs
 
--- an entry as the engine's input
+-- R6.10: an entry as the engine's input
 abbrev pub inputOf : Entry → Input
 inputOf e = record { numbers = coordinates (e .vectors); d = e .head .d; m = e .head .m; target = [] }
 
--- the outcome of reading
+-- R5.4, R8.8: the outcome of reading
 pub data Outcome : Type 0 where
   refused : (number place : ℕ) → Outcome
   accepted : List Entry → Outcome
 
--- its parts; a refusal has no entries
+-- R5.4, R8.8: its parts; a refusal has no entries
 abbrev pub refusal : Outcome → ℕ
 refusal (refused n p) = n
 refusal (accepted es) = 0
 
+-- R5.4, R8.8
 abbrev pub place : Outcome → ℕ
 place (refused n p) = p
 place (accepted es) = 0
 
+-- R5.4, R8.8
 abbrev pub entries : Outcome → List Entry
 entries (refused n p) = []
 entries (accepted es) = es

@@ -13,43 +13,48 @@ use Rattle.integers.specs.All.{All}
 use Rattle.catalogue_rules.specs.Catalogue.{Head, See, Entry, coordinates, mostEntries}
 use Rattle.catalogue_rules.specs.Read.{isNumbered}
 
--- "Entry numbers run from 1 to 1,048,575."
+-- R2.7, R6.3: "Entry numbers run from 1 to 1,048,575."
 abbrev pub mostNumber : ℕ
 mostNumber = 1048575
 
+-- R2.7, R6.3
 pub record HeadFits (h : Head) : Type 0 where
   pub number : oneTo mostNumber (h .number) ≡ true
   pub d : oneTo mostVectors (h .d) ≡ true
   pub m : oneTo mostCoordinates (h .m) ≡ true
 
+-- R2.1 to R2.4, R6.8
 pub record VectorFits (m : ℕ) (v : Vec) : Type 0 where
   pub full : length v ≡ m
   pub short : tooLong v ≡ false
 
--- d vectors of m coordinates, within the limits
+-- R2.1 to R2.4, R6.8: d vectors of m coordinates, within the limits
 pub record EntryFits (e : Entry) : Type 0 where
   pub head : HeadFits (e .head)
   pub count : length (e .vectors) ≡ e .head .d
   pub vectors : All (VectorFits (e .head .m)) (e .vectors)
 
--- no number is used twice
+-- R6.10: no number is used twice
 abbrev pub Distinct : List Entry → Type 0
 Distinct [] = Unit {0}
 Distinct (e ∷ es) = (any (isNumbered (e .head .number)) es ≡ false) × Distinct es
 
--- what is known before the end
+-- R6.10: what is known before the end
 pub record Entered (es : List Entry) : Type 0 where
   pub few : length es ≤ mostEntries
   pub fits : All EntryFits es
   pub distinct : Distinct es
 
+-- R6.10
 abbrev pub EntryIndependent : Entry → Type 0
 EntryIndependent e = isDependent (e .head .m) (e .vectors) ≡ false
 
+-- R6.10
 abbrev pub Names : List Entry → Option See → Type 0
 Names es none = Unit {0}
 Names es (some s) = any (isNumbered (s .number)) es ≡ true
 
+-- R6.10
 pub record WellFormed (es : List Entry) : Type 0 where
   pub entered : Entered es
   pub independent : All EntryIndependent es
@@ -57,25 +62,29 @@ pub record WellFormed (es : List Entry) : Type 0 where
 
 -- ---- places: a head, its coordinates, a see word if there is one
 
+-- R8.9
 abbrev pub seeAt : ℕ → Option See → Option See
 seeAt i none = none
 seeAt i (some s) = some (record { number = s .number; place = i })
 
+-- R8.9
 abbrev pub pastSee : ℕ → Option See → ℕ
 pastSee i none = i
 pastSee i (some s) = suc i
 
--- the index after an entry's coordinates, its head being at i
+-- R8.9: the index after an entry's coordinates, its head being at i
 abbrev pub pastVectors : ℕ → List Vec → ℕ
 pastVectors i vs = suc i + length (coordinates vs)
 
+-- R8.9
 abbrev pub headAt : ℕ → Head → Head
 headAt i h = record { number = h .number; d = h .d; m = h .m; place = i }
 
+-- R8.9
 abbrev pub entryAt : ℕ → Entry → Entry
 entryAt i e = record { head = headAt i (e .head); vectors = e .vectors; see = seeAt (pastVectors i (e .vectors)) (e .see) }
 
--- the entries as they stand when the first head is at i
+-- R8.9: the entries as they stand when the first head is at i
 abbrev pub placed : ℕ → List Entry → List Entry
 placed i [] = []
 placed i (e ∷ es) = entryAt i e ∷ placed (pastSee (pastVectors i (e .vectors)) (e .see)) es

@@ -15,7 +15,7 @@ use Rattle.lattices.specs.Refusal.{oneTo, mostVectors, mostCoordinates, mostSqu
 use Rattle.catalogue_rules.specs.Word.{Word, head, coordinate, see, end, other, decode, wordsOf}
 use Rattle.catalogue_rules.specs.Catalogue.{Head, See, Entry, Outcome, refused, accepted, mostEntries, mostBytes, mostLoad}
 
--- what has been read, by what may come next
+-- R6.8, R6.9, R9.10, R9.14: what has been read, by what may come next
 pub data State : Type 0 where
   -- a head or the end
   outside : List Entry → State
@@ -30,7 +30,7 @@ pub data Step : Type 0 where
   next : State → Step
   stop : (number : ℕ) → Step
 
--- rows of the table, each a condition and a number: "the first that applies is given, and none otherwise"
+-- R8.1: rows of the table, each a condition and a number: "the first that applies is given, and none otherwise"
 abbrev pub checked : {A : Type 0} → (ℕ → A) → List (Bool × ℕ) → A → A
 checked refuse [] a = a
 checked refuse (r ∷ rows) a = elim (r .0) [ true ↦ refuse (r .1) | false ↦ checked refuse rows a ]
@@ -38,11 +38,11 @@ checked refuse (r ∷ rows) a = elim (r .0) [ true ↦ refuse (r .1) | false ↦
 abbrev pub isNumbered : ℕ → Entry → Bool
 isNumbered n e = eqb (e .head .number) n
 
--- the entries with one more, its see word given or not
+-- R6.8, R6.9, R9.10, R9.14: the entries with one more, its see word given or not
 abbrev pub withEntry : List Entry → Head → List Vec → Option See → List Entry
 withEntry es h vs s = es ++ (record { head = h; vectors = vs; see = s } ∷ [])
 
--- row "head"
+-- R8.5, R9.15, R9.1, R9.2, R9.11: row "head"
 abbrev pub headRows : List Entry → Head → List (Bool × ℕ)
 headRows es h =
     (leb mostEntries (length es), 15)
@@ -51,38 +51,41 @@ headRows es h =
     ∷ (eqb (h .number) 0 || any (isNumbered (h .number)) es, 11)
     ∷ []
 
+-- R8.5, R9.15, R9.1, R9.2, R9.11
 abbrev pub atHead : List Entry → Head → Step
 atHead es h = checked stop (headRows es h) (next (inside es h [] []))
 
--- "coordinate plus 20,000"
+-- R6.4: "coordinate plus 20,000"
 abbrev pub coordinateOf : ℕ → ℤ
 coordinateOf l = pos l -ℤ pos mostSize
 
--- d vectors, then the entry is whole
+-- R6.8, R6.9, R9.10, R9.14: d vectors, then the entry is whole
 abbrev pub withVector : List Entry → Head → List Vec → State
 withVector es h vs = elim (eqb (length vs) (h .d)) [ true ↦ after es h vs | false ↦ inside es h vs [] ]
 
--- m coordinates, then the vector is whole
+-- R6.8, R6.9, R9.10, R9.14: m coordinates, then the vector is whole
 abbrev pub withCoordinate : List Entry → Head → List Vec → Vec → State
 withCoordinate es h vs v = elim (eqb (length v) (h .m)) [ true ↦ withVector es h (vs ++ (v ∷ [])) | false ↦ inside es h vs v ]
 
--- row "coordinate", for a vector up to this coordinate
+-- R8.5, R9.4: row "coordinate", for a vector up to this coordinate
 abbrev pub coordinateRows : Head → Vec → ℕ → List (Bool × ℕ)
 coordinateRows h v l = (ltb mostLoad l || (eqb (length v) (h .m) && ltZ (pos mostSquare) (N v)), 4) ∷ []
 
+-- R8.5, R9.4
 abbrev pub atCoordinate : List Entry → Head → List Vec → Vec → ℕ → Step
 atCoordinate es h vs v l =
     let u = v ++ (coordinateOf l ∷ []) in
     checked stop (coordinateRows h u l) (next (withCoordinate es h vs u))
 
--- row "end", its first condition
+-- R8.5, R9.13: row "end", its first condition
 abbrev pub endRows : List Entry → ℕ → List (Bool × ℕ)
 endRows es count = (not (eqb count (length es)), 13) ∷ []
 
+-- R8.5, R9.13
 abbrev pub atEnd : List Entry → ℕ → Step
 atEnd es count = checked stop (endRows es count) (next (closed es))
 
--- the word at index i; 10 for "a kind that cannot stand here", 14 for "words follow"
+-- R6.8, R6.9, R9.10, R9.14: the word at index i; 10 for "a kind that cannot stand here", 14 for "words follow"
 unfoldable pub step : State → ℕ → Word → Step
 step (outside es) i (head number d m) = atHead es (record { number = number; d = d; m = m; place = i })
 step (outside es) i (coordinate l) = stop 10
@@ -101,48 +104,50 @@ step (after es h vs) i (end count) = atEnd (withEntry es h vs none) count
 step (after es h vs) i (other k l) = stop 10
 step (closed es) i w = stop 14
 
--- no word is left: 10 for "no word where one is due", at the number of words
+-- R8.5, R8.9, R9.10: no word is left: 10 for "no word where one is due", at the number of words
 abbrev pub atLast : State → ℕ → Outcome
 atLast (outside es) i = refused 10 i
 atLast (inside es h vs v) i = refused 10 i
 atLast (after es h vs) i = refused 10 i
 atLast (closed es) i = accepted es
 
--- the words from index i on
+-- R8.5, R8.9: the words from index i on
 unfoldable pub readWords : State → ℕ → List ℕ → Outcome
 readWords s i [] = atLast s i
 readWords s i (w ∷ words) = elim (step s i (decode w)) [ next t ↦ readWords t (suc i) words | stop n ↦ refused n i ]
 
--- row "after reading": the first place of which a test speaks, entry by entry
+-- R8.6, R8.9, R9.5, R9.12: row "after reading": the first place of which a test speaks, entry by entry
 abbrev pub firstPlace : (Entry → Option ℕ) → List Entry → Option ℕ
 firstPlace f [] = none
 firstPlace f (e ∷ es) = elim (f e) [ some p ↦ some p | none ↦ firstPlace f es ]
 
--- 5 stands at the head
+-- R8.6, R8.9, R9.5, R9.12: 5 stands at the head
 abbrev pub dependentAt : Entry → Option ℕ
 dependentAt e = elim (isDependent (e .head .m) (e .vectors)) [ true ↦ some (e .head .place) | false ↦ none ]
 
--- 12 stands at the see word
+-- R8.6, R8.9, R9.5, R9.12: 12 stands at the see word
 abbrev pub lostAt : List Entry → Entry → Option ℕ
 lostAt es e = elim (e .see) [
   | none ↦ none
   | some s ↦ elim (any (isNumbered (s .number)) es) [ true ↦ none | false ↦ some (s .place) ]
 ]
 
+-- R8.6, R8.9, R9.5, R9.12
 abbrev pub afterReading : List Entry → Outcome
 afterReading es = elim (firstPlace dependentAt es) [
   | some p ↦ refused 5 p
   | none ↦ elim (firstPlace (lostAt es) es) [ some p ↦ refused 12 p | none ↦ accepted es ]
 ]
 
--- of words that were read to the end
+-- R8.6, R8.9, R9.5, R9.12: of words that were read to the end
 abbrev pub afterWords : Outcome → Outcome
 afterWords (refused n p) = refused n p
 afterWords (accepted es) = afterReading es
 
--- row "whole file"
+-- R8.4, R9.8, R9.9: row "whole file"
 abbrev pub fileRows : List ℕ → List (Bool × ℕ)
 fileRows bytes = (not (eqb (length bytes % 4) 0), 8) ∷ (ltb mostBytes (length bytes), 9) ∷ []
 
+-- R8.4 to R8.6, R8.8
 unfoldable pub read : List ℕ → Outcome
 read bytes = checked (λ n. refused n 0) (fileRows bytes) (afterWords (readWords (outside []) 0 (wordsOf bytes)))

@@ -4,14 +4,15 @@ use mathlib.Core.List.{List, [], _∷_}
 use Prim.Native.Nat.{ℕ, _+_, _*_, _/_, _%_, _^_}
 use lib.Dec.{eqb}
 
--- "The top 4 bits are the kind, the other 28 the load."
+-- R6.2: "The top 4 bits are the kind, the other 28 the load."
 abbrev pub kind : ℕ → ℕ
 kind w = w / 2 ^ 28
 
+-- R6.2
 abbrev pub load : ℕ → ℕ
 load w = w % 2 ^ 28
 
--- "A word is a head, a coordinate, a see word or the end"; `other` is what is refused
+-- R6.3 to R6.7: "A word is a head, a coordinate, a see word or the end"; `other` is what is refused
 pub data Word : Type 0 where
   head : (number d m : ℕ) → Word
   coordinate : (load : ℕ) → Word
@@ -19,11 +20,11 @@ pub data Word : Type 0 where
   end : (count : ℕ) → Word
   other : (kind load : ℕ) → Word
 
--- head: "bits 8–27 entry number, bits 4–7 d, bits 0–3 m"
+-- R6.3: head: "bits 8–27 entry number, bits 4–7 d, bits 0–3 m"
 abbrev pub headOf : ℕ → Word
 headOf l = head (l / 256) (l / 16 % 16) (l % 16)
 
--- the case of a kind with a load
+-- R6.2 to R6.7: the case of a kind with a load
 abbrev pub wordOf : ℕ → ℕ → Word
 wordOf k l =
     elim (eqb k 1) [
@@ -37,10 +38,11 @@ wordOf k l =
       ]
     ]
 
+-- R6.2 to R6.7
 unfoldable pub decode : ℕ → Word
 decode w = wordOf (kind w) (load w)
 
--- a word from its case back
+-- R6.2 to R6.7: a word from its case back
 abbrev pub kindOf : Word → ℕ
 kindOf (head number d m) = 1
 kindOf (coordinate l) = 2
@@ -48,6 +50,7 @@ kindOf (see number) = 3
 kindOf (end count) = 4
 kindOf (other k l) = k
 
+-- R6.2 to R6.7
 abbrev pub loadOf : Word → ℕ
 loadOf (head number d m) = number * 256 + d * 16 + m
 loadOf (coordinate l) = l
@@ -55,10 +58,11 @@ loadOf (see number) = number
 loadOf (end count) = count
 loadOf (other k l) = l
 
+-- R6.2 to R6.7
 unfoldable pub encode : Word → ℕ
 encode w = kindOf w * 2 ^ 28 + loadOf w
 
--- "a run of 32-bit words, lowest byte first"; up to three bytes that make no word are left out
+-- R6.1: "a run of 32-bit words, lowest byte first"; up to three bytes that make no word are left out
 abbrev pub wordsOf : List ℕ → List ℕ
 wordsOf [] = []
 wordsOf (a ∷ []) = []
@@ -66,6 +70,7 @@ wordsOf (a ∷ b ∷ []) = []
 wordsOf (a ∷ b ∷ c ∷ []) = []
 wordsOf (a ∷ b ∷ c ∷ d ∷ bytes) = (a + b * 256 + c * 65536 + d * 16777216) ∷ wordsOf bytes
 
+-- R6.1
 abbrev pub bytesOf : List ℕ → List ℕ
 bytesOf [] = []
 bytesOf (w ∷ words) = w % 256 ∷ w / 256 % 256 ∷ w / 65536 % 256 ∷ w / 16777216 % 256 ∷ bytesOf words

@@ -8,28 +8,32 @@ use Rattle.lattices.specs.Refusal.{mostSize}
 use Rattle.catalogue_rules.specs.Word.{Word, head, coordinate, see, end, encode, bytesOf}
 use Rattle.catalogue_rules.specs.Catalogue.{Head, See, Entry, coordinates}
 
+-- R6.3 to R6.5, R6.8
 abbrev pub headWord : Head → Word
 headWord h = head (h .number) (h .d) (h .m)
 
--- "coordinate plus 20,000"
+-- R6.3 to R6.5, R6.8: "coordinate plus 20,000"
 abbrev pub coordinateWord : ℤ → Word
 coordinateWord x = coordinate (natAbs (x +ℤ pos mostSize))
 
--- "at most one see word"
+-- R6.3 to R6.5, R6.8: "at most one see word"
 abbrev pub seeWords : Option See → List Word
 seeWords none = []
 seeWords (some s) = see (s .number) ∷ []
 
+-- R6.3 to R6.5, R6.8
 abbrev pub entryWords : Entry → List Word
 entryWords e = headWord (e .head) ∷ (map coordinateWord (coordinates (e .vectors)) ++ seeWords (e .see))
 
+-- R6.3 to R6.5, R6.8
 abbrev pub entriesWords : List Entry → List Word
 entriesWords [] = []
 entriesWords (e ∷ es) = entryWords e ++ entriesWords es
 
--- "The end word is last and always present"; its load: "how many entries came before"
+-- R6.9, R6.11: "The end word is last and always present"; its load: "how many entries came before"
 abbrev pub catalogueWords : List Entry → List Word
 catalogueWords es = entriesWords es ++ (end (length es) ∷ [])
 
+-- R6.9, R6.11
 unfoldable pub write : List Entry → List ℕ
 write es = bytesOf (map encode (catalogueWords es))

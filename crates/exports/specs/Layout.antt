@@ -9,35 +9,35 @@ use Rattle.lattices.specs.Answer.{Reduction, Nearest}
 use Rattle.catalogue_rules.specs.Output.{Output}
 use Rattle.fold_rules.specs.Services.{Lookup}
 
--- the rows of a table one after another
+-- R16.2: the rows of a table one after another
 abbrev pub flat : List (List ℤ) → List ℤ
 flat [] = []
 flat (r ∷ rows) = r ++ flat rows
 
--- what stands before an answer's rows: refusal, place and one number
+-- R16.1: what stands before an answer's rows: refusal, place and one number
 abbrev pub head : ℕ → ℕ → ℤ → List ℤ
 head refusal place number = pos refusal ∷ pos place ∷ number ∷ []
 
--- a reduction's answer: head with the passes, squared lengths, vectors, U, V
+-- R16.2: a reduction's answer: head with the passes, squared lengths, vectors, U, V
 unfoldable pub layout : Reduction → List ℤ
 layout a = head (a .refusal) (a .place) (pos (a .passes)) ++ (a .squares ++ (flat (a .basis) ++ (flat (a .u) ++ flat (a .v))))
 
--- the answer with a nearest vector: head with the squared distance, coefficients, vector
+-- R16.3: the answer with a nearest vector: head with the squared distance, coefficients, vector
 unfoldable pub layoutNearest : Nearest → List ℤ
 layoutNearest a = head (a .refusal) (a .place) (a .square) ++ (a .coefficients ++ a .vector)
 
--- the answer of a writing: head with the length written; the output itself is lent
+-- R16.4: the answer of a writing: head with the length written; the output itself is lent
 abbrev pub layoutOutput : Output → List ℤ
 layoutOutput o = head (o .refusal) (o .place) (pos (o .written))
 
--- the answer of a lookup: head with the standing number
+-- R16.4: the answer of a lookup: head with the standing number
 abbrev pub layoutLookup : Lookup → List ℤ
 layoutLookup l = head (l .refusal) (l .place) (pos (l .standing))
 
--- a lent run of numbers after n numbers are written to it: one that is too short stays
+-- R16.5: a lent run of numbers after n numbers are written to it: one that is too short stays
 abbrev pub written : List ℤ → ℕ → List ℤ → List ℤ
 written before n numbers = cond (leb n (length before)) (numbers ++ drop n before) before
 
--- an output lent beside an answer of n numbers: it stays where the answer is too short
+-- R16.5: an output lent beside an answer of n numbers: it stays where the answer is too short
 abbrev pub beside : List ℤ → ℕ → (before after : List ℕ) → List ℕ
 beside answer n before after = cond (leb n (length answer)) after before

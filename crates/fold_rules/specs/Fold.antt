@@ -14,83 +14,89 @@ use Rattle.catalogue_rules.specs.Form.{placed}
 
 -- ---- one lattice
 
--- the reduced vectors of an entry
+-- R7.3: the reduced vectors of an entry
 abbrev pub reducedOf : Entry → List Vec
 reducedOf e = vectors (reduction (e .vectors) .rows)
 
--- every vector of f is in the lattice of e
+-- R1.7: every vector of f is in the lattice of e
 abbrev pub holds : Entry → Entry → Bool
 holds e f = every (isMember (reducedOf e)) (f .vectors)
 
--- "Lattices of different m are never one lattice."
+-- R1.7: "Lattices of different m are never one lattice."
 unfoldable pub sameLattice : Entry → Entry → Bool
 sameLattice e f = eqb (e .head .m) (f .head .m) && (holds e f && holds f e)
 
 -- ---- the standing rule
 
--- the first entry with a property, and `other` where there is none
+-- R7.1: the first entry with a property, and `other` where there is none
 abbrev pub firstEntry : (Entry → Bool) → Entry → List Entry → Entry
 firstEntry has other [] = other
 firstEntry has other (e ∷ es) = elim (has e) [ true ↦ e | false ↦ firstEntry has other es ]
 
--- "The standing entry of an entry is the first in the file with the same m and the same lattice."
+-- R7.1: "The standing entry of an entry is the first in the file with the same m and the same lattice."
 unfoldable pub standing : List Entry → Entry → Entry
 standing es e = firstEntry (λ f. sameLattice f e) e es
 
 -- ---- the closed list: every entry has its standing entry before any see word is resolved
 
+-- R7.6
 pub record Stood : Type 0 where
   pub entry : Entry
   pub standing : Entry
 
+-- R7.6
 abbrev pub stoodOf : List Entry → Entry → Stood
 stoodOf es e = record { entry = e; standing = standing es e }
 
+-- R7.6
 abbrev pub closedList : List Entry → List Stood
 closedList es = map (stoodOf es) es
 
--- an entry stands when its standing entry is itself
+-- R7.1, R7.2: an entry stands when its standing entry is itself
 abbrev pub stands : Stood → Bool
 stands s = isNumbered (s .standing .head .number) (s .entry)
 
--- the standing entries in file order
+-- R7.1, R7.2: the standing entries in file order
 abbrev pub standingIn : List Stood → List Stood
 standingIn [] = []
 standingIn (s ∷ ss) = elim (stands s) [ true ↦ s ∷ standingIn ss | false ↦ standingIn ss ]
 
--- "Lookup gives the standing number": that of the entry with number n, if there is one
+-- R7.8: "Lookup gives the standing number": that of the entry with number n, if there is one
 abbrev pub lookup : List Stood → ℕ → Option ℕ
 lookup [] n = none
 lookup (s ∷ ss) n = elim (isNumbered n (s .entry)) [ true ↦ some (s .standing .head .number) | false ↦ lookup ss n ]
 
 -- ---- the see-word rule
 
--- a see word led to the standing number `there`, unless that is its own
+-- R7.4, R11.4: a see word led to the standing number `there`, unless that is its own
 abbrev pub unlessOwn : Bool → See → (there : ℕ) → Option See
 unlessOwn true w there = none
 unlessOwn false w there = some (record { number = there; place = w .place })
 
+-- R7.4, R11.4
 abbrev pub led : (own : ℕ) → See → (there : ℕ) → Option See
 led own w there = unlessOwn (eqb there own) w there
 
+-- R7.4, R11.4
 abbrev pub followed : List Stood → (own : ℕ) → Option See → Option See
 followed ss own none = none
 followed ss own (some w) = elim (lookup ss (w .number)) [ none ↦ none | some there ↦ led own w there ]
 
--- "a see word if its own see word names an entry whose standing entry is another than the entry that carries the word; the word then
+-- R7.4, R11.4: "a see word if its own see word names an entry whose standing entry is another than the entry that carries the word; the word then
 -- names that standing entry"; for the listing, the word of an entry that does not stand counts as carried by its standing entry
 abbrev pub leads : List Stood → Stood → Option See
 leads ss s = followed ss (s .standing .head .number) (s .entry .see)
 
 -- ---- the folded catalogue
 
--- "each with its number, its reduced vectors, and a see word if …"
+-- R7.3, R7.4: "each with its number, its reduced vectors, and a see word if …"
 abbrev pub printed : List Stood → Stood → Entry
 printed ss s = record { head = s .entry .head; vectors = reducedOf (s .entry); see = leads ss s }
 
+-- R7.2, R7.5
 abbrev pub printedIn : List Stood → List Entry
 printedIn ss = map (printed ss) (standingIn ss)
 
--- "The folded catalogue holds the standing entries in file order", each word at its new place
+-- R7.2, R7.5: "The folded catalogue holds the standing entries in file order", each word at its new place
 unfoldable pub folded : List Entry → List Entry
 folded es = placed 0 (printedIn (closedList es))

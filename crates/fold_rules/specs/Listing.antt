@@ -12,40 +12,44 @@ use Rattle.catalogue_rules.specs.Catalogue.{See, Outcome, refused, accepted}
 use Rattle.catalogue_rules.specs.Read.{read}
 use Rattle.fold_rules.specs.Fold.{reducedOf, Stood, closedList, stands, standingIn, leads}
 
--- "refused"
+-- R11.6: "refused"
 abbrev pub refusedWord : List ℕ
 refusedWord = 114 ∷ 101 ∷ 102 ∷ 117 ∷ 115 ∷ 101 ∷ 100 ∷ []
 
--- `a line "v" and the coordinates for each reduced vector`
+-- R11.5: `a line "v" and the coordinates for each reduced vector`
 abbrev pub vectorLines : List Vec → List ℕ
 vectorLines [] = []
 vectorLines (v ∷ vs) = line (118 ∷ []) (map signed v) ++ vectorLines vs
 
--- "number that its own see word leads to (0 for none, or for its own standing entry)"
+-- R11.4: "number that its own see word leads to (0 for none, or for its own standing entry)"
 abbrev pub leadNumber : Option See → ℕ
 leadNumber none = 0
 leadNumber (some w) = w .number
 
+-- R11.3
 abbrev pub entryLine : List Stood → Stood → List ℕ
 entryLine ss s =
     line (decimal (s .entry .head .number))
     (decimal (s .standing .head .number) ∷ decimal (leadNumber (leads ss s)) ∷ decimal (reduction (s .entry .vectors) .passes) ∷ [])
 
--- "A standing entry is followed by" its vectors
+-- R11.5: "A standing entry is followed by" its vectors
 abbrev pub vectorsShown : Stood → List ℕ
 vectorsShown s = elim (stands s) [ true ↦ vectorLines (reducedOf (s .entry)) | false ↦ [] ]
 
+-- R11.5
 abbrev pub entryLines : List Stood → List Stood → List ℕ
 entryLines ss [] = []
 entryLines ss (s ∷ more) = entryLine ss s ++ (vectorsShown s ++ entryLines ss more)
 
--- "Its first line holds entries and standing entries."
+-- R11.2: "Its first line holds entries and standing entries."
 abbrev pub catalogueLines : List Stood → List ℕ
 catalogueLines ss = line (decimal (length ss)) (decimal (length (standingIn ss)) ∷ []) ++ entryLines ss ss
 
+-- R11.6
 abbrev pub listed : Outcome → List ℕ
 listed (refused n p) = line refusedWord (decimal n ∷ decimal p ∷ [])
 listed (accepted es) = catalogueLines (closedList es)
 
+-- R11.6
 unfoldable pub listingOf : List ℕ → List ℕ
 listingOf file = listed (read file)

@@ -21,12 +21,12 @@ use Rattle.fold_rules.specs.Services.{foldOf, nowhere, lookupOf}
 abbrev pub Among : Entry → List Entry → Type 0
 Among e es = Some (λ f. f ≡ e) es
 
--- both generate one lattice: the same m, and the same vectors are combinations
+-- R12.3: both generate one lattice: the same m, and the same vectors are combinations
 pub record OneLattice (e f : Entry) : Type 0 where
   pub m : e .head .m ≡ f .head .m
   pub lattice : (v : Vec) → In (e .vectors) v ↔ In (f .vectors) v
 
--- f is the standing entry of e: it generates the lattice of e, and no entry before it in the file does
+-- R12.3: f is the standing entry of e: it generates the lattice of e, and no entry before it in the file does
 pub record Stands (es : List Entry) (e f : Entry) : Type 0 where
   pub before : List Entry
   pub after : List Entry
@@ -34,7 +34,7 @@ pub record Stands (es : List Entry) (e f : Entry) : Type 0 where
   pub one : OneLattice f e
   pub none : All (λ g. ¬ OneLattice g e) before
 
--- the see word of e leads to the number n: it names an entry whose standing entry is another than e and has that number
+-- R12.3: the see word of e leads to the number n: it names an entry whose standing entry is another than e and has that number
 pub record Leads (es : List Entry) (e : Entry) (n : ℕ) : Type 0 where
   pub word : See
   pub carried : e .see ≡ some word
@@ -54,7 +54,7 @@ pub record Sees (g : Entry) (n : ℕ) : Type 0 where
   pub carried : g .see ≡ some word
   pub number : word .number ≡ n
 
--- g is what is printed for the entry e of the file
+-- R12.3: g is what is printed for the entry e of the file
 pub record Prints (es : List Entry) (e g : Entry) : Type 0 where
   pub number : g .head .number ≡ e .head .number
   pub d : g .head .d ≡ e .head .d
@@ -78,6 +78,7 @@ Apart [] = Unit {0}
 Apart (g ∷ gs) = All (λ h. ¬ OneLattice g h) gs × Apart gs
 
 -- ---- the fold of an accepted file with entries es
+-- R12.3
 pub record Folds (file : List ℕ) (es : List Entry) : Type 0 where
   -- an output that is long enough receives the folded catalogue and keeps the rest; a shorter one is refused and stays as it was
   pub written : (out : List ℕ) → length (write (folded es)) ≤ length out → foldOf file out ≡ filledWith (write (folded es)) out
@@ -103,7 +104,7 @@ pub record Finds (file : List ℕ) (es : List Entry) (n : ℕ) (e : Entry) : Typ
   pub printed : Some (λ g. g .head .number ≡ lookupOf file n .standing) (folded es)
   pub one : All (λ g. g .head .number ≡ lookupOf file n .standing → OneLattice g e) (folded es)
 
--- every number of an entry is found, and every number in a see word; no other is
+-- R12.3: every number of an entry is found, and every number in a see word; no other is
 pub record LooksUp (file : List ℕ) (es : List Entry) : Type 0 where
   pub entries : All (λ e. Finds file es (e .head .number) e) es
   pub sees : All (λ e. (n : ℕ) → Sees e n → Some (λ f. (f .head .number ≡ n) × Finds file es n f) es) es

@@ -46,6 +46,7 @@ vectorsIn i r = used (i .d) (i .m) (r .basis)
 abbrev pub tableIn : Input → List (List ℤ) → List (List ℤ)
 tableIn i t = used (i .d) (i .d) t
 
+-- R12.3
 pub record Reduces (i : Input) (r : Reduction) : Type 0 where
   -- the vectors given generate the lattice of the input and no other
   pub lattice : (v : Vec) → In (basis i) v ↔ In (vectorsIn i r) v
@@ -130,6 +131,7 @@ unfolding given
 reduction-theorem i e = subst (Reduces i) (sym (accepted-reduction i e)) (given-reduces i (accepted i e))
 
 -- ---- what holds of a nearest vector
+-- R12.3
 pub record Nears (i : Input) (r : Nearest) : Type 0 where
   -- the vector named is in the lattice
   pub member : In (basis i) (take (i .m) (r .vector))

@@ -4,7 +4,7 @@ use mathlib.Core.List.{List, [], _∷_}
 use lib.IntN.{ℤ}
 use lib.Signed.{ltZ}
 
--- is the first list below the second?
+-- R1.8: is the first list below the second?
 abbrev pub below : List ℤ → List ℤ → Bool
 below [] l = false
 below (x ∷ k) [] = false

@@ -10,10 +10,11 @@ abbrev pub digits : (fuel : ℕ) → ℕ → List ℕ
 digits zero n = []
 digits (suc fuel) n = elim (ltb n 10) [ true ↦ (48 + n) ∷ [] | false ↦ digits fuel (n / 10) ++ ((48 + n % 10) ∷ []) ]
 
+-- R11.1
 abbrev pub decimal : ℕ → List ℕ
 decimal n = digits (suc n) n
 
--- a minus sign stands before a negative number
+-- R11.1: a minus sign stands before a negative number
 abbrev pub signed : ℤ → List ℕ
 signed (pos n) = decimal n
 signed (negsuc n) = 45 ∷ decimal (suc n)

@@ -10,17 +10,17 @@ infixr 9 _⊙_
 abbrev pub nth : List ℤ → ℕ → ℤ
 nth l i = getD l i (pos 0)
 
--- sum
+-- R1.1: sum
 unfoldable pub _⊕_ : List ℤ → List ℤ → List ℤ
 [] ⊕ v = v
 (x ∷ u) ⊕ [] = x ∷ u
 (x ∷ u) ⊕ (y ∷ v) = (x +ℤ y) ∷ (u ⊕ v)
 
--- multiple
+-- R1.1: multiple
 unfoldable pub _⊙_ : ℤ → List ℤ → List ℤ
 k ⊙ [] = []
 k ⊙ (x ∷ v) = (k *ℤ x) ∷ (k ⊙ v)
 
--- difference
+-- R1.1: difference
 abbrev pub _⊖_ : List ℤ → List ℤ → List ℤ
 u ⊖ v = u ⊕ negsuc 0 ⊙ v

@@ -10,26 +10,26 @@ use Rattle.lattices.specs.Nearest.{nearest}
 use Rattle.lattices.specs.Greedy.{Row, Counted, vectors, reduction}
 use Rattle.lattices.specs.Refusal.{Input, basis, firstOf, vectorChecks, targetChecks, mostVectors, mostCoordinates}
 
--- a list of n numbers: the given ones, then zeros
+-- R5.3: a list of n numbers: the given ones, then zeros
 abbrev pub padded : ℕ → List ℤ → List ℤ
 padded n l = filled (pos 0) n l
 
--- a table of h rows of w numbers: the given rows, then zeros
+-- R5.3: a table of h rows of w numbers: the given rows, then zeros
 abbrev pub table : ℕ → ℕ → List (List ℤ) → List (List ℤ)
 table zero w rows = []
 table (suc h) w [] = padded w [] ∷ table h w []
 table (suc h) w (r ∷ rows) = padded w r ∷ table h w rows
 
--- row i of V: what each vector of the reduced list counts in input i
+-- R3.8: row i of V: what each vector of the reduced list counts in input i
 abbrev pub rowOfV : List Row → ℕ → List ℤ
 rowOfV rows i = map (λ r. nth (r .v) i) rows
 
--- n rows of V from row i on
+-- R3.8: n rows of V from row i on
 abbrev pub rowsOfV : List Row → ℕ → ℕ → List (List ℤ)
 rowsOfV rows i zero = []
 rowsOfV rows i (suc n) = rowOfV rows i ∷ rowsOfV rows (suc i) n
 
--- the answer of Reduction
+-- R5.1: the answer of Reduction
 pub record Reduction : Type 0 where
   pub refusal : ℕ
   pub place : ℕ
@@ -39,6 +39,7 @@ pub record Reduction : Type 0 where
   pub squares : List ℤ
   pub passes : ℕ
 
+-- R5.4
 abbrev pub noReduction : ℕ → Reduction
 noReduction n = record {
   refusal = n;
@@ -50,6 +51,7 @@ noReduction n = record {
   passes = 0;
 }
 
+-- R5.1
 abbrev pub reductionGiven : Counted → Reduction
 reductionGiven c = record {
   refusal = 0;
@@ -61,10 +63,11 @@ reductionGiven c = record {
   passes = c .passes;
 }
 
+-- R5.1, R5.4, R8.8
 unfoldable pub reductionOf : Input → Reduction
 reductionOf i = elim (firstOf vectorChecks i) [ zero ↦ reductionGiven (reduction (basis i)) | suc n ↦ noReduction (suc n) ]
 
--- the answer of Nearest: coefficients on the reduced basis, the lattice vector, its squared distance from the target
+-- R5.2: the answer of Nearest: coefficients on the reduced basis, the lattice vector, its squared distance from the target
 pub record Nearest : Type 0 where
   pub refusal : ℕ
   pub place : ℕ
@@ -72,6 +75,7 @@ pub record Nearest : Type 0 where
   pub coefficients : List ℤ
   pub square : ℤ
 
+-- R5.4
 abbrev pub noNearest : ℕ → Nearest
 noNearest n = record {
   refusal = n;
@@ -81,6 +85,7 @@ noNearest n = record {
   square = pos 0;
 }
 
+-- R5.2
 abbrev pub nearestGiven : List Vec → Vec → Nearest
 nearestGiven bs t =
     let x = nearest bs t in
@@ -92,6 +97,7 @@ nearestGiven bs t =
       square = distance t (comb x bs);
     }
 
+-- R4.2, R4.3, R5.2, R5.4, R8.8
 unfoldable pub nearestOf : Input → Nearest
 nearestOf i = elim (firstOf (vectorChecks ++ targetChecks) i)
     [ zero ↦ nearestGiven (vectors (reduction (basis i) .rows)) (i .target) | suc n ↦ noNearest (suc n) ]

@@ -8,7 +8,7 @@ use lib.ListN.{length, replicate}
 use Rattle.lattices.specs.Vector.{Vec, N, _⊕_, _⊖_, _⊙_, comb}
 use Rattle.lattices.specs.Nearest.{nearest}
 
--- a vector of the list with its row of U (its coefficients on the inputs) and its column of V (its coefficient in each input)
+-- R3.8: a vector of the list with its row of U (its coefficients on the inputs) and its column of V (its coefficient in each input)
 pub record Row : Type 0 where
   pub vector : Vec
   pub u : List ℤ
@@ -17,25 +17,27 @@ pub record Row : Type 0 where
 abbrev pub vectors : List Row → List Vec
 vectors = map (λ r. r .vector)
 
--- step 2: shortest first; equal lengths stay in their order
+-- R3.2: step 2: shortest first; equal lengths stay in their order
 unfoldable pub insert : Row → List Row → List Row
 insert r [] = r ∷ []
 insert r (s ∷ rows) = elim (ltZ (N (s .vector)) (N (r .vector))) [ true ↦ s ∷ insert r rows | false ↦ r ∷ (s ∷ rows) ]
 
+-- R3.2
 unfoldable pub order : List Row → List Row
 order [] = []
 order (r ∷ rows) = insert r (order rows)
 
--- the last of r, rows; and those before it
+-- R3.3: the last of r, rows; and those before it
 abbrev pub lastOf : Row → List Row → Row
 lastOf r [] = r
 lastOf r (s ∷ rows) = lastOf s rows
 
+-- R3.3
 abbrev pub before : Row → List Row → List Row
 before r [] = []
 before r (s ∷ rows) = r ∷ before s rows
 
--- step 5 for the last vector: the combination x of the rows is subtracted from it, and from its row of U
+-- R3.5, R3.8: step 5 for the last vector: the combination x of the rows is subtracted from it, and from its row of U
 abbrev pub less : List ℤ → List Row → Row → Row
 less x rows r = record {
   vector = r .vector ⊖ comb x (vectors rows);
@@ -43,43 +45,44 @@ less x rows r = record {
   v = r .v;
 }
 
--- step 5 for the columns of V: what the last vector loses, the others gain in every input
+-- R3.5, R3.8: step 5 for the columns of V: what the last vector loses, the others gain in every input
 unfoldable pub credited : List ℤ → List ℤ → List Row → List Row
 credited [] v rows = rows
 credited (x ∷ xs) v [] = []
 credited (x ∷ xs) v (r ∷ rows) = record { vector = r .vector; u = r .u; v = r .v ⊕ x ⊙ v } ∷ credited xs v rows
 
--- a list with the count of passes made for it
+-- R3.7: a list with the count of passes made for it
 pub record Counted : Type 0 where
   pub rows : List Row
   pub passes : ℕ
 
--- the first d−1 vectors and the last, with the count of passes made for them
+-- R3.7: the first d−1 vectors and the last, with the count of passes made for them
 pub record Pass : Type 0 where
   pub first : List Row
   pub last : Row
   pub passes : ℕ
 
--- steps 4 and 5, one pass: the vector nearest to the last one in the lattice of the others is subtracted from it
+-- R3.4, R3.7: steps 4 and 5, one pass: the vector nearest to the last one in the lattice of the others is subtracted from it
 abbrev pub pass : Counted → Row → Pass
 pass c r =
     let x = nearest (vectors (c .rows)) (r .vector) in
     record { first = credited x (r .v) (c .rows); last = less x (c .rows) r; passes = suc (c .passes) }
 
--- steps 2 to 5, where `reduce` does step 3 for the first d−1 vectors
+-- R3.3: steps 2 to 5, where `reduce` does step 3 for the first d−1 vectors
 abbrev pub round : (List Row → Counted) → List Row → Pass
 round reduce [] = record { first = []; last = record { vector = []; u = []; v = [] }; passes = 0 }
 round reduce (r ∷ rows) = pass (reduce (before r rows)) (lastOf r rows)
 
--- step 6: is the last vector shorter than the one before it?
+-- R3.6: step 6: is the last vector shorter than the one before it?
 abbrev pub shorter : Row → List Row → Bool
 shorter r [] = false
 shorter r (s ∷ rows) = ltZ (N (r .vector)) (N (lastOf s rows .vector))
 
+-- R3.6
 abbrev pub joined : Pass → List Row
 joined p = p .first ++ (p .last ∷ [])
 
--- steps 2 to 6, repeated until the last vector is kept; the fuel is always enough (`greedy-steps` of greedy_reduction/specs/Fuel.antt)
+-- R3.6: steps 2 to 6, repeated until the last vector is kept; the fuel is always enough (`greedy-steps` of greedy_reduction/specs/Fuel.antt)
 abbrev pub repeat : (List Row → Counted) → ℕ → List Row → Counted
 repeat reduce zero rows = record { rows = rows; passes = 0 }
 repeat reduce (suc fuel) rows =
@@ -94,23 +97,23 @@ abbrev pub total : List Row → ℤ
 total [] = pos 0
 total (r ∷ rows) = N (r .vector) +ℤ total rows
 
--- steps 1 to 6 for a list of d vectors
+-- R3.1 to R3.7: steps 1 to 6 for a list of d vectors
 unfoldable pub greedy : ℕ → List Row → Counted
 greedy zero rows = record { rows = rows; passes = 0 }
 greedy (suc zero) rows = record { rows = rows; passes = 0 }
 greedy (suc (suc d)) rows = repeat (greedy (suc d)) (suc (natAbs (total rows))) rows
 
--- the unit lists of d numbers: 1 at place i, else 0
+-- R3.8: the unit lists of d numbers: 1 at place i, else 0
 abbrev pub units : ℕ → List (List ℤ)
 units zero = []
 units (suc d) = (pos 1 ∷ replicate d (pos 0)) ∷ map (λ l. pos 0 ∷ l) (units d)
 
--- the rows at the start: each vector is itself, U and V are unit tables
+-- R3.8: the rows at the start: each vector is itself, U and V are unit tables
 abbrev pub start : List Vec → List (List ℤ) → List Row
 start [] es = []
 start (b ∷ bs) [] = []
 start (b ∷ bs) (e ∷ es) = record { vector = b; u = e; v = e } ∷ start bs es
 
--- the greedy reduction of a list of vectors
+-- R3: the greedy reduction of a list of vectors
 abbrev pub reduction : List Vec → Counted
 reduction bs = greedy (length bs) (start bs (units (length bs)))

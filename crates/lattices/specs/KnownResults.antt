@@ -54,6 +54,7 @@ unit4 =
     ∷ (pos 0 ∷ pos 0 ∷ pos 0 ∷ pos 1 ∷ [])
     ∷ []
 
+-- R15.1 to R15.10
 abbrev pub known : List Known
 known =
     -- P1

@@ -9,31 +9,31 @@ use lib.Signed.{leZ}
 pub use Rattle.integers.specs.Below.{below}
 use Rattle.lattices.specs.Vector.{Vec, N, _⊖_, _⊙_, comb}
 
--- value of a coefficient list for a target: squared distance first, then the list
+-- R4.1: value of a coefficient list for a target: squared distance first, then the list
 abbrev pub value : List Vec → Vec → List ℤ → List ℤ
 value bs t x = N (t ⊖ comb x bs) ∷ x
 
--- the lesser of two lists
+-- R1.8: the lesser of two lists
 abbrev pub lesser : List ℤ → List ℤ → List ℤ
 lesser k l = elim (below k l) [ true ↦ k | false ↦ l ]
 
--- the least of `at 0`, `at 1`, `at -1`, `at 2`, … as far as `near` says, counted by the fuel
+-- R4.1: the least of `at 0`, `at 1`, `at -1`, `at 2`, … as far as `near` says, counted by the fuel
 abbrev pub outward : (ℤ → List ℤ) → (ℤ → Bool) → ℕ → ℕ → List ℤ → List ℤ
 outward at near zero j best = best
 outward at near (suc fuel) j best = elim (near (pos j))
     [ false ↦ best | true ↦ outward at near fuel (suc j) (lesser (at (pos j)) (lesser (at (negℤ (pos j))) best)) ]
 
--- no list of least value has a last coefficient j with j·j·N(b) over 16·N(t), where b is the last of at most four reduced vectors
+-- R4.1: no list of least value has a last coefficient j with j·j·N(b) over 16·N(t), where b is the last of at most four reduced vectors
 abbrev pub near : Vec → Vec → ℤ → Bool
 near b t j = leZ (j *ℤ j *ℤ N b) (pos 16 *ℤ N t)
 
--- the least value. The vectors stand last one first: with the last coefficient fixed at j the others are those of t − j·b
+-- R4.1: the least value. The vectors stand last one first: with the last coefficient fixed at j the others are those of t − j·b
 unfoldable pub least : List Vec → Vec → List ℤ
 least [] t = N t ∷ []
 least (b ∷ bs) t =
     let at : ℤ → List ℤ = λ j. least bs (t ⊖ j ⊙ b) ++ (j ∷ []) in
     outward at (near b t) (suc (natAbs (pos 16 *ℤ N t))) 1 (at (pos 0))
 
--- nearest: the coefficients on the list of the lattice vector nearest to t
+-- R4.1: nearest: the coefficients on the list of the lattice vector nearest to t
 unfoldable pub nearest : List Vec → Vec → List ℤ
 nearest bs t = tail (least (reverse bs) t)

@@ -8,47 +8,47 @@ use lib.ListN.{length}
 pub use Rattle.integers.specs.Lists.{nth, _⊖_}
 unfoldable pub use Rattle.integers.specs.Lists.{_⊕_, _⊙_}
 
--- a vector: its list of coordinates
+-- R1.1: a vector: its list of coordinates
 abbrev pub Vec : Type 0
 Vec = List ℤ
 
--- inner product
+-- R1.2: inner product
 unfoldable pub dot : Vec → Vec → ℤ
 dot [] v = pos 0
 dot (x ∷ u) [] = pos 0
 dot (x ∷ u) (y ∷ v) = x *ℤ y +ℤ dot u v
 
--- squared length
+-- R1.2: squared length
 abbrev pub N : Vec → ℤ
 N v = dot v v
 
--- distance, squared: the squared length of the difference
+-- R1.3: distance, squared: the squared length of the difference
 abbrev pub distance : Vec → Vec → ℤ
 distance u v = N (u ⊖ v)
 
--- combination of a list of vectors with whole coefficients
+-- R1.4: combination of a list of vectors with whole coefficients
 unfoldable pub comb : List ℤ → List Vec → Vec
 comb [] bs = []
 comb (x ∷ xs) [] = []
 comb (x ∷ xs) (b ∷ bs) = x ⊙ b ⊕ comb xs bs
 
--- the zero vector, of any number of coordinates
+-- R1.6: the zero vector, of any number of coordinates
 abbrev pub Zero : Vec → Type 0
 Zero v = (i : ℕ) → nth v i ≡ pos 0
 
--- the lattice of a list: the set of all its combinations with whole coefficients
+-- R1.5: the lattice of a list: the set of all its combinations with whole coefficients
 pub record In (bs : List Vec) (v : Vec) : Type 0 where
   pub coefficients : List ℤ
   pub count : length coefficients ≡ length bs
   pub gives : comb coefficients bs ≡ v
 
--- dependent: a combination, not all coefficients zero, is the zero vector
+-- R1.6: dependent: a combination, not all coefficients zero, is the zero vector
 pub record Dependent (bs : List Vec) : Type 0 where
   pub coefficients : List ℤ
   pub count : length coefficients ≡ length bs
   pub nonzero : ¬ Zero coefficients
   pub vanishes : Zero (comb coefficients bs)
 
--- independent: not dependent
+-- R1.6: independent: not dependent
 abbrev pub Independent : List Vec → Type 0
 Independent bs = ¬ Dependent bs

@@ -29,13 +29,13 @@ unit [] = pos 1
 unit (false ∷ s) = unit s
 unit (true ∷ s) = pos 0
 
--- the exterior product of a vector and a form, by expansion at the first coordinate
+-- R1.6, R9.5: the exterior product of a vector and a form, by expansion at the first coordinate
 abbrev pub wedge : Vec → Form → Form
 wedge a ω [] = pos 0
 wedge a ω (false ∷ s) = wedge (rest a) (λ t. ω (false ∷ t)) s
 wedge a ω (true ∷ s) = head a *ℤ ω (false ∷ s) -ℤ wedge (rest a) (λ t. ω (true ∷ t)) s
 
--- volume: the exterior product of the list
+-- R1.6, R9.5: volume: the exterior product of the list
 abbrev pub volume : List Vec → Form
 volume [] = unit
 volume (b ∷ bs) = wedge b (volume bs)
@@ -45,10 +45,10 @@ abbrev pub inner : ℕ → Form → Form → ℤ
 inner zero f g = f [] *ℤ g []
 inner (suc m) f g = inner m (λ s. f (false ∷ s)) (λ s. g (false ∷ s)) +ℤ inner m (λ s. f (true ∷ s)) (λ s. g (true ∷ s))
 
--- squared volume: the sum of the squares of the minors
+-- R1.6, R9.5: squared volume: the sum of the squares of the minors
 unfoldable pub squaredVolume : ℕ → List Vec → ℤ
 squaredVolume m bs = inner m (volume bs) (volume bs)
 
--- the test for dependence of vectors of m coordinates: the volume is zero
+-- R1.6, R9.5: the test for dependence of vectors of m coordinates: the volume is zero
 unfoldable pub isDependent : ℕ → List Vec → Bool
 isDependent m bs = leZ (squaredVolume m bs) (pos 0)

@@ -9,11 +9,11 @@ use Rattle.lattices.specs.Vector.{Vec, comb, distance}
 use Rattle.lattices.specs.Laws.Vector.{_≈_}
 use Rattle.lattices.specs.Nearest.{nearest}
 
--- the squared distance from v to the nearest vector is 0
+-- R4.4: the squared distance from v to the nearest vector is 0
 unfoldable pub isMember : List Vec → Vec → Bool
 isMember bs v = leZ (distance v (comb (nearest bs v) bs)) (pos 0)
 
--- v, up to trailing zeros, is a combination
+-- R4.4: v, up to trailing zeros, is a combination
 pub record Member (bs : List Vec) (v : Vec) : Type 0 where
   pub coefficients : List ℤ
   pub count : length coefficients ≡ length bs

@@ -41,6 +41,6 @@ countsOf p =
     let m = getD (p .numbers) 1 (pos 0) in
     record { d = countOf d; m = countOf m; length = p .length; stop = countsStop (p .stop) (areCounts (length (p .numbers)) d m) }
 
--- the counts that the bytes begin with
+-- R14.2: the counts that the bytes begin with
 abbrev pub countsAt : List ℕ → Counts
 countsAt s = countsOf (takenAt 2 s)

@@ -51,6 +51,6 @@ signedAt minus s = cond (eqb (digits s) 0) (wrong Unexpected 0) (sized minus (di
 abbrev pub minusAt : List ℕ → ℕ
 minusAt s = cond (eqb (getD s 0 0) 45) 1 0
 
--- the number that the bytes begin with
+-- R13.2: the number that the bytes begin with
 abbrev pub numberAt : List ℕ → Token
 numberAt s = signedAt (minusAt s) (drop (minusAt s) s)

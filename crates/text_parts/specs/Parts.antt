@@ -50,7 +50,7 @@ stopped n k = record { numbers = []; length = n; stop = k }
 abbrev pub more : Token → Taken → Taken
 more t p = record { numbers = t .value ∷ p .numbers; length = t .length + p .length; stop = p .stop }
 
--- what the bytes begin with, where there is room for so many numbers: one too many stays where it is
+-- R13.1, R14.1: what the bytes begin with, where there is room for so many numbers: one too many stays where it is
 unfoldable pub takenAt : ℕ → List ℕ → Taken
 takenAt zero s = let t = tokenAt s in cond (isNumber (t .kind)) (stopped 0 TooMany) (stopped (t .length) (t .kind))
 takenAt (suc room) s = let t = tokenAt s in cond (isNumber (t .kind)) (more t (takenAt room (drop (t .length) s))) (stopped (t .length) (t .kind))

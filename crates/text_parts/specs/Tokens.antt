@@ -8,11 +8,11 @@ use Rattle.text_parts.specs.declared.Kind.the-variants.{Semicolon, End, 
 use Rattle.text_parts.specs.declared.Token.{Token}
 use Rattle.text_parts.specs.Numbers.{leading, wrong, numberAt}
 
--- tab, carriage return, space
+-- R13.2: tab, carriage return, space
 abbrev pub isBlank : ℕ → Bool
 isBlank b = eqb b 9 || (eqb b 13 || eqb b 32)
 
--- whether a number may end before the bytes: a semicolon, a blank, or nothing
+-- R13.2: whether a number may end before the bytes: a semicolon, a blank, or nothing
 abbrev pub ends : List ℕ → Bool
 ends [] = true
 ends (b ∷ bs) = eqb b 59 || isBlank b
@@ -30,6 +30,6 @@ tokenHere (b ∷ bs) = cond (eqb b 59) (wrong Semicolon 1) (ended (b ∷ bs) (nu
 abbrev pub later : ℕ → Token → Token
 later n t = record { kind = t .kind; length = n + t .length; value = t .value }
 
--- the first token of the bytes
+-- R13.2: the first token of the bytes
 unfoldable pub tokenAt : List ℕ → Token
 tokenAt s = later (leading isBlank s) (tokenHere (drop (leading isBlank s) s))

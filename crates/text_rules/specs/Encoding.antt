@@ -19,7 +19,7 @@ use Rattle.text_parts.specs.Parts.{isSemicolon, isEnd, Taken, takenAt}
 
 -- ---- a line
 
--- from 0 to the most that a field holds
+-- R13.4: from 0 to the most that a field holds
 abbrev pub fits : ℕ → ℤ → Bool
 fits most (pos n) = leb n most
 fits most (negsuc n) = false
@@ -27,14 +27,15 @@ fits most (negsuc n) = false
 abbrev pub at : List ℤ → ℕ → ℕ
 at zs i = natAbs (nth zs i)
 
--- the see word of the last part: one number that fits the word, and nothing behind it
+-- R13.4: the see word of the last part: one number that fits the word, and nothing behind it
 abbrev pub isSee : Taken → Bool
 isSee p = isEnd (p .stop) && (eqb (length (p .numbers)) 1 && fits 268435455 (nth (p .numbers) 0))
 
+-- R13.1, R13.4
 abbrev pub seeFrom : Taken → Option (List Word)
 seeFrom p = cond (isSee p) (some (see (at (p .numbers) 0) ∷ [])) none
 
--- what follows the coordinates: nothing, or a semicolon and the see word
+-- R13.1, R13.4: what follows the coordinates: nothing, or a semicolon and the see word
 abbrev pub lastFrom : Kind → List ℕ → Option (List Word)
 lastFrom k s = cond (isEnd k) (some []) (cond (isSemicolon k) (seeFrom (takenAt 1 s)) none)
 
@@ -42,100 +43,113 @@ abbrev pub before : List Word → Option (List Word) → Option (List Word)
 before ws none = none
 before ws (some us) = some (ws ++ us)
 
--- so many coordinates within the limit, and what follows them
+-- R13.4: so many coordinates within the limit, and what follows them
 abbrev pub areCoordinates : ℕ → List ℤ → Bool
 areCoordinates n zs = eqb (length zs) n && not (any (λ z. ltb mostSize (natAbs z)) zs)
 
+-- R13.1, R13.4
 abbrev pub coordinatesFrom : ℕ → Taken → List ℕ → Option (List Word)
 coordinatesFrom n p s = cond (areCoordinates n (p .numbers)) (before (map coordinateWord (p .numbers)) (lastFrom (p .stop) (drop (p .length) s))) none
 
--- d and m have four bits each in a head, so no more coordinates than these are asked for; whether d and m can be is left to reading
+-- R13.4: d and m have four bits each in a head, so no more coordinates than these are asked for; whether d and m can be is left to reading
 abbrev pub mostNumbers : ℕ
 mostNumbers = 225
 
--- number, d and m that fit a head, up to a semicolon; d times m coordinates follow
+-- R13.4: number, d and m that fit a head, up to a semicolon; d times m coordinates follow
 abbrev pub isHead : Taken → Bool
 isHead p =
     isSemicolon (p .stop)
     && (eqb (length (p .numbers)) 3 && (fits 1048575 (nth (p .numbers) 0) && (fits 15 (nth (p .numbers) 1) && fits 15 (nth (p .numbers) 2))))
 
+-- R13.1, R13.4
 abbrev pub headFrom : Taken → List ℕ → Option (List Word)
 headFrom p s =
     let zs = p .numbers in
     cond (isHead p) (before (head (at zs 0) (at zs 1) (at zs 2) ∷ []) (coordinatesFrom (at zs 1 * at zs 2) (takenAt mostNumbers s) s)) none
 
+-- R13.1, R13.4
 unfoldable pub lineFrom : List ℕ → Option (List Word)
 lineFrom s = let p = takenAt 3 s in headFrom p (drop (p .length) s)
 
 -- ---- lines
 
+-- R13.3
 abbrev pub onto : ℕ → List (List ℕ) → List (List ℕ)
 onto b [] = (b ∷ []) ∷ []
 onto b (l ∷ ls) = (b ∷ l) ∷ ls
 
--- the lines of a text: what stands between newlines
+-- R13.3: the lines of a text: what stands between newlines
 abbrev pub linesOf : List ℕ → List (List ℕ)
 linesOf [] = [] ∷ []
 linesOf (b ∷ s) = cond (eqb b 10) ([] ∷ linesOf s) (onto b (linesOf s))
 
--- a line without its comment
+-- R13.3: a line without its comment
 abbrev pub isText : ℕ → Bool
 isText b = not (eqb b 35)
 
+-- R13.3
 abbrev pub content : List ℕ → List ℕ
 content s = take (leading isText s) s
 
--- nothing but blanks
+-- R13.3: nothing but blanks
 abbrev pub isEmpty : List ℕ → Bool
 isEmpty s = eqb (leading isBlank s) (length s)
 
 -- ---- entries
 
+-- R13.5
 abbrev pub isWrong : Option (List Word) → Bool
 isWrong none = true
 isWrong (some ws) = false
 
+-- R13.5
 abbrev pub listed : Option (List Word) → List (List Word)
 listed none = []
 listed (some ws) = ws ∷ []
 
--- whether a line is wrong, and the words of its entry; a line without content is right and has none
+-- R13.5: whether a line is wrong, and the words of its entry; a line without content is right and has none
 abbrev pub lineWrong : List ℕ → Bool
 lineWrong s = cond (isEmpty (content s)) false (isWrong (lineFrom (content s)))
 
+-- R13.5
 abbrev pub lineEntry : List ℕ → List (List Word)
 lineEntry s = cond (isEmpty (content s)) [] (listed (lineFrom (content s)))
 
+-- R13.5
 abbrev pub anyWrong : List (List ℕ) → Bool
 anyWrong [] = false
 anyWrong (l ∷ ls) = lineWrong l || anyWrong ls
 
+-- R13.5
 abbrev pub entriesFrom : List (List ℕ) → List (List Word)
 entriesFrom [] = []
 entriesFrom (l ∷ ls) = lineEntry l ++ entriesFrom ls
 
+-- R13.5
 abbrev pub joined : List (List Word) → List Word
 joined [] = []
 joined (ws ∷ more) = ws ++ joined more
 
--- with the end word behind them
+-- R13.5: with the end word behind them
 abbrev pub ended : List (List Word) → List Word
 ended entries = joined entries ++ (end (length entries) ∷ [])
 
+-- R13.5
 unfoldable pub encoded : List ℕ → Option (List Word)
 encoded text = cond (anyWrong (linesOf text)) none (some (ended (entriesFrom (linesOf text))))
 
 -- ---- where a word stands
 
+-- R13.7
 abbrev pub lineWords : List ℕ → ℕ
 lineWords s = length (joined (lineEntry s))
 
--- one line further down, where there is a line
+-- R13.7: one line further down, where there is a line
 abbrev pub further : ℕ → ℕ
 further zero = 0
 further (suc n) = suc (suc n)
 
--- the line, from 1, whose entry holds the word with this index; 0 for none, as for the end word
+-- R13.7: the line, from 1, whose entry holds the word with this index; 0 for none, as for the end word
 abbrev pub lineHolding : List (List ℕ) → ℕ → ℕ
 lineHolding [] k = 0
 lineHolding (l ∷ ls) k = cond (ltb k (lineWords l)) 1 (further (lineHolding ls (k - lineWords l)))

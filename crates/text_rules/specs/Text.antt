@@ -6,19 +6,24 @@ use Rattle.integers.specs.Decimal.{decimal, signed}
 use Rattle.catalogue_rules.specs.Catalogue.{See, Entry, coordinates}
 use Rattle.text_layout.specs.Fields.{line}
 
+-- R13.1
 abbrev pub semicolon : List ℕ
 semicolon = 59 ∷ []
 
+-- R13.1
 abbrev pub seeFields : Option See → List (List ℕ)
 seeFields none = []
 seeFields (some s) = semicolon ∷ decimal (s .number) ∷ []
 
+-- R13.1
 abbrev pub entryFields : Entry → List (List ℕ)
 entryFields e = decimal (e .head .d) ∷ decimal (e .head .m) ∷ semicolon ∷ (map signed (coordinates (e .vectors)) ++ seeFields (e .see))
 
+-- R13.1
 abbrev pub entryText : Entry → List ℕ
 entryText e = line (decimal (e .head .number)) (entryFields e)
 
+-- R13.1
 abbrev pub textOf : List Entry → List ℕ
 textOf [] = []
 textOf (e ∷ es) = entryText e ++ textOf es
