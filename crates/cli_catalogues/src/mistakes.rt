@@ -12,10 +12,16 @@ fn report(line: u64, mistake: Mistake) {
         Mistake::TooMany => cli_answers::refusals::say_error(line, b"too many numbers"),
         Mistake::NoNumber => cli_answers::refusals::say_error(line, b"something that is no number"),
         Mistake::NotThree => cli_answers::refusals::say_error(line, b"not number, d and m"),
-        Mistake::NoHead => cli_answers::refusals::say_error(line, b"number, d or m that no head holds"),
+        Mistake::NoHead => cli_answers::refusals::say_error(
+            line,
+            b"number, d or m that no head holds",
+        ),
         Mistake::NotAll => cli_answers::refusals::say_error(line, b"not d times m coordinates"),
         Mistake::Beyond => cli_answers::refusals::say_error(line, b"a coordinate beyond 20000"),
-        Mistake::NoSee => cli_answers::refusals::say_error(line, b"the last part is not the number of an entry"),
+        Mistake::NoSee => cli_answers::refusals::say_error(
+            line,
+            b"the last part is not the number of an entry",
+        ),
     }
 }
 

@@ -27,24 +27,78 @@ fn line(is_open: bool, text: &[u8]) -> bool {
 
 // Writes what there is, requests first.
 fn usage() {
-    let mut go = line(true, b"usage: raghymtos COMMAND, or raghymtos help COMMAND for an example");
-    go = line(go, b"reduce [-n]           requests on standard input, one to a line: d m ; the numbers of d vectors of m coordinates");
-    go = line(go, b"                      answers: reduced PASSES SQUARED LENGTHS, and lines v, U and V");
-    go = line(go, b"nearest [-n] [-r]     requests: d m ; the numbers of d vectors of m coordinates ; the m numbers of a target");
-    go = line(go, b"                      answers: nearest SQUARED DISTANCE, and lines c (coefficients) and v");
-    go = line(go, b"                      both answer: refused NUMBER PLACE, or: error LINE: what is wrong");
-    go = line(go, b"                      -n  the number of the request's line before each answer");
-    go = line(go, b"                      -r  the reduced vectors, on which the coefficients stand, before each answer");
-    go = line(go, b"fold [FILE]           a catalogue, from standard input where no file is named; writes the folded catalogue");
-    go = line(go, b"lookup NUMBER [FILE]  writes the standing number of the entry with this number");
-    go = line(go, b"list [FILE]           writes entries and standing entries, then each entry: number, standing number,");
-    go = line(go, b"                      number that its see word leads to, passes; under a standing entry lines v");
-    go = line(go, b"decode [FILE]         writes the entries as text, one to a line: number d m ; coordinates ; see");
-    go = line(go, b"                      the last part only where there is a see word");
-    go = line(go, b"encode [FILE]         reads that text and writes the catalogue");
-    go = line(go, b"refusals              what each number of a refusal means");
-    go = line(go, b"What is no answer is said on standard error; list, reduce and nearest have refused NUMBER PLACE for an answer.");
-    line(go, b"The streams run on a stack of 256 KB, the commands for catalogues on one of 1 MB.");
+    let mut go = line(
+        true,
+        b"usage: raghymtos COMMAND, or raghymtos help COMMAND for an example",
+    );
+    go = line(
+        go,
+        b"reduce [-n]           requests on standard input, one to a line: d m ; the numbers of d vectors of m coordinates",
+    );
+    go = line(
+        go,
+        b"                      answers: reduced PASSES SQUARED LENGTHS, and lines v, U and V",
+    );
+    go = line(
+        go,
+        b"nearest [-n] [-r]     requests: d m ; the numbers of d vectors of m coordinates ; the m numbers of a target",
+    );
+    go = line(
+        go,
+        b"                      answers: nearest SQUARED DISTANCE, and lines c (coefficients) and v",
+    );
+    go = line(
+        go,
+        b"                      both answer: refused NUMBER PLACE, or: error LINE: what is wrong",
+    );
+    go = line(
+        go,
+        b"                      -n  the number of the request's line before each answer",
+    );
+    go = line(
+        go,
+        b"                      -r  the reduced vectors, on which the coefficients stand, before each answer",
+    );
+    go = line(
+        go,
+        b"fold [FILE]           a catalogue, from standard input where no file is named; writes the folded catalogue",
+    );
+    go = line(
+        go,
+        b"lookup NUMBER [FILE]  writes the standing number of the entry with this number",
+    );
+    go = line(
+        go,
+        b"list [FILE]           writes entries and standing entries, then each entry: number, standing number,",
+    );
+    go = line(
+        go,
+        b"                      number that its see word leads to, passes; under a standing entry lines v",
+    );
+    go = line(
+        go,
+        b"decode [FILE]         writes the entries as text, one to a line: number d m ; coordinates ; see",
+    );
+    go = line(
+        go,
+        b"                      the last part only where there is a see word",
+    );
+    go = line(
+        go,
+        b"encode [FILE]         reads that text and writes the catalogue",
+    );
+    go = line(
+        go,
+        b"refusals              what each number of a refusal means",
+    );
+    go = line(
+        go,
+        b"What is no answer is said on standard error; list, reduce and nearest have refused NUMBER PLACE for an answer.",
+    );
+    line(
+        go,
+        b"The streams run on a stack of 256 KB, the commands for catalogues on one of 1 MB.",
+    );
 }
 
 // Writes an example of a stream's command.
@@ -61,7 +115,10 @@ fn stream_example(command: &[u8]) -> bool {
         return true;
     }
     if check::same(command, b"nearest") {
-        let mut go = line(true, b"$ echo \"2 2 ; 20 0 10 20 ; 14 9\" | raghymtos nearest -r");
+        let mut go = line(
+            true,
+            b"$ echo \"2 2 ; 20 0 10 20 ; 14 9\" | raghymtos nearest -r",
+        );
         go = line(go, b"v 20 0");
         go = line(go, b"v 10 20");
         go = line(go, b"nearest 117");
@@ -75,7 +132,10 @@ fn stream_example(command: &[u8]) -> bool {
 // Writes an example of a command for catalogues.
 fn catalogue_example(command: &[u8]) -> bool {
     if check::same(command, b"encode") || check::same(command, b"decode") {
-        let mut go = line(true, b"$ printf '7 2 2 ; 1 0 4 1\\n9 2 2 ; 2 0 0 3 ; 7\\n' | raghymtos encode > two.catalogue");
+        let mut go = line(
+            true,
+            b"$ printf '7 2 2 ; 1 0 4 1\\n9 2 2 ; 2 0 0 3 ; 7\\n' | raghymtos encode > two.catalogue",
+        );
         go = line(go, b"$ raghymtos decode two.catalogue");
         go = line(go, b"7 2 2 ; 1 0 4 1");
         line(go, b"9 2 2 ; 2 0 0 3 ; 7");

@@ -136,15 +136,7 @@ fn take_turn(
             is_open: f.is_open,
         };
     }
-    let p = answer_lines(
-        command,
-        numbered,
-        &bytes[..end],
-        line,
-        numbers,
-        target,
-        out,
-    );
+    let p = answer_lines(command, numbered, &bytes[..end], line, numbers, target, out);
     let at = p.at;
     if !p.is_open {
         return Turn {
@@ -216,9 +208,7 @@ fn serve_with(
     let mut line = 1;
     let mut turns = u64::MAX;
     while turns > 0 {
-        let t = take_turn(
-            command, numbered, bytes, have, line, numbers, target, out,
-        );
+        let t = take_turn(command, numbered, bytes, have, line, numbers, target, out);
         if t.is_over {
             finish(command, numbered, bytes, t, numbers, target, out);
             return;

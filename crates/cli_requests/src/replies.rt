@@ -80,7 +80,15 @@ fn reduce(out: &mut [u8], at: usize, line: u64, s: &[u8], numbers: &mut [i64]) -
 }
 
 // The reduced vectors, unless the search is refused.
-fn put_basis(out: &mut [u8], at: usize, basis: bool, refusal: u64, d: usize, m: usize, numbers: &[i64]) -> usize
+fn put_basis(
+    out: &mut [u8],
+    at: usize,
+    basis: bool,
+    refusal: u64,
+    d: usize,
+    m: usize,
+    numbers: &[i64],
+) -> usize
     requires { ⌜ at + 344 ≤ length (now out) ⌝ }
     ensures { λ r. ⌜ Puts (basisOf basis refusal d m (now (numbers .entry))) (now (out .entry)) at (now (out .exit)) r ⌝ }
     ensures { λ r. ⌜ r ≤ at + 344 ⌝ }
@@ -164,7 +172,17 @@ fn with_vectors(
     }
     let n = part.count;
     let from = part.length;
-    with_target(out, at, basis, line, d, m, &numbers[..n], &s[from..], target)
+    with_target(
+        out,
+        at,
+        basis,
+        line,
+        d,
+        m,
+        &numbers[..n],
+        &s[from..],
+        target,
+    )
 }
 
 // Answers `d m ; numbers ; target`.
@@ -189,7 +207,17 @@ fn nearest(
         return put_mistake(out, at, line, stop);
     }
     let from = counts.length;
-    with_vectors(out, at, basis, line, counts.d, counts.m, &s[from..], numbers, target)
+    with_vectors(
+        out,
+        at,
+        basis,
+        line,
+        counts.d,
+        counts.m,
+        &s[from..],
+        numbers,
+        target,
+    )
 }
 
 // Answers a line that is not blank.

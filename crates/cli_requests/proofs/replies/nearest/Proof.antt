@@ -36,7 +36,7 @@ returns c =
     let s = a .s .now in
     let q = countsAt s in
     let text = ap (λ x. mistakeText (a .line) (x .stop)) (r .read-counts .ensures .0)
-        ∙ second-of (withVectors (a .basis) (a .line) (q .d) (q .m) (drop (q .length) s)) (mistakeText (a .line) (q .stop)) (sym (stops (c .before .before .before .before .before)) ∙ not-true _ (c .before .before .before .before .if1 .taken)) in
+    ∙ second-of (withVectors (a .basis) (a .line) (q .d) (q .m) (drop (q .length) s)) (mistakeText (a .line) (q .stop)) (sym (stops (c .before .before .before .before .before)) ∙ not-true _ (c .before .before .before .before .if1 .taken)) in
     (subst (λ t. Puts t (a .out .now) (a .at) (p .put-mistake .last .0) (p .put-mistake .result)) text (p .put-mistake .ensures .0), omega (arith, p .put-mistake .ensures .1))
 
 sub-with-vectors : tie.Need-sub-with-vectors
@@ -68,8 +68,8 @@ returns-2 c =
     let s = a .s .now in
     let q = countsAt s in
     let text = ap (withVectors (a .basis) (a .line) (r .read-counts .result .d) (r .read-counts .result .m)) (behind (r .read-counts .result .length) s)
-        ∙ ap (λ x. withVectors (a .basis) (a .line) (x .d) (x .m) (drop (x .length) s)) (r .read-counts .ensures .0)
-        ∙ first-of (withVectors (a .basis) (a .line) (q .d) (q .m) (drop (q .length) s)) (mistakeText (a .line) (q .stop)) (sym (stops (c .before .before .before .before .before .before .before .before .before .before)) ∙ not-false _ (c .before .before .before .before .before .before .before .before .before .if1 .left)) in
+    ∙ ap (λ x. withVectors (a .basis) (a .line) (x .d) (x .m) (drop (x .length) s)) (r .read-counts .ensures .0)
+    ∙ first-of (withVectors (a .basis) (a .line) (q .d) (q .m) (drop (q .length) s)) (mistakeText (a .line) (q .stop)) (sym (stops (c .before .before .before .before .before .before .before .before .before .before)) ∙ not-false _ (c .before .before .before .before .before .before .before .before .before .if1 .left)) in
     (subst (λ t. Puts t (a .out .now) (a .at) (p .with-vectors .last .0) (p .with-vectors .result)) text (p .with-vectors .ensures .0), p .with-vectors .ensures .1)
 
 pub nearest-spec : {M : Type 1} → statement M

@@ -36,7 +36,7 @@ returns c =
     let s = a .s .now in
     let q = countsAt s in
     let text = ap (λ x. mistakeText (a .line) (x .stop)) (r .read-counts .ensures .0)
-        ∙ second-of (reduceWith (a .line) (q .d) (q .m) (drop (q .length) s)) (mistakeText (a .line) (q .stop)) (sym (stops (c .before .before .before .before .before)) ∙ not-true _ (c .before .before .before .before .if1 .taken)) in
+    ∙ second-of (reduceWith (a .line) (q .d) (q .m) (drop (q .length) s)) (mistakeText (a .line) (q .stop)) (sym (stops (c .before .before .before .before .before)) ∙ not-true _ (c .before .before .before .before .if1 .taken)) in
     (subst (λ t. Puts t (a .out .now) (a .at) (p .put-mistake .last .0) (p .put-mistake .result)) text (p .put-mistake .ensures .0), omega (arith, p .put-mistake .ensures .1))
 
 sub-reduce-with : tie.Need-sub-reduce-with
@@ -65,8 +65,8 @@ returns-2 c =
     let s = a .s .now in
     let q = countsAt s in
     let text = ap (reduceWith (a .line) (r .read-counts .result .d) (r .read-counts .result .m)) (behind (r .read-counts .result .length) s)
-        ∙ ap (λ x. reduceWith (a .line) (x .d) (x .m) (drop (x .length) s)) (r .read-counts .ensures .0)
-        ∙ first-of (reduceWith (a .line) (q .d) (q .m) (drop (q .length) s)) (mistakeText (a .line) (q .stop)) (sym (stops (c .before .before .before .before .before .before .before .before)) ∙ not-false _ (c .before .before .before .before .before .before .before .if1 .left)) in
+    ∙ ap (λ x. reduceWith (a .line) (x .d) (x .m) (drop (x .length) s)) (r .read-counts .ensures .0)
+    ∙ first-of (reduceWith (a .line) (q .d) (q .m) (drop (q .length) s)) (mistakeText (a .line) (q .stop)) (sym (stops (c .before .before .before .before .before .before .before .before)) ∙ not-false _ (c .before .before .before .before .before .before .before .if1 .left)) in
     (subst (λ t. Puts t (a .out .now) (a .at) (p .reduce-with .last .0) (p .reduce-with .result)) text (p .reduce-with .ensures .0), p .reduce-with .ensures .1)
 
 pub reduce-spec : {M : Type 1} → statement M

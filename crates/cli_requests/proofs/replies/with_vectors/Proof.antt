@@ -85,7 +85,7 @@ returns-2 c =
     let q = takenAt 2048 s in
     let whole = withTarget (a .basis) (a .line) (a .d) (a .m) in
     let text = (λ j. whole (cut r j) (behind (r .read-part .result .length) s j)) ∙ ap (λ x. whole (q .numbers) (drop (x .length) s)) (part r)
-        ∙ first-of (whole (q .numbers) (drop (q .length) s)) (mistakeText (a .line) (q .stop)) (sym (stops (c .before .before .before .before .before .before .before .before .before)) ∙ not-false _ (c .before .before .before .before .before .before .before .before .if1 .left)) in
+    ∙ first-of (whole (q .numbers) (drop (q .length) s)) (mistakeText (a .line) (q .stop)) (sym (stops (c .before .before .before .before .before .before .before .before .before)) ∙ not-false _ (c .before .before .before .before .before .before .before .before .if1 .left)) in
     (subst (λ t. Puts t (a .out .now) (a .at) (p .with-target .last .0) (p .with-target .result)) text (p .with-target .ensures .0), p .with-target .ensures .1)
 
 pub with-vectors-spec : {M : Type 1} → statement M
