@@ -14,13 +14,13 @@ use lib.Seq.{take-suc, take-all}
 use borrow.Author.Tests.{eq-eqb, ne-eqb}
 use Rattle.integers.specs.AllLaws.{map-append}
 use Rattle.catalogue_rules.specs.Catalogue as definition
-use Rattle.catalogue_rules.specs.Catalogue.{See, coordinates}
+use Rattle.catalogue_rules.specs.Catalogue.{See, coordinates, seeNumber}
 use Rattle.catalogue_rules.specs.Form.{WellFormed}
 use Rattle.fold_rules.specs.Fold.{standing, Stood, stoodOf, closedList, stands, standingIn, followed, printed, printedIn}
 use Rattle.fold_rules.specs.Laws.SameLattice.{Sound}
 use Rattle.catalogue_records.specs.declared.Catalogue.{Catalogue}
 use Rattle.catalogue_records.specs.declared.Entry.{Entry}
-use Rattle.catalogue_records.specs.Stored.{noEntry, sees, seeNumber, seePlace, entryOf}
+use Rattle.catalogue_records.specs.Stored.{noEntry, sees, seePlace, entryOf}
 use Rattle.integers.specs.Filled.{filled}
 use Rattle.integers.specs.FilledLaws.{filled-next, map-snoc}
 use Rattle.catalogue_records.specs.Catalogues.{stored, holding}

@@ -9,13 +9,13 @@ use lib.Dec.{eqb}
 use lib.IntN.{pos}
 use lib.ListN.{length, getD, take}
 use Rattle.catalogue_rules.specs.Catalogue as definition
-use Rattle.catalogue_rules.specs.Catalogue.{See, coordinates}
+use Rattle.catalogue_rules.specs.Catalogue.{See, coordinates, seeNumber}
 use Rattle.catalogue_rules.specs.Form.{WellFormed}
 use Rattle.fold_rules.specs.Fold.{closedList, lookup, led, followed}
 use Rattle.fold_rules.specs.Laws.Lookup.{led-own, led-other}
 use Rattle.catalogue_records.specs.declared.Entry.{Entry}
 use Rattle.integers.specs.Filled.{filled}
-use Rattle.catalogue_records.specs.Stored.{sees, seeNumber, seePlace}
+use Rattle.catalogue_records.specs.Stored.{sees, seePlace}
 use Rattle.catalogue_records.specs.EntriesIn.{seeIn, entryIn}
 use Rattle.catalogue_standing.specs.declared.reduced_entry.ReducedEntry.{ReducedEntry}
 use Rattle.catalogue_fold.specs.declared.printing.Way.{Way}

@@ -14,15 +14,14 @@ use Rattle.integers.specs.Decimal.{decimal}
 use Rattle.lattices.specs.Vector.{Vec}
 use Rattle.lattices.specs.Greedy.{reduction}
 use Rattle.catalogue_rules.specs.Catalogue as definition
-use Rattle.catalogue_rules.specs.Catalogue.{See}
+use Rattle.catalogue_rules.specs.Catalogue.{See, seeNumber}
 use Rattle.fold_rules.specs.Fold.{reducedOf, standing, Stood, stoodOf, closedList, followed, leads}
 use Rattle.text_layout.specs.Fields.{line}
-use Rattle.fold_rules.specs.Listing.{vectorLines, leadNumber, entryLine, vectorsShown, entryLines}
+use Rattle.fold_rules.specs.Listing.{vectorLines, entryLine, vectorsShown, entryLines}
 use Rattle.fold_rules.specs.Laws.SameLattice.{Sound, sound-entries}
 use Rattle.fold_rules.specs.Laws.Deciding.{entry-reduction}
 use Rattle.catalogue_records.specs.declared.Catalogue.{Catalogue}
 use Rattle.catalogue_records.specs.declared.Entry.{Entry}
-use Rattle.catalogue_records.specs.Stored.{seeNumber}
 use Rattle.catalogue_records.specs.EntriesIn.{entryIn, entriesIn}
 use Rattle.catalogue_records.specs.Entries.{beyond, entryAt, at-place, entry-has}
 use Rattle.catalogue_standing.specs.declared.reduced_entry.ReducedEntry.{ReducedEntry}
@@ -67,10 +66,6 @@ entries-joined ss [] = refl
 entries-joined ss (s ∷ more) =
     append-assoc (entryLine ss s) (vectorsShown s) (joined (shown ss) more) ∙ ap (λ t. entryLine ss s ++ (vectorsShown s ++ t)) (entries-joined ss more)
 
-lead-number : (o : Option See) → seeNumber o ≡ leadNumber o
-lead-number none = refl
-lead-number (some w) = refl
-
 -- ---- the entry at place k
 module _ (c : Catalogue) (r : WasRead c) {list : List ReducedEntry} {places numbers : List ℕ} (kept : HoldReduced c (c .count) list) (closed : Closed list (c .count) places)
     (named : numbers ≡ map (λ e. e .number) (c .entries)) (k : ℕ) (here : k < c .count) where
@@ -109,11 +104,11 @@ module _ (c : Catalogue) (r : WasRead c) {list : List ReducedEntry} {places numb
       let n = e .number in
       let ss = closedList es in
       let there = getD numbers (getD places k 0) 0 in
-      let led : w .number ≡ leadNumber (followed ss there (entryIn e .see)) =
-      ap (λ w. w .number) (way .leads es o list (r .formed) held (ready-numbers c r named) (ready-length c r)) ∙ lead-number (followed ss there (entryIn e .see)) in
+      let led : w .number ≡ seeNumber (followed ss there (entryIn e .see)) =
+      ap (λ w. w .number) (way .leads es o list (r .formed) held (ready-numbers c r named) (ready-length c r)) in
       ap (λ l. entryText n there l (getD list k noReduced .passes) (vectorsOf (getD list k noReduced))) led
-      ∙ ap (λ q. entryText n there (leadNumber (followed ss there (entryIn e .see))) (q .passes) (vectorsOf q)) (kept .at k here)
-      ∙ ap₂ (entryText n there (leadNumber (followed ss there (entryIn e .see)))) (ap (λ a. a .passes) (entry-reduction (entryIn e) sound)) (kept-vectors (entryIn e) sound)
-      ∙ ap (λ m. entryText n m (leadNumber (followed ss m (entryIn e .see))) (reduction (entryIn e .vectors) .passes) (reducedOf (entryIn e))) own
+      ∙ ap (λ q. entryText n there (seeNumber (followed ss there (entryIn e .see))) (q .passes) (vectorsOf q)) (kept .at k here)
+      ∙ ap₂ (entryText n there (seeNumber (followed ss there (entryIn e .see)))) (ap (λ a. a .passes) (entry-reduction (entryIn e) sound)) (kept-vectors (entryIn e) sound)
+      ∙ ap (λ m. entryText n m (seeNumber (followed ss m (entryIn e .see))) (reduction (entryIn e .vectors) .passes) (reducedOf (entryIn e))) own
       ∙ ap (λ f. shown ss (stoodOf es f)) (sym found)
       ∙ ap (shown ss) (sym (getD-map (stoodOf es) es o (stoodOf es o) k inside))

@@ -7,13 +7,13 @@ use lib.IntN.{ℤ, pos}
 use lib.ListN.{length, set, length-append}
 use Rattle.lattices.specs.Vector.{Vec}
 use Rattle.catalogue_rules.specs.Catalogue as definition
-use Rattle.catalogue_rules.specs.Catalogue.{Head, See, coordinates}
+use Rattle.catalogue_rules.specs.Catalogue.{Head, See, coordinates, seeNumber}
 use Rattle.catalogue_rules.specs.Laws.RoundTrip.{coordinates-snoc}
 use Rattle.catalogue_records.specs.declared.Entry.{Entry}
 use Rattle.catalogue_reader.specs.declared.parts.Part.{Part}
 use Rattle.integers.specs.Filled.{filled}
 use Rattle.integers.specs.FilledLaws.{filled-next}
-use Rattle.catalogue_records.specs.Stored.{sees, seeNumber, seePlace, entryOf}
+use Rattle.catalogue_records.specs.Stored.{sees, seePlace, entryOf}
 use Rattle.catalogue_reader.specs.Parts.{putCoordinate, putVector, whole}
 
 -- an entry's head, its whole vectors and the vector being read

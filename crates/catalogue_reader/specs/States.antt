@@ -15,7 +15,7 @@ use Rattle.lattices.specs.Refusal.{oneTo, tooLong, mostSize, mostSquare}
 use Rattle.input_checks.specs.Padded.{tooLong-padded}
 use Rattle.catalogue_rules.specs.Word.{Word, head, coordinate, see, end, other}
 use Rattle.catalogue_rules.specs.Catalogue as definition
-use Rattle.catalogue_rules.specs.Catalogue.{Head, See, coordinates}
+use Rattle.catalogue_rules.specs.Catalogue.{Head, See, coordinates, seeNumber}
 use Rattle.catalogue_rules.specs.Read.{State, outside, inside, after, closed, Step, next, stop, checked, isNumbered, withEntry, headRows, atHead, coordinateOf, withVector, atCoordinate, atEnd, step}
 use Rattle.catalogue_rules.specs.Laws.WellFormed.{any-snoc, load-within}
 use Rattle.catalogue_reader.specs.declared.reading.Phase.{Phase}
@@ -25,7 +25,7 @@ use Rattle.catalogue_reader.specs.declared.parts.Part.{Part}
 use Rattle.catalogue_reader.specs.declared.reading.Reading.{Reading}
 use Rattle.integers.specs.Filled.{filled}
 use Rattle.integers.specs.FilledLaws.{take-filled, map-snoc, any-map}
-use Rattle.catalogue_records.specs.Stored.{noEntry, sees, seeNumber, seePlace, entryOf}
+use Rattle.catalogue_records.specs.Stored.{noEntry, sees, seePlace, entryOf}
 use Rattle.catalogue_reader.specs.Parts.{noPart, started, whole}
 use Rattle.catalogue_reader.specs.Shown.{partOf, part-coordinate, part-vector, whole-entry}
 use Rattle.catalogue_reader.specs.Readings.{isNumber, going, stopped, headRead, vectorPhase, vectorRead, columnRead, coordinateRead, endRead, stepRead}

@@ -13,7 +13,7 @@ use Rattle.integers.specs.All.{All}
 use Rattle.integers.specs.AllLaws.{getD-map, all-at}
 use Rattle.lattices.specs.Refusal.{vectorsOf}
 use Rattle.catalogue_rules.specs.Catalogue as definition
-use Rattle.catalogue_rules.specs.Catalogue.{See, coordinates}
+use Rattle.catalogue_rules.specs.Catalogue.{See, coordinates, seeNumber}
 use Rattle.catalogue_rules.specs.Read.{firstPlace}
 use Rattle.catalogue_rules.specs.Form.{EntryFits}
 use Rattle.catalogue_rules.specs.Laws.EntriesAccepted.{count-coordinates, few-coordinates, vectors-back}
@@ -22,7 +22,7 @@ use Rattle.catalogue_records.specs.declared.Catalogue.{Catalogue}
 use Rattle.catalogue_records.specs.EntriesIn.{seeIn, entryIn, entriesIn}
 use Rattle.integers.specs.Filled.{filled}
 use Rattle.integers.specs.FilledLaws.{take-filled}
-use Rattle.catalogue_records.specs.Stored.{noEntry, sees, seeNumber, seePlace, entryOf}
+use Rattle.catalogue_records.specs.Stored.{noEntry, sees, seePlace, entryOf}
 use Rattle.catalogue_records.specs.Catalogues.{stored, holding}
 
 -- ---- what was stored is found again

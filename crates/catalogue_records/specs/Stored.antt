@@ -5,7 +5,7 @@ use Prim.Native.Nat.{ℕ}
 use lib.IntN.{pos}
 use lib.ListN.{replicate}
 use Rattle.catalogue_rules.specs.Catalogue as definition
-use Rattle.catalogue_rules.specs.Catalogue.{See, coordinates}
+use Rattle.catalogue_rules.specs.Catalogue.{See, coordinates, seeNumber}
 use Rattle.catalogue_records.specs.declared.Entry.{Entry}
 use Rattle.integers.specs.Filled.{filled}
 
@@ -16,10 +16,6 @@ noEntry = record { number = 0; d = 0; m = 0; place = 0; sees = false; see = 0; a
 abbrev pub sees : Option See → Bool
 sees none = false
 sees (some s) = true
-
-abbrev pub seeNumber : Option See → ℕ
-seeNumber none = 0
-seeNumber (some s) = s .number
 
 abbrev pub seePlace : Option See → ℕ
 seePlace none = 0

@@ -1,6 +1,6 @@
 -- What a catalogue holds (document 01, "The catalogue"): entries, the limits of the form, and the outcome of reading.
 use mathlib.Core.List.{List, [], _∷_, _++_}
-use mathlib.Core.Option.{Option}
+use mathlib.Core.Option.{Option, none, some}
 use Prim.Native.Nat.{ℕ}
 use lib.IntN.{ℤ}
 use Rattle.lattices.specs.Vector.{Vec}
@@ -29,6 +29,11 @@ pub record Head : Type 0 where
 pub record See : Type 0 where
   pub number : ℕ
   pub place : ℕ
+
+-- R11.4: the number that a see word names, 0 for none
+abbrev pub seeNumber : Option See → ℕ
+seeNumber none = 0
+seeNumber (some w) = w .number
 
 -- R6.3, R6.5, R6.8: "An entry is a head, then d times m coordinates vector by vector, then at most one see word."
 pub record Entry : Type 0 where

@@ -16,6 +16,10 @@ headWord h = head (h .number) (h .d) (h .m)
 abbrev pub coordinateWord : ℤ → Word
 coordinateWord x = coordinate (natAbs (x +ℤ pos mostSize))
 
+-- R6.1, R6.4: the words of coordinates, as numbers
+abbrev pub encodedCoordinates : List ℤ → List ℕ
+encodedCoordinates xs = map encode (map coordinateWord xs)
+
 -- R6.3 to R6.5, R6.8: "at most one see word"
 abbrev pub seeWords : Option See → List Word
 seeWords none = []

@@ -18,10 +18,9 @@ use Rattle.integers.specs.Every.{any}
 use Rattle.input_checks.specs.Any.{beyond}
 use Rattle.catalogue_rules.specs.Word.{Word, encode}
 use Rattle.catalogue_rules.specs.Catalogue.{Entry, coordinates}
-use Rattle.catalogue_rules.specs.Write.{headWord, coordinateWord, seeWords, entryWords}
+use Rattle.catalogue_rules.specs.Write.{headWord, coordinateWord, seeWords, entryWords, encodedCoordinates}
 use Rattle.catalogue_rules.specs.Form.{EntryFits}
 use Rattle.catalogue_rules.specs.Laws.EntriesAccepted.{all-near}
-use Rattle.catalogue_rules.specs.Laws.ReadVectors.{encoded}
 use Rattle.catalogue_records.specs.declared.Entry as stored
 use Rattle.integers.specs.FilledLaws.{map-snoc}
 use Rattle.catalogue_records.specs.EntriesIn.{entryIn}
@@ -39,17 +38,17 @@ load-nonneg (negsuc n) h = sub-ind (λ z. T (nonNeg z)) 20000 (suc n) (λ k. abs
 
 -- ---- the words of the first j coordinates
 
-pub length-encoded : (cs : List ℤ) → length (encoded cs) ≡ length cs
+pub length-encoded : (cs : List ℤ) → length (encodedCoordinates cs) ≡ length cs
 length-encoded cs = length-map (map coordinateWord cs) encode ∙ length-map cs coordinateWord
 
-pub length-first : (cs : List ℤ) (j : ℕ) → j ≤ length cs → length (encoded (take j cs)) ≡ j
+pub length-first : (cs : List ℤ) (j : ℕ) → j ≤ length cs → length (encodedCoordinates (take j cs)) ≡ j
 length-first cs j h = length-encoded (take j cs) ∙ length-take-le j cs h
 
-pub encoded-more : (cs : List ℤ) (j : ℕ) → j < length cs → encoded (take j cs) ++ (encode (coordinateWord (getD cs j (pos 0))) ∷ []) ≡ encoded (take (j + 1) cs)
+pub encoded-more : (cs : List ℤ) (j : ℕ) → j < length cs → encodedCoordinates (take j cs) ++ (encode (coordinateWord (getD cs j (pos 0))) ∷ []) ≡ encodedCoordinates (take (j + 1) cs)
 encoded-more cs j h =
     map-snoc encode (map coordinateWord (take j cs)) (coordinateWord (getD cs j (pos 0)))
     ∙ ap (map encode) (map-snoc coordinateWord (take j cs) (getD cs j (pos 0)))
-    ∙ ap encoded (sym (take-suc cs j (pos 0) h) ∙ ap (λ n. take n cs) (sym (add-one j)))
+    ∙ ap encodedCoordinates (sym (take-suc cs j (pos 0) h) ∙ ap (λ n. take n cs) (sym (add-one j)))
 
 -- ---- the words of a stored entry
 
@@ -68,5 +67,5 @@ module _ (e : stored.Entry) (fits : EntryFits (entryIn e)) (long : length (e .co
   pub length-basis : length (basisWords (entryIn e)) ≡ 1 + e .d * e .m
   length-basis = omega (arith, length-map (coordinates (entryIn e .vectors)) coordinateWord, ap length (same e fits long), cut e fits long)
 
-  pub basis-encoded : encode (headWord (entryIn e .head)) ∷ encoded (take (e .d * e .m) (e .coordinates)) ≡ map encode (basisWords (entryIn e))
-  basis-encoded = ap (λ l. encode (headWord (entryIn e .head)) ∷ encoded l) (sym (same e fits long))
+  pub basis-encoded : encode (headWord (entryIn e .head)) ∷ encodedCoordinates (take (e .d * e .m) (e .coordinates)) ≡ map encode (basisWords (entryIn e))
+  basis-encoded = ap (λ l. encode (headWord (entryIn e .head)) ∷ encodedCoordinates l) (sym (same e fits long))

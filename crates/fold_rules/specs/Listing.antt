@@ -1,14 +1,13 @@
 -- The text that the listing program writes (document 01, "A catalogue in full"), as bytes, for every list of bytes that it reads.
 use mathlib.Core.Bool.{true, false}
 use mathlib.Core.List.{List, [], _∷_, _++_, map}
-use mathlib.Core.Option.{Option, none, some}
 use Prim.Native.Nat.{ℕ}
 use lib.ListN.{length}
 use Rattle.integers.specs.Decimal.{decimal, signed}
 use Rattle.text_layout.specs.Fields.{line}
 use Rattle.lattices.specs.Vector.{Vec}
 use Rattle.lattices.specs.Greedy.{reduction}
-use Rattle.catalogue_rules.specs.Catalogue.{See, Outcome, refused, accepted}
+use Rattle.catalogue_rules.specs.Catalogue.{Outcome, refused, accepted, seeNumber}
 use Rattle.catalogue_rules.specs.Read.{read}
 use Rattle.fold_rules.specs.Fold.{reducedOf, Stood, closedList, stands, standingIn, leads}
 
@@ -21,16 +20,11 @@ abbrev pub vectorLines : List Vec → List ℕ
 vectorLines [] = []
 vectorLines (v ∷ vs) = line (118 ∷ []) (map signed v) ++ vectorLines vs
 
--- R11.4: "number that its own see word leads to (0 for none, or for its own standing entry)"
-abbrev pub leadNumber : Option See → ℕ
-leadNumber none = 0
-leadNumber (some w) = w .number
-
--- R11.3
+-- R11.3, R11.4: "number that its own see word leads to (0 for none, or for its own standing entry)"
 abbrev pub entryLine : List Stood → Stood → List ℕ
 entryLine ss s =
     line (decimal (s .entry .head .number))
-    (decimal (s .standing .head .number) ∷ decimal (leadNumber (leads ss s)) ∷ decimal (reduction (s .entry .vectors) .passes) ∷ [])
+    (decimal (s .standing .head .number) ∷ decimal (seeNumber (leads ss s)) ∷ decimal (reduction (s .entry .vectors) .passes) ∷ [])
 
 -- R11.5: "A standing entry is followed by" its vectors
 abbrev pub vectorsShown : Stood → List ℕ

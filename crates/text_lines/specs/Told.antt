@@ -9,7 +9,7 @@ use lib.ListN.{length, take, drop, replicate}
 use Rattle.lattices.specs.Vector.{nth}
 use Rattle.integers.specs.Every.{any}
 use Rattle.catalogue_rules.specs.Word.{Word, head, see, encode}
-use Rattle.catalogue_rules.specs.Laws.ReadVectors.{encoded}
+use Rattle.catalogue_rules.specs.Write.{encodedCoordinates}
 use Rattle.input_checks.specs.Any.{beyond}
 use Rattle.text_parts.specs.declared.Kind.{Kind}
 use Rattle.text_parts.specs.Parts.{isEnd, isSemicolon, Taken, takenAt}
@@ -46,7 +46,7 @@ blankLine = noWords None true
 -- a head, coordinates and a see word, 0 for none
 abbrev pub rightLine : ℕ → List ℤ → ℕ → Line
 rightLine w zs n =
-    record { mistake = None; blank = false; head = w; count = length zs; coordinates = encoded zs ++ replicate (mostNumbers - length zs) 0; see = n }
+    record { mistake = None; blank = false; head = w; count = length zs; coordinates = encodedCoordinates zs ++ replicate (mostNumbers - length zs) 0; see = n }
 
 -- ---- what is wrong, the first that applies
 

@@ -14,8 +14,7 @@ use borrow.Author.Tests.{eq-eqb, ne-eqb}
 use Rattle.lattices.specs.Vector.{nth}
 use Rattle.integers.specs.Every.{any}
 use Rattle.catalogue_rules.specs.Word.{Word, head, see, encode}
-use Rattle.catalogue_rules.specs.Write.{coordinateWord}
-use Rattle.catalogue_rules.specs.Laws.ReadVectors.{encoded}
+use Rattle.catalogue_rules.specs.Write.{coordinateWord, encodedCoordinates}
 use Rattle.input_checks.specs.Any.{beyond}
 use Rattle.text_parts.specs.declared.Kind.{Kind}
 use Rattle.text_parts.specs.declared.Kind.the-variants.{Number, Semicolon, End, Unexpected, TooLarge, TooMany, NoCount}
@@ -47,10 +46,10 @@ head-none false b c k = stop-wrong k
 -- ---- the other parts
 
 -- the words of a line that is right
-right-told : (w : ℕ) (zs : List ℤ) (n : ℕ) → told (rightLine w zs n) ≡ some (w ∷ (encoded zs ++ seeTold n))
+right-told : (w : ℕ) (zs : List ℤ) (n : ℕ) → told (rightLine w zs n) ≡ some (w ∷ (encodedCoordinates zs ++ seeTold n))
 right-told w zs n =
-    let long : length (encoded zs) ≡ length zs = length-map (map coordinateWord zs) encode ∙ length-map zs coordinateWord in
-    ap (λ l. some (w ∷ (l ++ seeTold n))) (take-at (encoded zs) (replicate (mostNumbers - length zs) 0) (length zs) long)
+    let long : length (encodedCoordinates zs) ≡ length zs = length-map (map coordinateWord zs) encode ∙ length-map zs coordinateWord in
+    ap (λ l. some (w ∷ (l ++ seeTold n))) (take-at (encodedCoordinates zs) (replicate (mostNumbers - length zs) 0) (length zs) long)
 
 module _ (w n : ℕ) (p : Taken) (s : List ℕ) where
   abbrev last-part : Taken

@@ -5,7 +5,7 @@ ghost use mathlib.Core.List.{_++_};
 ghost use Prim.Native.Nat.{_-_, _≤_};
 ghost use lib.ListN.{length, replicate};
 ghost use Rattle.integers.specs.Every.{any};
-ghost use Rattle.catalogue_rules.specs.Laws.ReadVectors.{encoded};
+ghost use Rattle.catalogue_rules.specs.Write.{encodedCoordinates};
 ghost use Rattle.input_checks.specs.Any.{beyond};
 ghost use Rattle.text_parts.specs.Parts.{takenAt};
 ghost use Rattle.text_rules.specs.Encoding.{fits};
@@ -146,7 +146,7 @@ fn head_mistake(stop: Kind, count: usize, number: i64, d: i64, m: i64) -> Mistak
 fn coordinate_words(z: &[i64]) -> Words
     requires { ⌜ length (now z) ≤ 225 ⌝ }
     ensures { λ r. ⌜ r .beyond ≡ any beyond (now (z .entry)) ⌝ }
-    ensures { λ r. ⌜ (r .beyond ≡ false → r .words ≡ encoded (now (z .entry)) ++ replicate (225 - length (now (z .entry))) 0) ⌝ }
+    ensures { λ r. ⌜ (r .beyond ≡ false → r .words ≡ encodedCoordinates (now (z .entry)) ++ replicate (225 - length (now (z .entry))) 0) ⌝ }
 {
     let mut words = [0u32; 225];
     for i in 0..z.len() {

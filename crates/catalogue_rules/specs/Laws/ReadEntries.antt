@@ -18,10 +18,10 @@ use Rattle.catalogue_rules.specs.Word.{head, see, encode}
 use Rattle.catalogue_rules.specs.Laws.Word.{InRange}
 use Rattle.catalogue_rules.specs.Catalogue.{Head, See, Entry, Outcome, coordinates, mostEntries}
 use Rattle.catalogue_rules.specs.Read.{State, outside, inside, after, headRows, isNumbered, withEntry, step, readWords}
-use Rattle.catalogue_rules.specs.Write.{headWord, coordinateWord, seeWords, entryWords, entriesWords}
+use Rattle.catalogue_rules.specs.Write.{headWord, coordinateWord, seeWords, entryWords, entriesWords, encodedCoordinates}
 use Rattle.catalogue_rules.specs.Form.{mostNumber, HeadFits, EntryFits, Distinct, seeAt, pastSee, pastVectors, headAt, entryAt, placed}
 use Rattle.catalogue_rules.specs.Laws.Moves.{NoneOf, Between, between, unreferred}
-use Rattle.catalogue_rules.specs.Laws.ReadVectors.{encoded, one-word, at-head, all-vectors}
+use Rattle.catalogue_rules.specs.Laws.ReadVectors.{one-word, at-head, all-vectors}
 use Rattle.catalogue_rules.specs.Laws.WellFormed.{any-snoc, eqb-turned}
 
 -- ---- an entry
@@ -62,9 +62,9 @@ head-and-vectors s es e words b fits few new =
     let h = e .head in
     let cs = coordinates (e .vectors) in
     let more = map encode (seeWords (e .see)) ++ words in
-    let split : map encode (map coordinateWord cs ++ seeWords (e .see)) ++ words ≡ encoded cs ++ more = simp (map-append, append-assoc) in
+    let split : map encode (map coordinateWord cs ++ seeWords (e .see)) ++ words ≡ encodedCoordinates cs ++ more = simp (map-append, append-assoc) in
     ap (λ l. readWords s (h .place) (encode (headWord h) ∷ l)) split
-    ∙ one-word s (inside es h [] []) (h .place) (headWord h) (encoded cs ++ more) (head-range h (fits .head)) (at-head h b (head-passes es h (fits .head) few new))
+    ∙ one-word s (inside es h [] []) (h .place) (headWord h) (encodedCoordinates cs ++ more) (head-range h (fits .head)) (at-head h b (head-passes es h (fits .head) few new))
     ∙ all-vectors es h (e .vectors) (suc (h .place)) more (one-to mostVectors (h .d) (fits .head .d) .0) (one-to mostCoordinates (h .m) (fits .head .m) .0) (fits .vectors) (fits .count)
 
 -- ---- entries

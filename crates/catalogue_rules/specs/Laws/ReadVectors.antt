@@ -21,7 +21,7 @@ use Rattle.catalogue_rules.specs.Word.{Word, end, encode}
 use Rattle.catalogue_rules.specs.Laws.Word.{InRange, decode-encode}
 use Rattle.catalogue_rules.specs.Catalogue.{Head, Entry, refused, coordinates, mostLoad}
 use Rattle.catalogue_rules.specs.Read.{State, inside, after, closed, next, stop, checked, headRows, coordinateRows, endRows, withEntry, coordinateOf, withVector, withCoordinate, atEnd, step, readWords}
-use Rattle.catalogue_rules.specs.Write.{headWord, coordinateWord}
+use Rattle.catalogue_rules.specs.Write.{headWord, coordinateWord, encodedCoordinates}
 use Rattle.catalogue_rules.specs.Form.{VectorFits}
 use Rattle.catalogue_rules.specs.Laws.Moves.{NoneOf, Between, between, unreferred}
 use Rattle.integers.specs.Tests.{neither}
@@ -79,9 +79,6 @@ at-coordinate es h vs v u x i words near e short =
 
 -- ---- vectors
 
-abbrev pub encoded : List ℤ → List ℕ
-encoded xs = map encode (map coordinateWord xs)
-
 whole-vector : (es : List Entry) (h : Head) (vs : List Vec) (v : Vec) → length v ≡ h .m → withCoordinate es h vs v ≡ withVector es h (vs ++ (v ∷ []))
 whole-vector es h vs v e = ap (λ t. elim t [ true ↦ withVector es h (vs ++ (v ∷ [])) | false ↦ inside es h vs v ]) (eq-eqb (length v) (h .m) e)
 
@@ -95,7 +92,7 @@ and-false false t e = refl
 -- the coordinates of u that follow those of v
 rest-of-vector : (es : List Entry) (h : Head) (vs : List Vec) (u v : Vec) (x : ℤ) (xs : Vec) (i : ℕ) (words : List ℕ)
     → any (λ y. ltb mostSize (natAbs y)) (x ∷ xs) ≡ false → v ++ (x ∷ xs) ≡ u → length u ≡ h .m → ltZ (pos mostSquare) (N u) ≡ false
-    → readWords (inside es h vs v) i (encoded (x ∷ xs) ++ words) ≡ readWords (withVector es h (vs ++ (u ∷ []))) (i + length (x ∷ xs)) words
+    → readWords (inside es h vs v) i (encodedCoordinates (x ∷ xs) ++ words) ≡ readWords (withVector es h (vs ++ (u ∷ []))) (i + length (x ∷ xs)) words
 rest-of-vector es h vs u v x [] i words near e full short =
     at-coordinate es h vs v u x i words (neither _ _ near .0) e (and-false (eqb (length u) (h .m)) _ short)
     ∙ ap₂ (λ s j. readWords s j words) (whole-vector es h vs u full) (omega arith)
@@ -103,32 +100,32 @@ rest-of-vector es h vs u v x (y ∷ xs) i words near e full short =
     let w = v ++ (x ∷ []) in
     let part : eqb (length w) (h .m) ≡ false = ne-eqb (length w) (h .m) (λ p. omega (arith, length-append v (x ∷ []), length-append v (x ∷ y ∷ xs), ap length e)) in
     let n = neither (ltb mostSize (natAbs x)) (any (λ y. ltb mostSize (natAbs y)) (y ∷ xs)) near in
-    at-coordinate es h vs v w x i (encoded (y ∷ xs) ++ words) (n .0) refl (ap (λ t. t && ltZ (pos mostSquare) (N w)) part)
-    ∙ ap (λ s. readWords s (suc i) (encoded (y ∷ xs) ++ words)) (part-vector es h vs w part)
+    at-coordinate es h vs v w x i (encodedCoordinates (y ∷ xs) ++ words) (n .0) refl (ap (λ t. t && ltZ (pos mostSquare) (N w)) part)
+    ∙ ap (λ s. readWords s (suc i) (encodedCoordinates (y ∷ xs) ++ words)) (part-vector es h vs w part)
     ∙ rest-of-vector es h vs u w y xs (suc i) words (n .1) (append-snoc v x (y ∷ xs) ∙ e) full short
     ∙ ap (λ j. readWords (withVector es h (vs ++ (u ∷ []))) j words) (omega arith)
 
 one-vector : (es : List Entry) (h : Head) (vs : List Vec) (u : Vec) (i : ℕ) (words : List ℕ) → 1 ≤ h .m → VectorFits (h .m) u
-    → readWords (inside es h vs []) i (encoded u ++ words) ≡ readWords (withVector es h (vs ++ (u ∷ []))) (i + length u) words
+    → readWords (inside es h vs []) i (encodedCoordinates u ++ words) ≡ readWords (withVector es h (vs ++ (u ∷ []))) (i + length u) words
 one-vector es h vs [] i words one fits = absurd (let p = fits .full in omega arith)
 one-vector es h vs (x ∷ xs) i words one fits =
     let p = neither (any (λ y. ltb mostSize (natAbs y)) (x ∷ xs)) (ltZ (pos mostSquare) (N (x ∷ xs))) (fits .short) in
     rest-of-vector es h vs (x ∷ xs) [] x xs i words (p .0) refl (fits .full) (p .1)
 
-encoded-append : (xs ys : List ℤ) (words : List ℕ) → encoded (xs ++ ys) ++ words ≡ encoded xs ++ (encoded ys ++ words)
+encoded-append : (xs ys : List ℤ) (words : List ℕ) → encodedCoordinates (xs ++ ys) ++ words ≡ encodedCoordinates xs ++ (encodedCoordinates ys ++ words)
 encoded-append xs ys words = simp (map-append, append-assoc)
 
 -- the vectors that follow those of vs
 rest-of-vectors : (es : List Entry) (h : Head) (vs : List Vec) (u : Vec) (us : List Vec) (i : ℕ) (words : List ℕ)
     → 1 ≤ h .m → All (VectorFits (h .m)) (u ∷ us) → length (vs ++ (u ∷ us)) ≡ h .d
-    → readWords (inside es h vs []) i (encoded (coordinates (u ∷ us)) ++ words) ≡ readWords (after es h (vs ++ (u ∷ us))) (i + length (coordinates (u ∷ us))) words
+    → readWords (inside es h vs []) i (encodedCoordinates (coordinates (u ∷ us)) ++ words) ≡ readWords (after es h (vs ++ (u ∷ us))) (i + length (coordinates (u ∷ us))) words
 rest-of-vectors es h vs u [] i words one fits count =
     ap (readWords (inside es h vs []) i) (encoded-append u [] words)
     ∙ one-vector es h vs u i words one (fits .0)
     ∙ ap₂ (λ s j. readWords s j words) (ap (λ t. elim t [ true ↦ after es h (vs ++ (u ∷ [])) | false ↦ inside es h (vs ++ (u ∷ [])) [] ]) (eq-eqb _ _ count))
     (ap (λ l. i + length l) (sym (append-nil u)))
 rest-of-vectors es h vs u (y ∷ us) i words one fits count =
-    let more = encoded (coordinates (y ∷ us)) ++ words in
+    let more = encodedCoordinates (coordinates (y ∷ us)) ++ words in
     let part : eqb (length (vs ++ (u ∷ []))) (h .d) ≡ false = ne-eqb (length (vs ++ (u ∷ []))) (h .d) (λ p. omega (arith, length-append vs (u ∷ []), length-append vs (u ∷ y ∷ us))) in
     ap (readWords (inside es h vs []) i) (encoded-append u (coordinates (y ∷ us)) words)
     ∙ one-vector es h vs u i more one (fits .0)
@@ -137,6 +134,6 @@ rest-of-vectors es h vs u (y ∷ us) i words one fits count =
     ∙ ap₂ (λ l j. readWords (after es h l) j words) (append-snoc vs u (y ∷ us)) (omega (arith, length-append u (coordinates (y ∷ us))))
 
 pub all-vectors : (es : List Entry) (h : Head) (vs : List Vec) (i : ℕ) (words : List ℕ) → 1 ≤ h .d → 1 ≤ h .m → All (VectorFits (h .m)) vs → length vs ≡ h .d
-    → readWords (inside es h [] []) i (encoded (coordinates vs) ++ words) ≡ readWords (after es h vs) (i + length (coordinates vs)) words
+    → readWords (inside es h [] []) i (encodedCoordinates (coordinates vs) ++ words) ≡ readWords (after es h vs) (i + length (coordinates vs)) words
 all-vectors es h [] i words one full fits count = absurd (omega arith)
 all-vectors es h (u ∷ us) i words one full fits count = rest-of-vectors es h [] u us i words full fits count

@@ -5,9 +5,8 @@ use Prim.Native.Nat.{_*_, _≤_}
 use native.Mathlib.Omega.{arith}
 use lib.ListN.{length, take}
 use Rattle.catalogue_rules.specs.Word.{encode}
-use Rattle.catalogue_rules.specs.Write.{headWord}
+use Rattle.catalogue_rules.specs.Write.{headWord, encodedCoordinates}
 use Rattle.catalogue_rules.specs.Laws.ReadEntries.{head-range}
-use Rattle.catalogue_rules.specs.Laws.ReadVectors.{encoded}
 use Rattle.catalogue_writer.specs.Over.{overWords, over-more}
 use Rattle.catalogue_records.specs.EntriesIn.{entryIn}
 use Rattle.catalogue_writer.specs.Loads.{near, length-basis, basis-encoded}
@@ -74,7 +73,7 @@ returns c =
     let h = p .before .before .before .before .before .before in (
       omega (arith, length-basis e (s .pre .0) (long s)),
       p .put-coordinates .ensures
-          ∙ over-more out k (encode (headWord (entryIn e .head)) ∷ []) (encoded (take (e .d * e .m) (e .coordinates))) (h .put-word .ensures ∙ ap (λ w. overWords out k (w ∷ [])) (h .before .before .head-word .ensures)) refl (omega (arith, s .pre .1))
+          ∙ over-more out k (encode (headWord (entryIn e .head)) ∷ []) (encodedCoordinates (take (e .d * e .m) (e .coordinates))) (h .put-word .ensures ∙ ap (λ w. overWords out k (w ∷ [])) (h .before .before .head-word .ensures)) refl (omega (arith, s .pre .1))
           ∙ ap (overWords out k) (basis-encoded e (s .pre .0) (long s)),
     )
 

@@ -12,8 +12,7 @@ use mir.Facts.{toZ-ofZ}
 use Rattle.integers.specs.Size.{Within, fits-within}
 use Rattle.input_checks.specs.Any.{within-limit}
 use Rattle.catalogue_rules.specs.Word.{encode}
-use Rattle.catalogue_rules.specs.Write.{coordinateWord}
-use Rattle.catalogue_rules.specs.Laws.ReadVectors.{encoded}
+use Rattle.catalogue_rules.specs.Write.{coordinateWord, encodedCoordinates}
 use Rattle.catalogue_writer.specs.Over.{overWords, length-over, over-more, over-none}
 use Rattle.catalogue_writer.specs.Loads.{length-first, encoded-more}
 use borrow.Author.Needs.{needs}
@@ -21,7 +20,7 @@ use Rattle.catalogue_writer.proofs.put_coordinates.Statement.{statement
 use Rattle.catalogue_writer.proofs.put_coordinates.Tie as tie
 
 abbrev Inv-loop : tie.InvT-loop
-Inv-loop out₀ k coordinates j₀ j-end out j = (j ≤ length coordinates) × (out ≡ overWords out₀ k (encoded (take j coordinates)))
+Inv-loop out₀ k coordinates j₀ j-end out j = (j ≤ length coordinates) × (out ≡ overWords out₀ k (encodedCoordinates (take j coordinates)))
 
 abbrev μ-loop : tie.MeasureT-loop
 μ-loop out₀ k coordinates j₀ j-end out j = j-end - j
@@ -33,7 +32,7 @@ fits : (c : tie.Start Inv-loop μ-loop) (j : ℕ) → SFits w64 (getD (c .args .
 fits c j = fits-within {B = 20000} (near c j) tt
 
 -- what is written leaves room
-room : (c : tie.At-loop Inv-loop μ-loop) → let a = c .before .before .args in (a .k + length (encoded (take (c .loop .j) (a .coordinates .now)))) * 4 ≤ length (a .out .now)
+room : (c : tie.At-loop Inv-loop μ-loop) → let a = c .before .before .args in (a .k + length (encodedCoordinates (take (c .loop .j) (a .coordinates .now)))) * 4 ≤ length (a .out .now)
 room c =
     let s = c .before .before in
     let a = s .args in
@@ -42,7 +41,7 @@ room c =
 long : (c : tie.At-loop Inv-loop μ-loop) → length (c .loop .out) ≡ length (c .before .before .args .out .now)
 long c =
     let a = c .before .before .args in
-    ap length (c .loop .inv .1) ∙ length-over (a .out .now) (a .k) (encoded (take (c .loop .j) (a .coordinates .now))) (room c)
+    ap length (c .loop .inv .1) ∙ length-over (a .out .now) (a .k) (encodedCoordinates (take (c .loop .j) (a .coordinates .now))) (room c)
 
 loop-holds : tie.Need-loop-holds Inv-loop μ-loop
 loop-holds c = (search needs, sym (over-none _ (c .before .args .k)))
@@ -86,7 +85,7 @@ loop-again c =
       search needs,
       p .put-word .ensures
           ∙ ap (λ w. overWords (l .loop .out) (a .k + j) (w ∷ [])) word
-          ∙ over-more (a .out .now) (a .k) (encoded (take j cs)) (encode (coordinateWord (getD cs j (pos 0))) ∷ []) (l .loop .inv .1) (ap (λ n. a .k + n) (sym (length-first cs j (l .loop .inv .0)))) (room l)
+          ∙ over-more (a .out .now) (a .k) (encodedCoordinates (take j cs)) (encode (coordinateWord (getD cs j (pos 0))) ∷ []) (l .loop .inv .1) (ap (λ n. a .k + n) (sym (length-first cs j (l .loop .inv .0)))) (room l)
           ∙ ap (overWords (a .out .now) (a .k)) (encoded-more cs j (p .before .before .before .before .loop-test .taken)),
     )
 
@@ -96,7 +95,7 @@ same-length c = long (c .before)
 returns : tie.Need-returns Inv-loop μ-loop
 returns c =
     let a = c .before .before .before .args in
-    c .before .loop .inv .1 ∙ ap (λ cs. overWords (a .out .now) (a .k) (encoded cs)) (take-all _ (a .coordinates .now) (c .loop-test .left))
+    c .before .loop .inv .1 ∙ ap (λ cs. overWords (a .out .now) (a .k) (encodedCoordinates cs)) (take-all _ (a .coordinates .now) (c .loop-test .left))
 
 pub put-coordinates-spec : {M : Type 1} → statement M
 put-coordinates-spec =

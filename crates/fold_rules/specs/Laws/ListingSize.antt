@@ -25,12 +25,12 @@ use Rattle.lattices.specs.Laws.Refusal.{one-to}
 use Rattle.greedy_reduction.specs.Exactness.{length-begin, begin}
 use Rattle.greedy_reduction.specs.Sizes.{no-longer-of}
 use Rattle.greedy_reduction.specs.Passes.{passes-most}
-use Rattle.catalogue_rules.specs.Catalogue.{See, Entry, accepted}
+use Rattle.catalogue_rules.specs.Catalogue.{See, Entry, accepted, seeNumber}
 use Rattle.catalogue_rules.specs.Read.{isNumbered, read}
 use Rattle.catalogue_rules.specs.Form.{VectorFits, mostNumber}
 use Rattle.catalogue_rules.specs.Laws.WellFormed.{well-formed}
 use Rattle.fold_rules.specs.Fold.{reducedOf, standing, Stood, stoodOf, closedList, stands, standingIn, lookup, unlessOwn, followed, leads}
-use Rattle.fold_rules.specs.Listing.{vectorLines, leadNumber, entryLine, vectorsShown, entryLines}
+use Rattle.fold_rules.specs.Listing.{vectorLines, entryLine, vectorsShown, entryLines}
 use Rattle.fold_rules.specs.Services.{listingText}
 use Rattle.fold_rules.specs.Meaning.{Among}
 use Rattle.fold_rules.specs.Laws.SameLattice.{Sound, sound-entries, entry-basis}
@@ -73,15 +73,15 @@ lookup-short (s ∷ ss) h n k e = go (isNumbered n (s .entry)) e (lookup-short s
     go true e more = subst Short (ap (λ o. elim o as (λ o. ℕ) [ none ↦ 0 | some j ↦ j ]) e) (h .0)
     go false e more = more e
 
-lead-short : (ss : List Stood) → All (λ s. Short (s .standing .head .number)) ss → (own : ℕ) (o : Option See) → Short (leadNumber (followed ss own o))
+lead-short : (ss : List Stood) → All (λ s. Short (s .standing .head .number)) ss → (own : ℕ) (o : Option See) → Short (seeNumber (followed ss own o))
 lead-short ss h own none = omega arith
 lead-short ss h own (some w) = go (lookup ss (w .number)) refl
   where
-    word : (b : Bool) (k : ℕ) → Short k → Short (leadNumber (unlessOwn b w k))
+    word : (b : Bool) (k : ℕ) → Short k → Short (seeNumber (unlessOwn b w k))
     word true k p = omega arith
     word false k p = p
 
-    go : (o : Option ℕ) → lookup ss (w .number) ≡ o → Short (leadNumber (elim o [ none ↦ none | some there ↦ unlessOwn (eqb there own) w there ]))
+    go : (o : Option ℕ) → lookup ss (w .number) ≡ o → Short (seeNumber (elim o [ none ↦ none | some there ↦ unlessOwn (eqb there own) w there ]))
     go none e = omega arith
     go (some k) e = word (eqb k own) k (lookup-short ss h (w .number) k e)
 
@@ -108,7 +108,7 @@ record Listed (s : Stood) : Type 0 where
 entry-lines : (ss : List Stood) → All (λ s. Short (s .standing .head .number)) ss → (more : List Stood) → All Listed more → length (entryLines ss more) ≤ length more * 156
 entry-lines ss h [] p = omega arith
 entry-lines ss h (s ∷ more) p =
-    let l = line-length (s .entry .head .number) (s .standing .head .number) (leadNumber (leads ss s)) (reduction (s .entry .vectors) .passes)
+    let l = line-length (s .entry .head .number) (s .standing .head .number) (seeNumber (leads ss s)) (reduction (s .entry .vectors) .passes)
     (p .0 .number) (p .0 .standing) (lead-short ss h (s .standing .head .number) (s .entry .see)) (p .0 .passes) in
     omega (arith, length-append (entryLine ss s) (vectorsShown s ++ entryLines ss more), length-append (vectorsShown s) (entryLines ss more), l, p .0 .shown, entry-lines ss h more (p .1))
 

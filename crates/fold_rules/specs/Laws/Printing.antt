@@ -11,10 +11,9 @@ use borrow.Author.Tests.{eqb-true, eqb-false}
 use Rattle.integers.specs.All.{All, Some}
 use Rattle.integers.specs.AllLaws.{all-imp}
 use Rattle.successive_minima.specs.Laws.Minima.{successive}
-use Rattle.catalogue_rules.specs.Catalogue.{See, Entry}
+use Rattle.catalogue_rules.specs.Catalogue.{See, Entry, seeNumber}
 use Rattle.catalogue_rules.specs.Form.{Distinct, Names, WellFormed, seeAt, entryAt, placed, pastVectors}
 use Rattle.fold_rules.specs.Fold.{reducedOf, standing, stoodOf, closedList, stands, followed, led, printed, printedIn, folded}
-use Rattle.fold_rules.specs.Listing.{leadNumber}
 use Rattle.fold_rules.specs.Meaning.{Among, OneLattice, Stands, Leads, Sees, Prints, Printing, done, print, pass, Apart}
 use Rattle.fold_rules.specs.Laws.SameLattice.{Sound, sound-entries, entry-basis, entry-lattice, entry-reduced, entry-count, one-refl, one-sym, one-trans}
 use Rattle.fold_rules.specs.Laws.Standing.{all-self, all-among, stands-among, stands-once, one-number, not-used, standing-is, standing-among, stands-itself, itself-stands}
@@ -78,7 +77,7 @@ module _ (all : List Entry) (w : WellFormed all) where
                   standing = standing all f;
                   stands = standing-is all sound f b;
                   other = λ p. z (ap (λ h. h .head .number) (p ∙ sym own));
-                  there = ap leadNumber (sym (led-other (there e) v (there f) z) ∙ to) ∙ s .number;
+                  there = ap seeNumber (sym (led-other (there e) v (there f) z) ∙ to) ∙ s .number;
                 }
 
     sound-here : Sound e
@@ -122,7 +121,7 @@ sees-placed i g n = (
   where
     back : (o : Option See) → g .see ≡ o → Sees (entryAt i g) n → Sees g n
     back none q s = absurd (Option·some-ne-none (s .word) (sym (s .carried) ∙ ap (seeAt (pastVectors i (g .vectors))) q))
-    back (some v) q s = record { word = v; carried = q; number = ap leadNumber (sym (ap (seeAt (pastVectors i (g .vectors))) q) ∙ s .carried) ∙ s .number }
+    back (some v) q s = record { word = v; carried = q; number = ap seeNumber (sym (ap (seeAt (pastVectors i (g .vectors))) q) ∙ s .carried) ∙ s .number }
 
 prints-placed : {all : List Entry} {e : Entry} (i : ℕ) (g : Entry) → Prints all e g → Prints all e (entryAt i g)
 prints-placed i g p = record {

@@ -11,8 +11,7 @@ use mir.Val.{ofZ, toZ}
 use mir.Facts.{toZ-ofZ}
 use Rattle.integers.specs.Size.{within-le, fits-within}
 use Rattle.lattices.specs.Vector.{dot}
-use Rattle.row_operations.specs.Dot.{dot-suc}
-use Rattle.row_operations.specs.Dot.{DotTurn}
+use Rattle.row_operations.specs.Dot.{dot-suc, DotTurn}
 use Rattle.nearest_of_three.specs.Fits.{sum-within, turn-at}
 use Rattle.nearest_of_three.proofs.dot3.Statement.{statement}
 use Rattle.nearest_of_three.proofs.dot3.Tie as tie

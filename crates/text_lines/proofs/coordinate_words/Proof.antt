@@ -16,8 +16,7 @@ use borrow.Author.Tests.{ltb-false}
 use Rattle.lattices.specs.Vector.{nth}
 use Rattle.integers.specs.Every.{any}
 use Rattle.catalogue_rules.specs.Word.{encode}
-use Rattle.catalogue_rules.specs.Write.{coordinateWord}
-use Rattle.catalogue_rules.specs.Laws.ReadVectors.{encoded}
+use Rattle.catalogue_rules.specs.Write.{coordinateWord, encodedCoordinates}
 use Rattle.input_checks.specs.Any.{beyond, any-here, any-later, any-end}
 use Rattle.catalogue_writer.specs.Loads.{encoded-more}
 use Rattle.text_lines.specs.Fields.{zeros-next}
@@ -26,7 +25,7 @@ use Rattle.text_lines.proofs.coordinate_words.Tie as tie
 
 abbrev Inv-loop : tie.InvT-loop
 Inv-loop z words₀ i₀ i-end words i =
-    (i ≤ length z) × ((length words ≡ 225) × ((any beyond z ≡ any beyond (drop i z)) × ((take i words ≡ encoded (take i z)) × (drop i words ≡ replicate (225 - i) 0))))
+    (i ≤ length z) × ((length words ≡ 225) × ((any beyond z ≡ any beyond (drop i z)) × ((take i words ≡ encodedCoordinates (take i z)) × (drop i words ≡ replicate (225 - i) 0))))
 
 abbrev μ-loop : tie.MeasureT-loop
 μ-loop z words₀ i₀ i-end words i = i-end - i
@@ -125,7 +124,7 @@ returns-2 c =
     let end : length z ≡ l .loop .i = omega (arith, l .loop .inv .0, c .loop-test .left) in (
       sym (l .loop .inv .1 .1 .0 ∙ any-end beyond z (l .loop .i) (omega arith)),
       λ e. sym (take-append-drop (l .loop .i) (l .loop .words))
-          ∙ ap₂ _++_ (l .loop .inv .1 .1 .1 .0 ∙ ap encoded (take-all (l .loop .i) z (omega arith))) (l .loop .inv .1 .1 .1 .1 ∙ ap (λ k. replicate (225 - k) 0) (sym end)),
+          ∙ ap₂ _++_ (l .loop .inv .1 .1 .1 .0 ∙ ap encodedCoordinates (take-all (l .loop .i) z (omega arith))) (l .loop .inv .1 .1 .1 .1 ∙ ap (λ k. replicate (225 - k) 0) (sym end)),
     )
 
 pub coordinate-words-spec : {M : Type 1} → statement M

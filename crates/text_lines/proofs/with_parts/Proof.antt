@@ -10,7 +10,7 @@ use lib.Seq.{take-at}
 use borrow.Author.Needs.{needs}
 use borrow.Author.Tests.{not-true, not-false, eq-eqb, ne-eqb}
 use Rattle.integers.specs.Every.{any}
-use Rattle.catalogue_rules.specs.Laws.ReadVectors.{encoded}
+use Rattle.catalogue_rules.specs.Write.{encodedCoordinates}
 use Rattle.input_checks.specs.Any.{beyond}
 use Rattle.text_parts.specs.Parts.{isEnd, Taken, takenAt}
 use Rattle.text_lines.specs.declared.Mistake.{Mistake}
@@ -129,10 +129,10 @@ returns-3 c =
 near : (c : tie.Else3) → any beyond (takenAt 225 (c .before .before .before .before .before .before .before .before .before .before .args .s .now) .numbers) ≡ false
 near c = sym (tested (c .before)) ∙ c .if3 .left
 
-words : (c : tie.Else3) → let zs = takenAt 225 (c .before .before .before .before .before .before .before .before .before .before .args .s .now) .numbers in c .before .coordinate-words .result .words ≡ encoded zs ++ replicate (225 - length zs) 0
+words : (c : tie.Else3) → let zs = takenAt 225 (c .before .before .before .before .before .before .before .before .before .before .args .s .now) .numbers in c .before .coordinate-words .result .words ≡ encodedCoordinates zs ++ replicate (225 - length zs) 0
 words c =
     let w = c .before in
-    w .coordinate-words .ensures .1 (c .if3 .left) ∙ ap (λ zs. encoded zs ++ replicate (225 - length zs) 0) (cut (w .before .before .before .before .before .before))
+    w .coordinate-words .ensures .1 (c .if3 .left) ∙ ap (λ zs. encodedCoordinates zs ++ replicate (225 - length zs) 0) (cut (w .before .before .before .before .before .before))
 
 is-end-requires : tie.Need-is-end-requires
 is-end-requires c κs = search needs
