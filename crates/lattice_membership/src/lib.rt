@@ -1,0 +1,131 @@
+// Exact membership without a search, on a lattice that is made once for a reduced basis: Cramer's rule on one minor that is not zero,
+// then a comparison in every coordinate.
+
+ghost use mathlib.Core.Path.{_≡_};
+ghost use mathlib.Core.List.{[], map};
+ghost use Prim.Native.Nat.{ℕ, _≤_, _<_};
+ghost use lib.IntN.{pos};
+ghost use lib.ListN.{getD, take};
+ghost use lib.Signed.{_≤ℤ_};
+ghost use Rattle.integers.specs.Filled.{filled};
+ghost use Rattle.lattices.specs.Vector.{N};
+ghost use Rattle.lattices.specs.Volume.{volume};
+ghost use Rattle.lattices.specs.Refusal.{mostVectors, mostCoordinates};
+ghost use Rattle.exterior_algebra.specs.Minors.{marks};
+ghost use Rattle.lattice_membership.specs.Choice.{choice, places, firsts, firstPlace, coordinates};
+ghost use Rattle.lattice_membership.specs.Known.{ReducedBasis, FirstMinor};
+
+// How many coordinates a vector has.
+pub const WIDTH: usize = 4;
+
+pub type Vector = [i64; WIDTH];
+
+// No coefficient of a vector within the length limit is larger, on a reduced basis.
+const MOST_TIMES: i64 = 1080000;
+
+// Among the entries of a volume over four coordinates: the place of the choice that takes the first d of them.
+const FIRST: [usize; 5] = [0, 8, 12, 14, 15];
+
+// A choice among the coordinates: how many are taken, and which, in increasing order.
+pub struct Choice {
+    pub count: usize,
+    pub at: [usize; WIDTH],
+}
+
+// The choice that takes a coordinate where the number has a bit, the lowest bit for the first coordinate.
+fn choice_of(number: usize) -> Choice
+    ensures { λ r. ⌜ (r .count ≡ marks (choice mostCoordinates number)) × (r .at ≡ filled 0 mostCoordinates (places 0 (choice mostCoordinates number))) ⌝ }
+{
+    let mut at = [0; WIDTH];
+    let mut count = 0;
+    let mut rest = number;
+    for k in 0..WIDTH {
+        if rest % 2 == 1 {
+            at[count] = k;
+            count += 1;
+        }
+        rest = rest / 2;
+    }
+    Choice { count, at }
+}
+
+// The first d coordinates of a choice.
+fn pick(v: Vector, at: [usize; WIDTH], d: usize) -> [i64; 4]
+    requires { ⌜ d ≤ mostVectors ⌝ }
+    requires { ⌜ ((i : ℕ) → i < d → getD at i 0 < mostCoordinates) ⌝ }
+    ensures { λ r. ⌜ r ≡ coordinates at d v ⌝ }
+{
+    let mut p = [0; 4];
+    for c in 0..d {
+        p[c] = v[at[c]];
+    }
+    p
+}
+
+fn picked(b: [Vector; 4], at: [usize; WIDTH], d: usize) -> [[i64; 4]; 4]
+    requires { ⌜ d ≤ mostVectors ⌝ }
+    requires { ⌜ ((i : ℕ) → i < d → getD at i 0 < mostCoordinates) ⌝ }
+    ensures { λ r. ⌜ r ≡ map (coordinates at d) b ⌝ }
+{
+    [
+        pick(b[0], at, d),
+        pick(b[1], at, d),
+        pick(b[2], at, d),
+        pick(b[3], at, d),
+    ]
+}
+
+fn first_place(d: usize) -> usize
+    requires { ⌜ d ≤ mostVectors ⌝ }
+    ensures { λ r. ⌜ (r ≡ firstPlace d) × (r < 16) ⌝ }
+{
+    FIRST[d]
+}
+
+// The determinant of the first d coordinates of the first d vectors.
+fn determinant(t: [[i64; 4]; 4], d: usize) -> i64
+    requires { ⌜ d ≤ mostVectors ⌝ }
+    requires { ⌜ ((i : ℕ) → i < d → N (getD t i []) ≤ℤ pos 400000000) ⌝ }
+    ensures { λ r. ⌜ r ≡ volume (take d t) (firsts 4 d) ⌝ }
+{
+    let w = input_checks::volume(t, d);
+    let place = first_place(d);
+    w[place]
+}
+
+// A choice of coordinates and the minor there.
+pub struct Minor {
+    pub at: [usize; WIDTH],
+    pub minor: i64,
+}
+
+// The minor of d vectors at the choice with that number: 0 where the choice takes more or fewer coordinates than there are vectors.
+fn minor_at(b: [Vector; 4], d: usize, number: usize) -> Minor
+    requires { ⌜ ReducedBasis d b ⌝ }
+    ensures { λ r. ⌜ (r .minor ≡ volume (take d b) (choice mostCoordinates number)) × (r .at ≡ filled 0 mostCoordinates (places 0 (choice mostCoordinates number))) ⌝ }
+{
+    let c = choice_of(number);
+    let at = c.at;
+    if c.count != d {
+        return Minor { at, minor: 0 };
+    }
+    Minor {
+        at,
+        minor: determinant(picked(b, at, d), d),
+    }
+}
+
+// The first minor that is not zero.
+fn first_minor(b: [Vector; 4], d: usize) -> Minor
+    requires { ⌜ ReducedBasis d b ⌝ }
+    ensures { λ r. ⌜ FirstMinor (take d b) r ⌝ }
+{
+    let mut number = 0;
+    loop {
+        let m = minor_at(b, d, number);
+        if m.minor != 0 {
+            break m;
+        }
+        number += 1;
+    }
+}
