@@ -1,3 +1,4 @@
 -- What the proofs of the functions use.
 pub mod Choices
 pub mod Minor
+pub mod Cofactors

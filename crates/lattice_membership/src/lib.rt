@@ -8,11 +8,12 @@ ghost use lib.IntN.{pos};
 ghost use lib.ListN.{getD, take};
 ghost use lib.Signed.{_≤ℤ_};
 ghost use Rattle.integers.specs.Filled.{filled};
-ghost use Rattle.lattices.specs.Vector.{N};
+ghost use Rattle.integers.specs.Size.{Within};
+ghost use Rattle.lattices.specs.Vector.{N, nth};
 ghost use Rattle.lattices.specs.Volume.{volume};
 ghost use Rattle.lattices.specs.Refusal.{mostVectors, mostCoordinates};
 ghost use Rattle.exterior_algebra.specs.Minors.{marks};
-ghost use Rattle.lattice_membership.specs.Choice.{choice, places, firsts, firstPlace, coordinates};
+ghost use Rattle.lattice_membership.specs.Choice.{choice, places, firsts, firstPlace, coordinates, without, others, missingPlace, cofactor, cofactors, cofactorRows};
 ghost use Rattle.lattice_membership.specs.Known.{ReducedBasis, FirstMinor};
 
 // How many coordinates a vector has.
@@ -25,6 +26,15 @@ const MOST_TIMES: i64 = 1080000;
 
 // Among the entries of a volume over four coordinates: the place of the choice that takes the first d of them.
 const FIRST: [usize; 5] = [0, 8, 12, 14, 15];
+
+// The same for the first d of them but one.
+const MISSING: [[usize; 4]; 5] = [
+    [0, 0, 0, 0],
+    [0, 0, 0, 0],
+    [4, 8, 0, 0],
+    [6, 10, 12, 0],
+    [7, 11, 13, 14],
+];
 
 // A choice among the coordinates: how many are taken, and which, in increasing order.
 pub struct Choice {
@@ -128,4 +138,75 @@ fn first_minor(b: [Vector; 4], d: usize) -> Minor
         }
         number += 1;
     }
+}
+
+// Row i of those that are left without row j.
+fn other(t: [[i64; 4]; 4], j: usize, i: usize) -> [i64; 4]
+    requires { ⌜ i < 3 ⌝ }
+    ensures { λ r. ⌜ r ≡ getD (without j t) i [] ⌝ }
+{
+    if i < j {
+        return t[i];
+    }
+    t[i + 1]
+}
+
+fn others(t: [[i64; 4]; 4], j: usize) -> [[i64; 4]; 4]
+    ensures { λ r. ⌜ r ≡ others t j ⌝ }
+{
+    [other(t, j, 0), other(t, j, 1), other(t, j, 2), t[3]]
+}
+
+fn missing_place(d: usize, c: usize) -> usize
+    requires { ⌜ d ≤ mostVectors ⌝ }
+    requires { ⌜ c < mostVectors ⌝ }
+    ensures { λ r. ⌜ (r ≡ missingPlace d c) × (r < 16) ⌝ }
+{
+    let places = MISSING[d];
+    places[c]
+}
+
+// What coordinate c counts in the minor with another vector in the place of vector j: w is the volume of the others.
+fn cofactor(w: [i64; 16], d: usize, j: usize, c: usize) -> i64
+    requires { ⌜ d ≤ mostVectors ⌝ }
+    requires { ⌜ j < mostVectors ⌝ }
+    requires { ⌜ c < mostVectors ⌝ }
+    requires { ⌜ ((i : ℕ) → Within 8000000000000 (nth w i)) ⌝ }
+    ensures { λ r. ⌜ r ≡ cofactor w d j c ⌝ }
+{
+    let place = missing_place(d, c);
+    if (j + c) % 2 == 1 {
+        return -w[place];
+    }
+    w[place]
+}
+
+// The same for all coordinates.
+fn cofactors(t: [[i64; 4]; 4], d: usize, j: usize) -> [i64; 4]
+    requires { ⌜ d ≤ mostVectors ⌝ }
+    requires { ⌜ j < d ⌝ }
+    requires { ⌜ ((i : ℕ) → i < d → N (getD t i []) ≤ℤ pos 400000000) ⌝ }
+    ensures { λ r. ⌜ r ≡ cofactors t d j ⌝ }
+{
+    let w = input_checks::volume(others(t, j), d - 1);
+    [
+        cofactor(w, d, j, 0),
+        cofactor(w, d, j, 1),
+        cofactor(w, d, j, 2),
+        cofactor(w, d, j, 3),
+    ]
+}
+
+// The same for each vector.
+fn cofactor_rows(t: [[i64; 4]; 4], d: usize) -> [row_operations::TableRow; 4]
+    requires { ⌜ d ≤ mostVectors ⌝ }
+    requires { ⌜ ((i : ℕ) → i < d → N (getD t i []) ≤ℤ pos 400000000) ⌝ }
+    ensures { λ r. ⌜ r ≡ cofactorRows t d ⌝ }
+{
+    let mut rows = [row_operations::TableRow { at: [0; 4] }; 4];
+    for j in 0..d {
+        let row = cofactors(t, d, j);
+        rows[j] = row_operations::TableRow { at: row };
+    }
+    rows
 }

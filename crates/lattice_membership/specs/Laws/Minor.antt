@@ -24,7 +24,7 @@ use Rattle.exterior_algebra.specs.Hadamard.{rest-≤}
 use Rattle.exterior_algebra.specs.Minors.{marks, pick, full, minor-picked}
 use Rattle.input_checks.specs.Volumes.{minors}
 use Rattle.successive_minima.specs.Laws.ReducedLaws.{reduced-independent}
-use Rattle.lattice_membership.specs.Choice.{choice, places, firsts, firstPlace, coordinates}
+use Rattle.lattice_membership.specs.Choice.{choice, places, firsts, firstPlace, missingPlace, coordinates}
 use Rattle.lattice_membership.specs.Known.{ReducedBasis}
 use Rattle.lattice_membership.specs.Laws.Choices.{number, number-<, choice-number, marks-≤, coordinates-picked, places-within}
 
@@ -70,6 +70,21 @@ first-place-< (suc (suc zero)) = omega arith
 first-place-< (suc (suc (suc zero))) = omega arith
 first-place-< (suc (suc (suc (suc zero)))) = omega arith
 first-place-< (suc (suc (suc (suc (suc d))))) = omega arith
+
+row-< : (a b c e : ℕ) → a < 16 → b < 16 → c < 16 → e < 16 → (i : ℕ) → getD (a ∷ b ∷ c ∷ e ∷ []) i 0 < 16
+row-< a b c e p q r s zero = p
+row-< a b c e p q r s (suc zero) = q
+row-< a b c e p q r s (suc (suc zero)) = r
+row-< a b c e p q r s (suc (suc (suc zero))) = s
+row-< a b c e p q r s (suc (suc (suc (suc i)))) = omega arith
+
+pub missing-place-< : (d c : ℕ) → missingPlace d c < 16
+missing-place-< zero c = row-< 0 0 0 0 (omega arith) (omega arith) (omega arith) (omega arith) c
+missing-place-< (suc zero) c = row-< 0 0 0 0 (omega arith) (omega arith) (omega arith) (omega arith) c
+missing-place-< (suc (suc zero)) c = row-< 4 8 0 0 (omega arith) (omega arith) (omega arith) (omega arith) c
+missing-place-< (suc (suc (suc zero))) c = row-< 6 10 12 0 (omega arith) (omega arith) (omega arith) (omega arith) c
+missing-place-< (suc (suc (suc (suc zero)))) c = row-< 7 11 13 14 (omega arith) (omega arith) (omega arith) (omega arith) c
+missing-place-< (suc (suc (suc (suc (suc d))))) c = omega arith
 
 -- its place among the sixteen entries
 pub first-place : (cs : List Vec) (d : ℕ) → d ≤ 4 → nth (minors cs) (firstPlace d) ≡ volume cs (firsts 4 d)
