@@ -1,4 +1,5 @@
 -- What the proofs of the functions use.
 pub mod Choices
 pub mod Minor
+pub mod Made
 pub mod Cofactors

@@ -13,8 +13,9 @@ ghost use Rattle.lattices.specs.Vector.{N, nth};
 ghost use Rattle.lattices.specs.Volume.{volume};
 ghost use Rattle.lattices.specs.Refusal.{mostVectors, mostCoordinates};
 ghost use Rattle.exterior_algebra.specs.Minors.{marks};
+ghost use Rattle.row_operations.specs.RowStructs.{vectorRow};
 ghost use Rattle.lattice_membership.specs.Choice.{choice, places, firsts, firstPlace, coordinates, without, others, missingPlace, cofactor, cofactors, cofactorRows};
-ghost use Rattle.lattice_membership.specs.Known.{ReducedBasis, FirstMinor};
+ghost use Rattle.lattice_membership.specs.Known.{ReducedBasis, FirstMinor, Known};
 
 // How many coordinates a vector has.
 pub const WIDTH: usize = 4;
@@ -209,4 +210,42 @@ fn cofactor_rows(t: [[i64; 4]; 4], d: usize) -> [row_operations::TableRow; 4]
         rows[j] = row_operations::TableRow { at: row };
     }
     rows
+}
+
+// What membership in the lattice of d reduced vectors needs: the choice of d coordinates, the minor there, which is not zero, and for
+// each vector the numbers that the chosen coordinates of another one count in the minor with it in that vector's place.
+pub struct Lattice {
+    pub d: usize,
+    pub vectors: [row_operations::VectorRow; 4],
+    pub choice: [usize; WIDTH],
+    pub minor: i64,
+    pub cofactors: [row_operations::TableRow; 4],
+}
+
+fn vector_rows(b: [Vector; 4]) -> [row_operations::VectorRow; 4]
+    ensures { λ r. ⌜ r ≡ map vectorRow b ⌝ }
+{
+    [
+        row_operations::VectorRow { at: b[0] },
+        row_operations::VectorRow { at: b[1] },
+        row_operations::VectorRow { at: b[2] },
+        row_operations::VectorRow { at: b[3] },
+    ]
+}
+
+// The lattice of the first d vectors, which are reduced.
+pub fn lattice_of(b: [Vector; 4], d: usize) -> Lattice
+    requires { ⌜ ReducedBasis d b ⌝ }
+    ensures { λ r. ⌜ (r .d ≡ d) × (r .vectors ≡ map vectorRow b) ⌝ }
+    ensures { λ r. ⌜ Known r ⌝ }
+{
+    let m = first_minor(b, d);
+    let at = m.at;
+    Lattice {
+        d,
+        vectors: vector_rows(b),
+        choice: at,
+        minor: m.minor,
+        cofactors: cofactor_rows(picked(b, at, d), d),
+    }
 }
