@@ -69,6 +69,10 @@ pub record Known (l : Lattice) : Type 0 where
   pub nonzero : l .minor ≢ pos 0
   pub rows : (j : ℕ) → j < l .d → Cofactors (vectorsIn l) index j (rowIn l j)
 
+-- the quotients of the numerators by the minor, p being the chosen coordinates of a vector
+abbrev pub quotientsOf : Lattice → List ℤ → List ℤ
+quotientsOf l p = map (λ row. quotZ (dot (row .at) p) (l .minor)) (l .cofactors)
+
 -- ---- the test of a coefficient
 
 -- the largest size that a coefficient of a vector within the length limit has, on a reduced basis

@@ -2,4 +2,5 @@
 pub mod Choices
 pub mod Minor
 pub mod Made
+pub mod Members
 pub mod Cofactors

@@ -2,20 +2,25 @@
 // then a comparison in every coordinate.
 
 ghost use mathlib.Core.Path.{_≡_};
+ghost use mathlib.Core.Logic.{_≢_};
+ghost use mathlib.Core.Bool.{not};
 ghost use mathlib.Core.List.{[], map};
 ghost use Prim.Native.Nat.{ℕ, _≤_, _<_};
 ghost use lib.IntN.{pos};
 ghost use lib.ListN.{getD, take};
 ghost use lib.Signed.{_≤ℤ_};
+ghost use Rattle.integers.specs.Every.{any};
 ghost use Rattle.integers.specs.Filled.{filled};
 ghost use Rattle.integers.specs.Size.{Within};
-ghost use Rattle.lattices.specs.Vector.{N, nth};
+ghost use Rattle.lattices.specs.Vector.{N, nth, dot};
 ghost use Rattle.lattices.specs.Volume.{volume};
 ghost use Rattle.lattices.specs.Refusal.{mostVectors, mostCoordinates};
 ghost use Rattle.exterior_algebra.specs.Minors.{marks};
+ghost use Rattle.input_checks.specs.Volumes.{nonzero};
+ghost use Rattle.successive_minima.specs.Member.{isMember};
 ghost use Rattle.row_operations.specs.RowStructs.{vectorRow};
 ghost use Rattle.lattice_membership.specs.Choice.{choice, places, firsts, firstPlace, coordinates, without, others, missingPlace, cofactor, cofactors, cofactorRows};
-ghost use Rattle.lattice_membership.specs.Known.{ReducedBasis, FirstMinor, Known};
+ghost use Rattle.lattice_membership.specs.Known.{ReducedBasis, FirstMinor, Known, vectorsIn, isWhole};
 
 // How many coordinates a vector has.
 pub const WIDTH: usize = 4;
@@ -248,4 +253,65 @@ pub fn lattice_of(b: [Vector; 4], d: usize) -> Lattice
         minor: m.minor,
         cofactors: cofactor_rows(picked(b, at, d), d),
     }
+}
+
+// The minor with a vector in the place of another: p are its chosen coordinates.
+fn numerator(row: [i64; 4], p: [i64; 4]) -> i64
+    requires { ⌜ ((c : ℕ) → Within 8000000000000 (nth row c)) ⌝ }
+    requires { ⌜ ((c : ℕ) → Within 20000 (nth p c)) ⌝ }
+    ensures { λ r. ⌜ (r ≡ dot row p) × Within 640000000000000000 r ⌝ }
+{
+    let mut sum = 0;
+    for c in 0..4 {
+        sum += row[c] * p[c];
+    }
+    sum
+}
+
+// Whether n is a whole multiple of m, and not by more than a coefficient can be.
+fn whole(n: i64, m: i64) -> bool
+    requires { ⌜ Within 640000000000000000 n ⌝ }
+    requires { ⌜ m ≢ pos 0 ⌝ }
+    ensures { λ r. ⌜ r ≡ isWhole n m ⌝ }
+{
+    if n % m != 0 {
+        return false;
+    }
+    let q = n / m;
+    -MOST_TIMES <= q && q <= MOST_TIMES
+}
+
+fn is_zero(v: Vector) -> bool
+    ensures { λ r. ⌜ r ≡ not (any nonzero v) ⌝ }
+{
+    for i in 0..WIDTH {
+        if v[i] != 0 {
+            return false;
+        }
+    }
+    true
+}
+
+// Whether v is in the lattice: left at the first coefficient that is not whole or too large, then compared in every coordinate.
+pub fn member(l: Lattice, v: Vector) -> bool
+    requires { ⌜ Known l ⌝ }
+    requires { ⌜ N v ≤ℤ pos 400000000 ⌝ }
+    ensures { λ r. ⌜ r ≡ isMember (vectorsIn l) v ⌝ }
+{
+    let at = l.choice;
+    let p = pick(v, at, l.d);
+    let mut rest = v;
+    for j in 0..l.d {
+        let cofactors = l.cofactors[j];
+        let row = cofactors.at;
+        let n = numerator(row, p);
+        if !whole(n, l.minor) {
+            return false;
+        }
+        let vector = l.vectors[j];
+        let b = vector.at;
+        let next = row_operations::minus_multiple(rest, n / l.minor, b);
+        rest = next;
+    }
+    is_zero(rest)
 }
