@@ -9,7 +9,7 @@ ghost use Prim.Native.Nat.{ℕ, _≤_, _<_};
 ghost use lib.IntN.{pos};
 ghost use lib.ListN.{getD, take};
 ghost use lib.Signed.{_≤ℤ_};
-ghost use Rattle.integers.specs.Every.{any};
+ghost use Rattle.integers.specs.Every.{any, every};
 ghost use Rattle.integers.specs.Filled.{filled};
 ghost use Rattle.integers.specs.Size.{Within};
 ghost use Rattle.lattices.specs.Vector.{N, nth, dot};
@@ -241,8 +241,8 @@ fn vector_rows(b: [Vector; 4]) -> [row_operations::VectorRow; 4]
 // The lattice of the first d vectors, which are reduced.
 pub fn lattice_of(b: [Vector; 4], d: usize) -> Lattice
     requires { ⌜ ReducedBasis d b ⌝ }
-    ensures { λ r. ⌜ (r .d ≡ d) × (r .vectors ≡ map vectorRow b) ⌝ }
     ensures { λ r. ⌜ Known r ⌝ }
+    ensures { λ r. ⌜ (r .d ≡ d) × (vectorsIn r ≡ take d b) ⌝ }
 {
     let m = first_minor(b, d);
     let at = m.at;
@@ -314,4 +314,21 @@ pub fn member(l: Lattice, v: Vector) -> bool
         rest = next;
     }
     is_zero(rest)
+}
+
+// Whether the first `count` vectors are all in the lattice. The last is tried first: vectors in order of length that differ mostly differ there.
+pub fn holds_all(l: Lattice, vectors: [Vector; 4], count: usize) -> bool
+    requires { ⌜ Known l ⌝ }
+    requires { ⌜ count ≤ mostVectors ⌝ }
+    requires { ⌜ ((i : ℕ) → i < count → N (getD vectors i []) ≤ℤ pos 400000000) ⌝ }
+    ensures { λ r. ⌜ r ≡ every (isMember (vectorsIn l)) (take count vectors) ⌝ }
+{
+    let mut i = count;
+    while 0 < i {
+        i -= 1;
+        if !member(l, vectors[i]) {
+            return false;
+        }
+    }
+    true
 }

@@ -8,6 +8,7 @@ use lib.ListN.{set}
 use Rattle.integers.specs.Filled.{filled}
 use Rattle.exterior_algebra.specs.Minors.{marks}
 use Rattle.input_checks.specs.Minors.{halves}
+use Rattle.lattices.specs.Refusal.{mostCoordinates}
 use Rattle.lattice_membership.specs.Choice.{choice, places}
 use Rattle.lattice_membership.specs.Laws.Choices.{length-choice, marks-≤, marks-taken, places-taken, marks-left, places-left}
 use borrow.Author.Needs.{needs}
@@ -15,10 +16,10 @@ use Rattle.lattice_membership.proofs.choice_of.Statement.{statement}
 use Rattle.lattice_membership.proofs.choice_of.Tie as tie
 
 abbrev Inv-loop : tie.InvT-loop
-Inv-loop number at₀ count₀ rest₀ k₀ at count rest k = (k ≤ 4) × ((at ≡ filled 0 4 (places 0 (choice k number))) × ((count ≡ marks (choice k number)) × (rest ≡ halves k number)))
+Inv-loop number at₀ count₀ rest₀ k₀ at count rest k = (k ≤ mostCoordinates) × ((at ≡ filled 0 mostCoordinates (places 0 (choice k number))) × ((count ≡ marks (choice k number)) × (rest ≡ halves k number)))
 
 abbrev μ-loop : tie.MeasureT-loop
-μ-loop number at₀ count₀ rest₀ k₀ at count rest k = 4 - k
+μ-loop number at₀ count₀ rest₀ k₀ at count rest k = mostCoordinates - k
 
 small : (c : tie.In-loop Inv-loop μ-loop) → c .before .loop .count ≤ c .before .loop .k
 small c = let l = c .before .loop in let n = c .before .before .args .number in omega (arith, l .inv .1 .1 .0, marks-≤ (choice (l .k) n), length-choice (l .k) n)
@@ -49,8 +50,8 @@ loop-again c =
       search needs,
       (
         ⊎-elim
-            (λ t. t .1 ∙ ap₂ (λ a i. set a i (l .k)) (l .inv .1 .0) (l .inv .1 .1 .0) ∙ places-taken (l .k) n (sym same ∙ t .0 .taken) 4 (search needs))
-            (λ t. t .1 ∙ l .inv .1 .0 ∙ ap (filled 0 4) (places-left (l .k) n (λ e. t .0 .left (same ∙ e))))
+            (λ t. t .1 ∙ ap₂ (λ a i. set a i (l .k)) (l .inv .1 .0) (l .inv .1 .1 .0) ∙ places-taken (l .k) n (sym same ∙ t .0 .taken) mostCoordinates (search needs))
+            (λ t. t .1 ∙ l .inv .1 .0 ∙ ap (filled 0 mostCoordinates) (places-left (l .k) n (λ e. t .0 .left (same ∙ e))))
             (c .if1 .came),
         (
           ⊎-elim
@@ -66,8 +67,8 @@ returns : tie.Need-returns Inv-loop μ-loop
 returns c =
     let n = c .before .before .args .number in
     let l = c .before .loop in
-    let end : l .k ≡ 4 = omega arith in
-    (l .inv .1 .1 .0 ∙ ap (λ k. marks (choice k n)) end, l .inv .1 .0 ∙ ap (λ k. filled 0 4 (places 0 (choice k n))) end)
+    let end : l .k ≡ mostCoordinates = omega arith in
+    (l .inv .1 .1 .0 ∙ ap (λ k. marks (choice k n)) end, l .inv .1 .0 ∙ ap (λ k. filled 0 mostCoordinates (places 0 (choice k n))) end)
 
 pub choice-of-spec : {M : Type 1} → statement M
 choice-of-spec =

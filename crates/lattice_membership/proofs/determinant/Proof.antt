@@ -1,5 +1,5 @@
 -- The entry at that place.
-use mathlib.Core.Path.{_≡_, sym, ap, ap₂, _∙_}
+use mathlib.Core.Path.{ap₂, _∙_}
 use lib.ListN.{take}
 use Rattle.lattices.specs.Vector.{nth}
 use mir.Facts.{toZ-ofZ}

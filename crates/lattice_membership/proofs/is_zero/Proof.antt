@@ -12,6 +12,7 @@ use Rattle.integers.specs.Every.{any}
 use Rattle.input_checks.specs.Volumes.{nonzero, is-nonzero}
 use Rattle.input_checks.specs.Any.{any-here, any-later, any-end}
 use borrow.Author.Needs.{needs}
+use Rattle.lattices.specs.Refusal.{mostCoordinates}
 use Rattle.lattice_membership.proofs.is_zero.Statement.{statement}
 use Rattle.lattice_membership.proofs.is_zero.Tie as tie
 
@@ -19,7 +20,7 @@ abbrev Inv-loop : tie.InvT-loop
 Inv-loop v i₀ i = any nonzero v ≡ any nonzero (drop i v)
 
 abbrev μ-loop : tie.MeasureT-loop
-μ-loop v i₀ i = 4 - i
+μ-loop v i₀ i = mostCoordinates - i
 
 loop-holds : tie.Need-loop-holds Inv-loop μ-loop
 loop-holds c = search needs

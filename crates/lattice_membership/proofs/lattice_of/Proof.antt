@@ -2,13 +2,13 @@
 use mathlib.Core.Path.{_≡_, refl, sym, ap, _∙_, subst}
 use mathlib.Core.List.{[], map}
 use lib.IntN.{pos}
-use lib.ListN.{length, getD}
+use lib.ListN.{length, getD, take}
 use lib.Signed.{_≤ℤ_}
 use mir.Facts.{toZ-ofZ}
 use mir.Syntax.{w64}
 use Rattle.lattices.specs.Vector.{N}
 use Rattle.lattice_membership.specs.Choice.{cofactorRows}
-use Rattle.lattice_membership.specs.Laws.Made.{first-within, first-short, made}
+use Rattle.lattice_membership.specs.Laws.Made.{rows-back, first-within, first-short, made}
 use borrow.Author.Needs.{needs}
 use Rattle.lattice_membership.proofs.lattice_of.Statement.{statement}
 use Rattle.lattice_membership.proofs.lattice_of.Tie as tie
@@ -44,10 +44,10 @@ returns c =
     let f = v .before .before in
     let s = f .before in
     let m = f .first-minor in (
-      (refl, v .vector-rows .ensures),
       made (s .args .d) (s .args .b) (s .pre) (four-rows s) (m .result) (m .ensures) _ refl (v .vector-rows .ensures) refl
           (toZ-ofZ {w = w64} {z = m .result .minor} (record { sfits = m .ok .1 .1 .1 .0 .1 }))
           (k .cofactor-rows .ensures ∙ ap (λ t. cofactorRows t (s .args .d)) (k .before .picked .ensures)),
+      (refl, ap (λ rows. take (s .args .d) (map (λ row. row .at) rows)) (v .vector-rows .ensures) ∙ ap (take (s .args .d)) (rows-back (s .args .b))),
     )
 
 pub lattice-of-spec : {M : Type 1} → statement M

@@ -1,16 +1,15 @@
 -- After j turns the multiples of the first j vectors are taken away: a turn that ends it says no, and what is left at the end decides.
-use mathlib.Core.Path.{_≡_, refl, sym, ap, ap₂, _∙_, subst}
-use mathlib.Core.Bool.{Bool, true, false, not, false≢true}
-use mathlib.Core.List.{List, [], map}
+use mathlib.Core.Path.{_≡_, sym, ap, ap₂, _∙_, subst}
+use mathlib.Core.Bool.{true}
+use mathlib.Core.List.{[], map}
 use Prim.Native.Nat.{ℕ, _≤_, _<_, _-_, _+_, _*_}
 use native.Mathlib.Omega.{arith}
-use lib.IntN.{ℤ, pos, natAbs, _*ℤ_}
+use lib.IntN.{natAbs, _*ℤ_}
 use lib.ListN.{take}
 use lib.Signed.{quotZ}
 use mir.Facts.{toZ-ofZ}
 use mir.Syntax.{w64}
 use mir.Val.{ofZ, toZ, SFits}
-use Rattle.integers.specs.Every.{any}
 use Rattle.integers.specs.Size.{Within, fits-within}
 use Rattle.integers.specs.Tests.{not-false}
 use Rattle.lattices.specs.Vector.{Vec, dot, nth, comb, _⊙_, _⊖_}
@@ -18,8 +17,8 @@ use Rattle.lattices.specs.Laws.Vector.{_≈_, ≈-trans, ≈-of-≡}
 use Rattle.input_checks.specs.Volumes.{nonzero, short-within}
 use Rattle.row_operations.specs.Minus.{room}
 use Rattle.lattice_membership.specs.declared.Lattice.{Lattice}
-use Rattle.lattice_membership.specs.Known.{Known, vectorsIn, rowIn, quotientsOf, isWhole}
-use Rattle.lattice_membership.specs.Laws.Members.{quot-within, divisor-pos, left-none, p, top, vectorAt, places-known, coordinates-are, coordinates-small, not-member, left-decides, minor-within, turn-room, turn-small, turn-left}
+use Rattle.lattice_membership.specs.Known.{rowIn, quotientsOf, isWhole}
+use Rattle.lattice_membership.specs.Laws.Members.{not-true, quot-within, divisor-pos, left-none, p, top, vectorAt, places-known, coordinates-are, coordinates-small, not-member, left-decides, minor-within, turn-room, turn-small, turn-left}
 use borrow.Author.Needs.{needs}
 use Rattle.lattice_membership.proofs.member.Statement.{statement}
 use Rattle.lattice_membership.proofs.member.Tie as tie
@@ -29,10 +28,6 @@ Inv-loop l p rest₀ j₀ j-end rest j = (j ≤ j-end) × ((rest ≈ rest₀ ⊖
 
 abbrev μ-loop : tie.MeasureT-loop
 μ-loop l p rest₀ j₀ j-end rest j = j-end - j
-
-not-true : (b : Bool) → not b ≡ true → b ≡ false
-not-true true e = absurd (false≢true e)
-not-true false e = refl
 
 picks : (f : tie.After-pick Inv-loop μ-loop) → let s = f .before .before in f .pick .result ≡ p (s .args .t1) (s .pre .0) (s .args .v) (s .pre .1)
 picks f = let s = f .before .before in f .pick .ensures ∙ coordinates-are (s .args .t1) (s .pre .0) (s .args .v) (s .pre .1)

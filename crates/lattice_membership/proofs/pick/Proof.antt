@@ -1,5 +1,5 @@
 -- After c turns the first c coordinates are picked.
-use mathlib.Core.Path.{_≡_, refl, sym, ap, ap₂, _∙_}
+use mathlib.Core.Path.{_≡_, refl, ap, ap₂, _∙_}
 use Prim.Native.Nat.{_≤_, _-_}
 use mathlib.Core.List.{map}
 use lib.ListN.{take, set}

@@ -1,6 +1,6 @@
 -- Row by row.
 use mathlib.Core.List.{[], _∷_}
-use mathlib.Core.Path.{_≡_, refl, ap₂, _∙_}
+use mathlib.Core.Path.{refl, ap₂, _∙_}
 use Rattle.row_operations.specs.Rows.{map-four}
 use Rattle.lattice_membership.specs.Choice.{coordinates}
 use borrow.Author.Needs.{needs}

@@ -4,7 +4,6 @@ use mathlib.Core.Bool.{Bool, true, false, cond}
 use mathlib.Core.List.{List, [], _∷_, map}
 use Prim.Native.Nat.{ℕ, zero, suc, _+_, _-_, _%_, _≤_, _<_}
 use native.Mathlib.Omega.{arith}
-use native.Mathlib.Decide.{decLt}
 use lib.Dec.{eqb}
 use lib.IntN.{ℤ, pos, negsuc, negℤ, _+ℤ_, _-ℤ_, _*ℤ_}
 use lib.ListN.{length, getD, set, take, length-take, length-map}
@@ -16,7 +15,7 @@ use Rattle.integers.specs.Size.{Within, within-neg}
 use Rattle.integers.specs.AllLaws.{take-map}
 use Rattle.integers.specs.Filled.{filled}
 use Rattle.lattices.specs.Vector.{Vec, N, nth, dot}
-use Rattle.lattices.specs.Volume.{Index, Form, wedge, volume}
+use Rattle.lattices.specs.Volume.{Index, wedge, volume}
 use Rattle.lattices.specs.Answer.{padded}
 use Rattle.lattices.specs.Refusal.{mostCoordinates}
 use Rattle.exterior_algebra.specs.Forms.{Multiple, multiple-of, wedge-multiple}

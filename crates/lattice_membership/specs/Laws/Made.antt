@@ -5,8 +5,8 @@ use mathlib.Core.List.{List, [], _∷_, map}
 use Prim.Native.Nat.{ℕ, zero, suc, _≤_, _<_}
 use native.Mathlib.Decide.{ℕ-discrete}
 use native.Mathlib.Omega.{arith}
-use lib.IntN.{ℤ, pos}
-use lib.ListN.{length, getD, take, drop, length-take, length-map}
+use lib.IntN.{pos}
+use lib.ListN.{length, getD, take, length-take, length-map}
 use lib.Seq.{getD-take}
 use lib.Signed.{_≤ℤ_}
 use Rattle.integers.specs.AllLaws.{getD-map}
@@ -39,7 +39,7 @@ count-of bs s h = pick-one (ℕ-discrete (marks s) (length bs))
     pick-one (yes e) = e
     pick-one (no f) = absurd (h (volume-off bs s f))
 
-rows-back : (l : List Vec) → map (λ row. row .at) (map vectorRow l) ≡ l
+pub rows-back : (l : List Vec) → map (λ row. row .at) (map vectorRow l) ≡ l
 rows-back [] = refl
 rows-back (v ∷ l) = ap (λ k. v ∷ k) (rows-back l)
 

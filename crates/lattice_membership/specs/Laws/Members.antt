@@ -3,30 +3,30 @@ use mathlib.Core.Path.{_≡_, refl, sym, ap, ap₂, _∙_, subst}
 use mathlib.Core.Logic.{_≢_}
 use mathlib.Core.Bool.{Bool, true, false, not, _&&_, _||_, true≢false, false≢true}
 use mathlib.Core.List.{List, [], _∷_, _++_, map}
-use Prim.Native.Nat.{ℕ, zero, suc, _+_, _*_, _/_, _%_, _≤_, _<_}
+use Prim.Native.Nat.{ℕ, zero, suc, _+_, _*_, _-_, _/_, _%_, _≤_, _<_}
 use native.Mathlib.Nat.{mul-mod-left, mod-le, div-le-self}
 use native.Mathlib.Numerals.{add-one}
 use native.Mathlib.Decide.{decLt}
 use native.Mathlib.Omega.{arith}
 use lib.Dec.{leb, leb→le}
-use lib.IntN.{ℤ, pos, negsuc, negℤ, natAbs, _+ℤ_, _-ℤ_, _*ℤ_}
+use lib.IntN.{ℤ, pos, negsuc, natAbs, _+ℤ_, _*ℤ_}
 use lib.ListN.{length, getD, take, length-take, length-map, List·getD-eq-default}
 use lib.Seq.{take-suc, getD-take}
 use lib.Signed.{quotZ, remZ, leZ, _≤ℤ_, leZ-yes}
 use borrow.Author.Tests.{le-leb, lt-leb, leb-false}
 use Rattle.integers.specs.Identity.{by-ring, by-eq, reads}
 use Rattle.integers.specs.AllLaws.{getD-map}
-use Rattle.integers.specs.Every.{any}
+use Rattle.integers.specs.Every.{any, every}
 use Rattle.integers.specs.ListLaws.{same}
 use Rattle.integers.specs.Order.{≤ℤ-trans}
 use Rattle.integers.specs.Size.{Within, within-le, within-add, within-sub, within-mul, size-neg, size-mul, fits-within, root-within}
-use Rattle.integers.specs.Tests.{both, not-false, true-T}
+use Rattle.integers.specs.Tests.{both, true-T}
 use Rattle.lattices.specs.Vector.{Vec, N, Zero, nth, dot, comb, _⊕_, _⊙_, _⊖_}
-use Rattle.lattices.specs.Laws.Vector.{_≈_, ≈-refl, ≈-sym, ≈-trans, ≈-of-≡, ≈-⊕, ≈-⊙, ≈-N, ≈-nth, ≈-Zero, Zero-≈, nth-≈, bilinear, nil-dot, comb-nil, comb-snoc, ⊖-zero}
-use Rattle.lattices.specs.Volume.{Index, head, rest, volume}
+use Rattle.lattices.specs.Laws.Vector.{_≈_, ≈-sym, ≈-trans, ≈-of-≡, ≈-N, ≈-nth, ≈-Zero, Zero-≈, bilinear, nil-dot, comb-nil, comb-snoc, ⊖-zero}
+use Rattle.lattices.specs.Volume.{Index, head, rest}
 use Rattle.lattices.specs.Answer.{padded}
 use Rattle.lattices.specs.Refusal.{mostCoordinates}
-use Rattle.exterior_algebra.specs.Cramer.{put, cramer}
+use Rattle.exterior_algebra.specs.Cramer.{cramer}
 use Rattle.exterior_algebra.specs.Hadamard.{minor}
 use Rattle.exterior_algebra.specs.Minors.{pick}
 use Rattle.exterior_algebra.specs.Sizes.{product-≤}
@@ -35,7 +35,6 @@ use Rattle.input_checks.specs.Any.{any-none}
 use Rattle.successive_minima.specs.Member.{isMember, Member}
 use Rattle.successive_minima.specs.Laws.Members.{member-is, is-member}
 use Rattle.successive_minima.specs.Laws.Solving.{quot-exact, reduced-within}
-use Rattle.row_operations.specs.declared.TableRow.{TableRow}
 use Rattle.row_operations.specs.RowStructs.{vectorRow, tableRow}
 use Rattle.row_operations.specs.Dot.{DotTurn, dot-within}
 use Rattle.row_operations.specs.Minus.{nth-minus, room}
@@ -129,6 +128,10 @@ same-test : (s t : Bool) → (s ≡ true → t ≡ true) → (t ≡ true → s �
 same-test true t f g = sym (f refl)
 same-test false true f g = g refl
 same-test false false f g = refl
+
+pub not-true : (b : Bool) → not b ≡ true → b ≡ false
+not-true true e = absurd (false≢true e)
+not-true false e = refl
 
 nonzero-false : (x : ℤ) → nonzero x ≡ false → x ≡ pos 0
 nonzero-false (pos zero) e = refl
@@ -256,12 +259,8 @@ module _ (l : Lattice) (k : Known l) (v : Vec) (limit : N v ≤ℤ pos 400000000
       to q = is-member (vectorsIn l) (k .reduced) few v (record {
         coefficients = take (l .d) quotients;
         count = omega (arith, length-take (l .d) quotients, length-map (l .cofactors) (λ row. quotZ (dot (row .at) p) (l .minor)), k .four .1, k .few, long);
-        gives = difference v u (λ i. sym (≈-nth e i) ∙ nonzero-false (nth r i) (any-none nonzero (pos 0) refl r (is-false (any nonzero r) q) i));
+        gives = difference v u (λ i. sym (≈-nth e i) ∙ nonzero-false (nth r i) (any-none nonzero (pos 0) refl r (not-true (any nonzero r) q) i));
       })
-        where
-          is-false : (b : Bool) → not b ≡ true → b ≡ false
-          is-false true q = absurd (false≢true q)
-          is-false false q = refl
 
       from : isMember (vectorsIn l) v ≡ true → not (any nonzero r) ≡ true
       from q =
@@ -303,3 +302,33 @@ module _ (l : Lattice) (k : Known l) (v : Vec) (limit : N v ≤ℤ pos 400000000
         (left-more v quotients (map (λ row. row .at) (l .vectors)) j
         (omega (arith, length-map (l .cofactors) (λ row. quotZ (dot (row .at) p) (l .minor)), k .four .1, k .few))
         (omega (arith, length-map (l .vectors) (λ row. row .at), k .four .0, k .few)) f)
+
+-- ---- a list of vectors, from the last on
+
+and-true : (b : Bool) → (b && true) ≡ b
+and-true true = refl
+and-true false = refl
+
+every-last : {A : Type 0} (f : A → Bool) (l : List A) (x : A) → every f (l ++ (x ∷ [])) ≡ (every f l && f x)
+every-last f [] x = and-true (f x)
+every-last f (y ∷ l) x = ap (λ t. f y && t) (every-last f l x) ∙ and-assoc (f y) (every f l) (f x)
+  where
+    and-assoc : (a b c : Bool) → (a && (b && c)) ≡ ((a && b) && c)
+    and-assoc true b c = refl
+    and-assoc false b c = refl
+
+module _ {A : Type 0} (f : A → Bool) (l : List A) (x : A) (i : ℕ) (h : 0 < i) (k : i ≤ length l) where
+  last : every f (take i l) ≡ (every f (take (i - 1) l) && f (getD l (i - 1) x))
+  last =
+      let n : i ≡ suc (i - 1) = omega arith in
+      ap (λ j. every f (take j l)) n ∙ ap (every f) (take-suc l (i - 1) x (omega arith)) ∙ every-last f (take (i - 1) l) (getD l (i - 1) x)
+
+  pub every-more : f (getD l (i - 1) x) ≡ true → every f (take i l) ≡ every f (take (i - 1) l)
+  every-more e = last ∙ ap (λ t. every f (take (i - 1) l) && t) e ∙ and-true (every f (take (i - 1) l))
+
+  pub every-not : f (getD l (i - 1) x) ≡ false → every f (take i l) ≡ false
+  every-not e = last ∙ ap (λ t. every f (take (i - 1) l) && t) e ∙ and-false (every f (take (i - 1) l))
+    where
+      and-false : (b : Bool) → (b && false) ≡ false
+      and-false true = refl
+      and-false false = refl
