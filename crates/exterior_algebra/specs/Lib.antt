@@ -6,3 +6,4 @@ pub mod Cramer
 pub mod Dependence
 pub mod Sizes
 pub mod Examples
+pub mod Minors

@@ -15,3 +15,4 @@ pub mod NearestRest
 pub mod Minima
 pub mod Invariants
 pub mod Members
+pub mod Solving

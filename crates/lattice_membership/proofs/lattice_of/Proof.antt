@@ -1,0 +1,61 @@
+-- The parts are those that make a lattice known.
+use mathlib.Core.Path.{_≡_, refl, sym, ap, _∙_, subst}
+use mathlib.Core.List.{[], map}
+use lib.IntN.{pos}
+use lib.ListN.{length, getD, take}
+use lib.Signed.{_≤ℤ_}
+use mir.Facts.{toZ-ofZ}
+use mir.Syntax.{w64}
+use Rattle.lattices.specs.Vector.{N}
+use Rattle.lattice_membership.specs.Choice.{cofactorRows}
+use Rattle.lattice_membership.specs.Laws.Made.{rows-back, first-within, first-short, made}
+use borrow.Author.Needs.{needs}
+use Rattle.lattice_membership.proofs.lattice_of.Statement.{statement}
+use Rattle.lattice_membership.proofs.lattice_of.Tie as tie
+
+four-rows : (c : tie.Start) → length (c .args .b) ≡ 4
+four-rows c = search needs
+
+first-minor-requires : tie.Need-first-minor-requires
+first-minor-requires c κs = search needs
+
+vector-rows-requires : tie.Need-vector-rows-requires
+vector-rows-requires c κs = search needs
+
+picked-requires : tie.Need-picked-requires
+picked-requires c κs =
+    let f = c .before .before in
+    let s = f .before in
+    (s .pre .few, first-within (s .args .d) (s .args .b) (s .pre) (four-rows s) (f .first-minor .result) (f .first-minor .ensures))
+
+cofactor-rows-requires : tie.Need-cofactor-rows-requires
+cofactor-rows-requires c κs =
+    let f = c .before .before .before in
+    let s = f .before in (
+      s .pre .few,
+      λ i h. subst (λ t. N (getD t i []) ≤ℤ pos 400000000) (sym (c .picked .ensures))
+          (first-short (s .args .d) (s .args .b) (s .pre) (four-rows s) (f .first-minor .result) (f .first-minor .ensures) i h),
+    )
+
+returns : tie.Need-returns
+returns c =
+    let k = c .before in
+    let v = k .before .before in
+    let f = v .before .before in
+    let s = f .before in
+    let m = f .first-minor in (
+      made (s .args .d) (s .args .b) (s .pre) (four-rows s) (m .result) (m .ensures) _ refl (v .vector-rows .ensures) refl
+          (toZ-ofZ {w = w64} {z = m .result .minor} (record { sfits = m .ok .1 .1 .1 .0 .1 }))
+          (k .cofactor-rows .ensures ∙ ap (λ t. cofactorRows t (s .args .d)) (k .before .picked .ensures)),
+      (refl, ap (λ rows. take (s .args .d) (map (λ row. row .at) rows)) (v .vector-rows .ensures) ∙ ap (take (s .args .d)) (rows-back (s .args .b))),
+    )
+
+pub lattice-of-spec : {M : Type 1} → statement M
+lattice-of-spec =
+    tie.close
+    (tie.spec
+    first-minor-requires
+    vector-rows-requires
+    picked-requires
+    cofactor-rows-requires
+    returns)

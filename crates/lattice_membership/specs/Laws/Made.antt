@@ -1,0 +1,111 @@
+-- A lattice that is made of the first minor and the cofactors is known.
+use mathlib.Core.Path.{_≡_, refl, sym, ap, ap₂, _∙_, subst}
+use mathlib.Core.Logic.{_≢_}
+use mathlib.Core.List.{List, [], _∷_, map}
+use Prim.Native.Nat.{ℕ, zero, suc, _≤_, _<_}
+use native.Mathlib.Decide.{ℕ-discrete}
+use native.Mathlib.Omega.{arith}
+use lib.IntN.{pos}
+use lib.ListN.{length, getD, take, length-take, length-map}
+use lib.Seq.{getD-take}
+use lib.Signed.{_≤ℤ_}
+use Rattle.integers.specs.AllLaws.{getD-map}
+use Rattle.integers.specs.Filled.{filled}
+use Rattle.integers.specs.FilledLaws.{length-filled}
+use Rattle.lattices.specs.Vector.{Vec, N}
+use Rattle.lattices.specs.Volume.{Index, volume}
+use Rattle.lattices.specs.Answer.{padded}
+use Rattle.lattices.specs.Refusal.{mostCoordinates}
+use Rattle.exterior_algebra.specs.Minors.{marks, volume-off}
+use Rattle.exterior_algebra.specs.Sizes.{Short}
+use Rattle.input_checks.specs.Volumes.{short-from}
+use Rattle.successive_minima.specs.Reduced.{Reduced}
+use Rattle.row_operations.specs.declared.TableRow.{TableRow}
+use Rattle.row_operations.specs.RowStructs.{vectorRow, tableRow}
+use Rattle.row_operations.specs.Rows.{firstFour}
+use Rattle.lattice_membership.specs.declared.Minor.{Minor}
+use Rattle.lattice_membership.specs.declared.Lattice.{Lattice}
+use Rattle.lattice_membership.specs.Choice.{choice, places, coordinates, cofactors, cofactorRows}
+use Rattle.lattice_membership.specs.Known.{ReducedBasis, FirstMinor, Known, Cofactors, vectorsIn, rowIn}
+use Rattle.lattice_membership.specs.Laws.Choices.{length-choice}
+use Rattle.lattice_membership.specs.Laws.Minor.{place-within}
+use Rattle.lattice_membership.specs.Laws.Cofactors.{picked-rows, picked-short, cofactors-small, cofactors-give, first-four}
+
+-- a minor that is not zero takes as many coordinates as there are vectors
+pub count-of : (bs : List Vec) (s : Index) → volume bs s ≢ pos 0 → marks s ≡ length bs
+count-of bs s h = pick-one (ℕ-discrete (marks s) (length bs))
+  where
+    pick-one : Dec (marks s ≡ length bs) → marks s ≡ length bs
+    pick-one (yes e) = e
+    pick-one (no f) = absurd (h (volume-off bs s f))
+
+pub rows-back : (l : List Vec) → map (λ row. row .at) (map vectorRow l) ≡ l
+rows-back [] = refl
+rows-back (v ∷ l) = ap (λ k. v ∷ k) (rows-back l)
+
+filled-row : (n : ℕ) (z : TableRow) (l : List TableRow) (i : ℕ) (x : TableRow) → i < length l → i < n → getD (filled z n l) i x ≡ getD l i x
+filled-row zero z l i x h k = absurd (omega arith)
+filled-row (suc n) z [] i x h k = absurd (omega arith)
+filled-row (suc n) z (y ∷ l) zero x h k = refl
+filled-row (suc n) z (y ∷ l) (suc i) x h k = filled-row n z l i x (omega arith) (omega arith)
+
+pub row-of : (t : List Vec) (d j : ℕ) → d ≤ 4 → j < d → getD (cofactorRows t d) j (tableRow []) .at ≡ cofactors t d j
+row-of t d j few h =
+    let f : ℕ → TableRow = λ i. tableRow (cofactors t d i) in
+    let long : length (take d firstFour) ≡ d = omega (arith, length-take d firstFour) in
+    ap (λ r. r .at)
+    (filled-row 4 (tableRow (padded 4 [])) (map f (take d firstFour)) j (tableRow []) (omega (arith, length-map (take d firstFour) f, long)) (omega arith)
+    ∙ getD-map f (take d firstFour) 0 (tableRow []) j (omega (arith, long)))
+    ∙ ap (cofactors t d) (getD-take d firstFour j 0 h ∙ first-four j (omega arith))
+
+module _ (d : ℕ) (b : List Vec) (r : ReducedBasis d b) (four-rows : length b ≡ 4) (m : Minor) (k : FirstMinor (take d b) m) where
+  abbrev s : Index
+  s = choice mostCoordinates (k .number)
+
+  pub count-first : marks s ≡ d
+  count-first = count-of (take d b) s (k .nonzero) ∙ omega (arith, length-take d b, r .few, four-rows)
+
+  wide-first : length s ≡ mostCoordinates
+  wide-first = length-choice mostCoordinates (k .number)
+
+  -- its places, and the length of what they pick
+  pub first-within : (i : ℕ) → i < d → getD (m .at) i 0 < mostCoordinates
+  first-within i h = subst (λ l. getD l i 0 < mostCoordinates) (sym (k .at)) (place-within s d count-first (r .few) wide-first i h)
+
+  pub first-short : (i : ℕ) → i < d → N (getD (map (coordinates (m .at) d) b) i []) ≤ℤ pos 400000000
+  first-short i h = subst (λ at. N (getD (map (coordinates at d) b) i []) ≤ℤ pos 400000000) (sym (k .at)) (picked-short s d count-first (r .few) wide-first b four-rows (r .short) i h)
+
+  pub made : (l : Lattice) → l .d ≡ d → l .vectors ≡ map vectorRow b → l .choice ≡ m .at → l .minor ≡ m .minor
+      → l .cofactors ≡ cofactorRows (map (coordinates (m .at) d) b) d → Known l
+  made l e-d e-vectors e-choice e-minor e-rows = record {
+    few = subst (λ n. n ≤ 4) (sym e-d) (r .few);
+    four = (ap length e-vectors ∙ length-map b vectorRow ∙ four-rows, ap length e-rows ∙ length-filled (tableRow (padded 4 [])) 4 (map (λ j. tableRow (cofactors t d j)) (take d firstFour)));
+    reduced = subst Reduced (sym vs) (r .reduced);
+    short = subst (Short (pos 400000000)) (sym vs) (short-from 400000000 d 0 b (r .short));
+    index = s;
+    wide = wide-first;
+    count = count-first ∙ sym e-d;
+    chosen = e-choice ∙ k .at;
+    at-index = e-minor ∙ k .minor ∙ ap (λ l. volume l s) (sym vs);
+    nonzero = λ e. k .nonzero (sym (e-minor ∙ k .minor) ∙ e);
+    rows = λ j h. subst (λ bs. Cofactors bs s j (rowIn l j)) (sym vs) (subst (Cofactors (take d b) s j) (sym (row j (subst (λ n. j < n) e-d h))) (cofactors-known j (subst (λ n. j < n) e-d h)));
+  }
+    where
+      t : List Vec
+      t = map (coordinates (m .at) d) b
+
+      vs : vectorsIn l ≡ take d b
+      vs = ap₂ take e-d (ap (map (λ row. row .at)) e-vectors ∙ rows-back b)
+
+      row : (j : ℕ) → j < d → rowIn l j ≡ cofactors t d j
+      row j h = ap (λ rs. getD rs j (tableRow []) .at) e-rows ∙ row-of t d j (r .few) h
+
+      table : t ≡ map (coordinates (filled 0 mostCoordinates (places 0 s)) d) b
+      table = ap (λ at. map (coordinates at d) b) (k .at)
+
+      cofactors-known : (j : ℕ) → j < d → Cofactors (take d b) s j (cofactors t d j)
+      cofactors-known j h = subst (λ u. Cofactors (take d b) s j (cofactors u d j)) (sym table) (record {
+        give = cofactors-give s d count-first (r .few) wide-first b four-rows (r .short) j h;
+        small = cofactors-small (map (coordinates (filled 0 mostCoordinates (places 0 s)) d) b) d j
+            (picked-rows s d count-first (r .few) wide-first b four-rows (r .short)) (r .few) h (picked-short s d count-first (r .few) wide-first b four-rows (r .short));
+      })

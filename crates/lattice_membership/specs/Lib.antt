@@ -1,0 +1,4 @@
+-- Membership by Cramer's rule on a lattice that is made once for a reduced basis.
+pub mod Choice
+pub mod Known
+pub mod Laws
