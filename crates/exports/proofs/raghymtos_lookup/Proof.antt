@@ -31,15 +31,6 @@ lookup-requires c κs = search needs
 cast-put-counts : tie.Need-cast-put-counts
 cast-put-counts c = search needs
 
-put-counts-requires : tie.Need-put-counts-requires
-put-counts-requires c κs =
-    let w = c .before .before in
-    let s = w .before .before .before in
-    let n = lookup-few (now (s .args .bytes)) (s .args .number) in
-    let small : (w .lookup .result .refusal ≤ 1000000000000) × (w .lookup .result .place ≤ 1000000000000) =
-    subst (λ a. (a .refusal ≤ 1000000000000) × (a .place ≤ 1000000000000)) (sym (w .lookup .ensures)) (omega (arith, n .0), omega (arith, n .1)) in
-    (search needs, (small .0, small .1, omega arith))
-
 same-length : tie.Need-same-length
 same-length c = search needs
 
@@ -52,6 +43,15 @@ returns-2 c =
     let h : 3 ≤ length l = search needs in
     let e = p .put-counts .ensures ∙ ap (λ a. sets l 0 (head (a .refusal) (a .place) (pos (a .standing)))) (w .lookup .ensures) in
     (sym (le-leb 3 (length l) h), head-stored l (given s .refusal) (given s .place) (pos (given s .standing)) h e)
+
+put-counts-requires : tie.Need-put-counts-requires
+put-counts-requires c κs =
+    let w = c .before .before in
+    let s = w .before .before .before in
+    let n = lookup-few (now (s .args .bytes)) (s .args .number) in
+    let small : (w .lookup .result .refusal ≤ 1000000000000) × (w .lookup .result .place ≤ 1000000000000) =
+    subst (λ a. (a .refusal ≤ 1000000000000) × (a .place ≤ 1000000000000)) (sym (w .lookup .ensures)) (omega (arith, n .0), omega (arith, n .1)) in
+    (search needs, (small .0, small .1, omega arith))
 
 pub raghymtos-lookup-spec : {M : Type 1} → statement M
 raghymtos-lookup-spec =

@@ -29,13 +29,6 @@ returns c =
 write-out-requires : tie.Need-write-out-requires
 write-out-requires c κs = search needs
 
-put-counts-requires : tie.Need-put-counts-requires
-put-counts-requires c κs =
-    let w = c .before .before .before in
-    let s = w .before .before .before .before .before in
-    let n = write-few (now (s .args .bytes)) (now (s .args .out)) in
-    (search needs, subst (λ a. (a .refusal ≤ 1000000000000) × (a .place ≤ 1000000000000) × (a .length ≤ 1000000000000)) (sym (w .write-out .ensures .0)) (omega (arith, n .refusal), omega (arith, n .place), omega (arith, n .written)))
-
 same-length : tie.Need-same-length
 same-length c = search needs
 
@@ -51,6 +44,13 @@ returns-2 c =
     let h : 3 ≤ length l = search needs in
     let e = p .put-counts .ensures ∙ ap (λ a. sets l 0 (head (a .refusal) (a .place) (pos (a .length)))) (w .write-out .ensures .0) in
     (sym (le-leb 3 (length l) h), (head-stored l (given s .refusal) (given s .place) (pos (given s .written)) h e, beside-long l (now (s .args .out)) (given s .lent) h (w .write-out .ensures .1)))
+
+put-counts-requires : tie.Need-put-counts-requires
+put-counts-requires c κs =
+    let w = c .before .before .before in
+    let s = w .before .before .before .before .before in
+    let n = write-few (now (s .args .bytes)) (now (s .args .out)) in
+    (search needs, subst (λ a. (a .refusal ≤ 1000000000000) × (a .place ≤ 1000000000000) × (a .length ≤ 1000000000000)) (sym (w .write-out .ensures .0)) (omega (arith, n .refusal), omega (arith, n .place), omega (arith, n .written)))
 
 pub raghymtos-write-out-spec : {M : Type 1} → statement M
 raghymtos-write-out-spec =
