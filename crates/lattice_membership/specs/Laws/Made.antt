@@ -25,7 +25,8 @@ use Rattle.row_operations.specs.RowStructs.{vectorRow, tableRow}
 use Rattle.row_operations.specs.Rows.{firstFour}
 use Rattle.lattice_membership.specs.declared.Minor.{Minor}
 use Rattle.lattice_membership.specs.declared.Lattice.{Lattice}
-use Rattle.lattice_membership.specs.Choice.{choice, places, coordinates, cofactors, cofactorRows}
+use Rattle.lattice_membership.specs.Choice.{choice, places, coordinates}
+use Rattle.lattice_membership.specs.Cofactor.{cofactors, cofactorRows}
 use Rattle.lattice_membership.specs.Known.{ReducedBasis, FirstMinor, Known, Cofactors, vectorsIn, rowIn}
 use Rattle.lattice_membership.specs.Laws.Choices.{length-choice}
 use Rattle.lattice_membership.specs.Laws.Minor.{place-within}
