@@ -231,6 +231,7 @@ pub struct Lattice {
     pub cofactors: [row_operations::TableRow; 4],
 }
 
+// The vectors packed in row structs.
 fn vector_rows(b: [Vector; 4]) -> [row_operations::VectorRow; 4]
     ensures { λ r. ⌜ r ≡ map vectorRow b ⌝ }
 {
@@ -321,7 +322,7 @@ pub fn member(l: Lattice, v: Vector) -> bool
     is_zero(rest)
 }
 
-// Whether the first `count` vectors are all in the lattice. The last is tried first: vectors in order of length that differ mostly differ there.
+// Whether the first `count` vectors are all in the lattice. The last, mostly the longest, is tried first: other lattices often have the short ones in common.
 pub fn holds_all(l: Lattice, vectors: [Vector; 4], count: usize) -> bool
     requires { ⌜ Known l ⌝ }
     requires { ⌜ count ≤ mostVectors ⌝ }
