@@ -1,6 +1,5 @@
 // Exact membership without a search, on a lattice that is made once for a reduced basis: Cramer's rule on one minor that is not zero,
 // then a comparison in every coordinate.
-
 ghost use mathlib.Core.Path.{_≡_};
 ghost use mathlib.Core.Logic.{_≢_};
 ghost use mathlib.Core.Bool.{not};
@@ -19,7 +18,8 @@ ghost use Rattle.exterior_algebra.specs.Minors.{marks};
 ghost use Rattle.input_checks.specs.Volumes.{nonzero};
 ghost use Rattle.successive_minima.specs.Member.{isMember};
 ghost use Rattle.row_operations.specs.RowStructs.{vectorRow};
-ghost use Rattle.lattice_membership.specs.Choice.{choice, places, firsts, firstPlace, coordinates, without, others, missingPlace, cofactor, cofactors, cofactorRows};
+ghost use Rattle.lattice_membership.specs.Choice.{choice, places, firsts, firstPlace, coordinates};
+ghost use Rattle.lattice_membership.specs.Cofactor.{without, others, missingPlace, cofactor, cofactors, cofactorRows};
 ghost use Rattle.lattice_membership.specs.Known.{ReducedBasis, FirstMinor, Known, vectorsIn, isWhole};
 
 // How many coordinates a vector has.
@@ -43,7 +43,7 @@ const MISSING: [[usize; 4]; 5] = [
 ];
 
 // A choice among the coordinates: how many are taken, and which, in increasing order.
-pub struct Choice {
+struct Choice {
     pub count: usize,
     pub at: [usize; WIDTH],
 }
@@ -65,7 +65,7 @@ fn choice_of(number: usize) -> Choice
     Choice { count, at }
 }
 
-// The first d coordinates of a choice.
+// The coordinates of v at the first d places of a choice.
 fn pick(v: Vector, at: [usize; WIDTH], d: usize) -> [i64; 4]
     requires { ⌜ d ≤ mostVectors ⌝ }
     requires { ⌜ ((i : ℕ) → i < d → getD at i 0 < mostCoordinates) ⌝ }
@@ -78,6 +78,7 @@ fn pick(v: Vector, at: [usize; WIDTH], d: usize) -> [i64; 4]
     p
 }
 
+// The same of every vector.
 fn picked(b: [Vector; 4], at: [usize; WIDTH], d: usize) -> [[i64; 4]; 4]
     requires { ⌜ d ≤ mostVectors ⌝ }
     requires { ⌜ ((i : ℕ) → i < d → getD at i 0 < mostCoordinates) ⌝ }
@@ -91,6 +92,7 @@ fn picked(b: [Vector; 4], at: [usize; WIDTH], d: usize) -> [[i64; 4]; 4]
     ]
 }
 
+// Where the volume of d vectors has the determinant of their first d coordinates.
 fn first_place(d: usize) -> usize
     requires { ⌜ d ≤ mostVectors ⌝ }
     ensures { λ r. ⌜ (r ≡ firstPlace d) × (r < 16) ⌝ }
@@ -110,7 +112,7 @@ fn determinant(t: [[i64; 4]; 4], d: usize) -> i64
 }
 
 // A choice of coordinates and the minor there.
-pub struct Minor {
+struct Minor {
     pub at: [usize; WIDTH],
     pub minor: i64,
 }
@@ -157,12 +159,14 @@ fn other(t: [[i64; 4]; 4], j: usize, i: usize) -> [i64; 4]
     t[i + 1]
 }
 
+// The other rows, and one row behind them.
 fn others(t: [[i64; 4]; 4], j: usize) -> [[i64; 4]; 4]
     ensures { λ r. ⌜ r ≡ others t j ⌝ }
 {
     [other(t, j, 0), other(t, j, 1), other(t, j, 2), t[3]]
 }
 
+// Where the volume of d - 1 vectors has the determinant of the first d coordinates but c.
 fn missing_place(d: usize, c: usize) -> usize
     requires { ⌜ d ≤ mostVectors ⌝ }
     requires { ⌜ c < mostVectors ⌝ }
@@ -227,6 +231,7 @@ pub struct Lattice {
     pub cofactors: [row_operations::TableRow; 4],
 }
 
+// The vectors packed in row structs.
 fn vector_rows(b: [Vector; 4]) -> [row_operations::VectorRow; 4]
     ensures { λ r. ⌜ r ≡ map vectorRow b ⌝ }
 {
@@ -281,6 +286,7 @@ fn whole(n: i64, m: i64) -> bool
     -MOST_TIMES <= q && q <= MOST_TIMES
 }
 
+// Whether every coordinate is zero.
 fn is_zero(v: Vector) -> bool
     ensures { λ r. ⌜ r ≡ not (any nonzero v) ⌝ }
 {
@@ -316,7 +322,7 @@ pub fn member(l: Lattice, v: Vector) -> bool
     is_zero(rest)
 }
 
-// Whether the first `count` vectors are all in the lattice. The last is tried first: vectors in order of length that differ mostly differ there.
+// Whether the first `count` vectors are all in the lattice. The last, mostly the longest, is tried first: other lattices often have the short ones in common.
 pub fn holds_all(l: Lattice, vectors: [Vector; 4], count: usize) -> bool
     requires { ⌜ Known l ⌝ }
     requires { ⌜ count ≤ mostVectors ⌝ }

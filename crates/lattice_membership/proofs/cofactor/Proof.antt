@@ -9,7 +9,7 @@ use mir.Syntax.{w64}
 use mir.Val.{SFits, toZ, ofZ}
 use Rattle.integers.specs.Size.{Within, within-sub, fits-within}
 use Rattle.lattices.specs.Vector.{nth}
-use Rattle.lattice_membership.specs.Choice.{missingPlace}
+use Rattle.lattice_membership.specs.Cofactor.{missingPlace}
 use borrow.Author.Needs.{needs}
 use Rattle.lattice_membership.proofs.cofactor.Statement.{statement}
 use Rattle.lattice_membership.proofs.cofactor.Tie as tie

@@ -9,7 +9,7 @@ use Rattle.integers.specs.FilledLaws.{filled-more}
 use Rattle.lattices.specs.Answer.{padded}
 use Rattle.row_operations.specs.RowStructs.{tableRow}
 use Rattle.row_operations.specs.Rows.{firstFour}
-use Rattle.lattice_membership.specs.Choice.{cofactors}
+use Rattle.lattice_membership.specs.Cofactor.{cofactors}
 use Rattle.lattice_membership.specs.Laws.Cofactors.{first-four}
 use borrow.Author.Needs.{needs}
 use Rattle.lattice_membership.proofs.cofactor_rows.Statement.{statement}

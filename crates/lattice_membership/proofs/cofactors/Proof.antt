@@ -11,7 +11,7 @@ use mir.Syntax.{w64}
 use Rattle.integers.specs.Size.{Within}
 use Rattle.lattices.specs.Vector.{N, nth}
 use Rattle.input_checks.specs.Volumes.{minors}
-use Rattle.lattice_membership.specs.Choice.{without, cofactor}
+use Rattle.lattice_membership.specs.Cofactor.{without, cofactor}
 use Rattle.lattice_membership.specs.Laws.Cofactors.{others-take, others-short, volume-small}
 use borrow.Author.Needs.{needs}
 use Rattle.lattice_membership.proofs.cofactors.Statement.{statement}

@@ -7,7 +7,7 @@ use lib.Signed.{_≤ℤ_}
 use mir.Facts.{toZ-ofZ}
 use mir.Syntax.{w64}
 use Rattle.lattices.specs.Vector.{N}
-use Rattle.lattice_membership.specs.Choice.{cofactorRows}
+use Rattle.lattice_membership.specs.Cofactor.{cofactorRows}
 use Rattle.lattice_membership.specs.Laws.Made.{rows-back, first-within, first-short, made}
 use borrow.Author.Needs.{needs}
 use Rattle.lattice_membership.proofs.lattice_of.Statement.{statement}

@@ -25,7 +25,8 @@ use Rattle.exterior_algebra.specs.Minors.{marks, pick}
 use Rattle.exterior_algebra.specs.Sizes.{Short}
 use Rattle.input_checks.specs.Volumes.{minors, minors-within, short-from}
 use Rattle.row_operations.specs.Rows.{firstFour}
-use Rattle.lattice_membership.specs.Choice.{places, firsts, coordinates, without, missingPlace, others, cofactor, cofactors}
+use Rattle.lattice_membership.specs.Choice.{places, firsts, coordinates}
+use Rattle.lattice_membership.specs.Cofactor.{without, missingPlace, others, cofactor, cofactors}
 use Rattle.lattice_membership.specs.Laws.Minor.{length-pick, at-places, table-minor, table-short}
 
 -- ---- signs

@@ -15,7 +15,9 @@ use Rattle.integers.specs.FilledLaws.{length-filled}
 use Rattle.lattices.specs.Vector.{Vec, N}
 use Rattle.lattices.specs.Volume.{Index, volume}
 use Rattle.lattices.specs.Answer.{padded}
-use Rattle.lattices.specs.Refusal.{mostCoordinates}
+use Rattle.lattices.specs.Laws.Answer.{length-padded}
+use Rattle.lattices.specs.Refusal.{mostVectors, mostCoordinates}
+use Rattle.exterior_algebra.specs.Dependence.{Fit}
 use Rattle.exterior_algebra.specs.Minors.{marks, volume-off}
 use Rattle.exterior_algebra.specs.Sizes.{Short}
 use Rattle.input_checks.specs.Volumes.{short-from}
@@ -25,7 +27,8 @@ use Rattle.row_operations.specs.RowStructs.{vectorRow, tableRow}
 use Rattle.row_operations.specs.Rows.{firstFour}
 use Rattle.lattice_membership.specs.declared.Minor.{Minor}
 use Rattle.lattice_membership.specs.declared.Lattice.{Lattice}
-use Rattle.lattice_membership.specs.Choice.{choice, places, coordinates, cofactors, cofactorRows}
+use Rattle.lattice_membership.specs.Choice.{choice, places, coordinates}
+use Rattle.lattice_membership.specs.Cofactor.{cofactors, cofactorRows}
 use Rattle.lattice_membership.specs.Known.{ReducedBasis, FirstMinor, Known, Cofactors, vectorsIn, rowIn}
 use Rattle.lattice_membership.specs.Laws.Choices.{length-choice}
 use Rattle.lattice_membership.specs.Laws.Minor.{place-within}
@@ -109,3 +112,14 @@ module _ (d : ℕ) (b : List Vec) (r : ReducedBasis d b) (four-rows : length b �
         small = cofactors-small (map (coordinates (filled 0 mostCoordinates (places 0 s)) d) b) d j
             (picked-rows s d count-first (r .few) wide-first b four-rows (r .short)) (r .few) h (picked-short s d count-first (r .few) wide-first b four-rows (r .short));
       })
+
+-- ---- the basis that a reduction leaves: vectors filled up to the width
+
+fit-padded : (n : ℕ) (vs : List Vec) → Fit n (map (padded n) vs)
+fit-padded n [] i = omega arith
+fit-padded n (v ∷ vs) zero = omega (arith, length-padded n v)
+fit-padded n (v ∷ vs) (suc i) = fit-padded n vs i
+
+pub basis-padded : (d : ℕ) (b vs : List Vec) → d ≤ mostVectors → take d b ≡ map (padded mostCoordinates) vs → Reduced (take d b)
+    → ((i : ℕ) → i < d → N (getD b i []) ≤ℤ pos 400000000) → ReducedBasis d b
+basis-padded d b vs few e reduced short = record { few = few; reduced = reduced; short = short; fit = subst (Fit mostCoordinates) (sym e) (fit-padded mostCoordinates vs) }

@@ -24,7 +24,8 @@ use Rattle.exterior_algebra.specs.Hadamard.{rest-≤}
 use Rattle.exterior_algebra.specs.Minors.{marks, pick, full, minor-picked}
 use Rattle.input_checks.specs.Volumes.{minors}
 use Rattle.successive_minima.specs.Laws.ReducedLaws.{reduced-independent}
-use Rattle.lattice_membership.specs.Choice.{choice, places, firsts, firstPlace, missingPlace, coordinates}
+use Rattle.lattice_membership.specs.Choice.{choice, places, firsts, firstPlace, coordinates}
+use Rattle.lattice_membership.specs.Cofactor.{missingPlace}
 use Rattle.lattice_membership.specs.Known.{ReducedBasis}
 use Rattle.lattice_membership.specs.Laws.Choices.{number, number-<, choice-number, marks-≤, coordinates-picked, places-within}
 
