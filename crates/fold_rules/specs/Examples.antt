@@ -5,8 +5,8 @@ use Prim.Native.Nat.{ℕ}
 use lib.ListN.{replicate}
 use Rattle.lattices.specs.Vector.{dot, comb, _⊕_, _⊙_}
 use Rattle.lattices.specs.Volume.{squaredVolume, isDependent}
-use Rattle.lattices.specs.Nearest.{least, nearest}
-use Rattle.lattices.specs.Greedy.{insert, order, credited, greedy}
+use Rattle.lattices.specs.Nearest.{least, nearest, leastBy, nearestBy}
+use Rattle.lattices.specs.Greedy.{insert, order, credited, greedy, greedyBy, insertBy, orderBy}
 use Rattle.successive_minima.specs.Member.{isMember}
 use Rattle.catalogue_rules.specs.Word.{decode, encode, bytesOf}
 use Rattle.catalogue_rules.specs.Read.{step, readWords, read}
@@ -96,13 +96,13 @@ examples =
     ∷ []
 
 pub folds-hold : map (λ x. foldOf (x .file) (x .lent)) examples ≡ map (λ x. x .output) examples
-unfolding dot comb _⊕_ _⊙_ squaredVolume isDependent least nearest insert order credited greedy isMember decode encode step readWords read write sameLattice standing folded foldOf
+unfolding dot comb _⊕_ _⊙_ squaredVolume isDependent leastBy nearestBy insertBy orderBy credited greedyBy isMember decode encode step readWords read write sameLattice standing folded foldOf
 folds-hold = refl
 
 pub lookups-hold : map (lookupOf (bytesOf full)) (7 ∷ 9 ∷ 12 ∷ 8 ∷ []) ++ (lookupOf [] 7 ∷ []) ≡ finds 7 ∷ finds 9 ∷ finds 7 ∷ nowhere 17 0 ∷ nowhere 10 0 ∷ []
-unfolding dot comb _⊕_ _⊙_ squaredVolume isDependent least nearest insert order credited greedy isMember decode encode step readWords read sameLattice standing lookupOf
+unfolding dot comb _⊕_ _⊙_ squaredVolume isDependent leastBy nearestBy insertBy orderBy credited greedyBy isMember decode encode step readWords read sameLattice standing lookupOf
 lookups-hold = refl
 
 pub listings-hold : map listingOf (bytesOf full ∷ [] ∷ []) ≡ fullListing ∷ refusedListing ∷ []
-unfolding dot comb _⊕_ _⊙_ squaredVolume isDependent least nearest insert order credited greedy isMember decode encode step readWords read sameLattice standing listingOf
+unfolding dot comb _⊕_ _⊙_ squaredVolume isDependent leastBy nearestBy insertBy orderBy credited greedyBy isMember decode encode step readWords read sameLattice standing listingOf
 listings-hold = refl

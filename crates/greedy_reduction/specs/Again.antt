@@ -12,7 +12,7 @@ use Rattle.lattices.specs.Vector.{Vec, N, Zero, _⊖_, comb}
 use Rattle.lattices.specs.Laws.Vector.{≈-≡, comb-zero, ⊖-zero}
 use Rattle.lattices.specs.Volume.{squaredVolume}
 use Rattle.lattices.specs.Nearest.{nearest}
-use Rattle.lattices.specs.Greedy.{Row, vectors, insert, order, lastOf, before, Counted, pass, round, shorter, joined, repeat, total, greedy, units, start, reduction}
+use Rattle.lattices.specs.Greedy.{Row, vectors, insert, order, lastOf, before, Counted, pass, round, shorter, joined, repeat, total, greedy, units, start, reduction, greedyBy, insertBy, orderBy}
 use Rattle.successive_minima.specs.Reduced.{Under}
 use Rattle.successive_minima.specs.Laws.ReducedLaws.{reduced-last}
 use Rattle.successive_minima.specs.Laws.Minima.{ascending}
@@ -28,12 +28,12 @@ abbrev InOrder : List Row → Type 0
 InOrder rows = (j : ℕ) → suc j < length rows → N (getD (vectors rows) j []) ≤ℤ N (getD (vectors rows) (suc j) [])
 
 insert-first : (r : Row) (rows : List Row) → InOrder (r ∷ rows) → insert r rows ≡ r ∷ rows
-unfolding insert
+unfolding insertBy
 insert-first r [] h = refl
 insert-first r (s ∷ rows) h = ap (λ b. elim b [ true ↦ s ∷ insert r rows | false ↦ r ∷ (s ∷ rows) ]) (≤ℤ-ltZ (h 0 (omega arith)))
 
 order-same : (rows : List Row) → InOrder rows → order rows ≡ rows
-unfolding order
+unfolding orderBy
 order-same [] h = refl
 order-same (r ∷ rows) h = ap (insert r) (order-same rows (λ j k. h (suc j) (omega arith))) ∙ insert-first r rows h
 
@@ -105,7 +105,7 @@ repeat-same m k reduce fix fuel rows e c s =
     ∙ ap (λ l. vectors (joined (round reduce l))) q ∙ t .0
 
 pub greedy-same : (m d : ℕ) → Fixing m d (greedy d)
-unfolding greedy
+unfolding greedyBy
 greedy-same m zero rows e c s = refl
 greedy-same m (suc zero) rows e c s = refl
 greedy-same m (suc (suc d)) rows e c s = repeat-same m (suc d) (greedy (suc d)) (greedy-same m (suc d)) (natAbs (total rows)) rows e c s

@@ -13,7 +13,7 @@ use Rattle.integers.specs.Order.{ltZ-true}
 use Rattle.integers.specs.Certificate.{NN, _⊞_, le, lt, by-lt}
 use Rattle.lattices.specs.Vector.{N}
 use Rattle.lattices.specs.Laws.Permutation.{perm-length}
-use Rattle.lattices.specs.Greedy.{Row, vectors, order, lastOf, before, Counted, Pass, pass, round, shorter, joined, repeat, total, greedy}
+use Rattle.lattices.specs.Greedy.{Row, vectors, order, lastOf, before, Counted, Pass, pass, round, shorter, joined, repeat, total, greedy, greedyBy}
 use Rattle.greedy_reduction.specs.Moves.{Moves, Moving, order-perm, before-last, length-before, moves-length, ordered-moves, greedy-moves}
 use Rattle.greedy_reduction.specs.Lengths.{NoLonger, moves-no-longer, no-longer-credited, last-no-longer, total-append, total-credited, total-nonneg, perm-total, moves-total, order-sorted, sorted-last, Sorted}
 
@@ -93,7 +93,7 @@ pub greedy-steps : (d : ℕ) (rows : List Row) → length rows ≡ suc (suc d)
     → greedy (suc (suc d)) rows ≡ cond (shorter (round (greedy (suc d)) (order rows) .last) (round (greedy (suc d)) (order rows) .first))
     (again (round (greedy (suc d)) (order rows)) (greedy (suc (suc d)) (joined (round (greedy (suc d)) (order rows)))))
     (stop (round (greedy (suc d)) (order rows)))
-unfolding greedy
+unfolding greedyBy
 greedy-steps d rows e = go (shorter (p .last) (p .first)) refl
   where
     p : Pass

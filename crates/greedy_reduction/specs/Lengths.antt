@@ -10,7 +10,7 @@ use Rattle.integers.specs.Certificate.{NN, _⊞_}
 use Rattle.lattices.specs.Vector.{Vec, N}
 use Rattle.lattices.specs.Laws.Vector.{N-nonneg}
 use Rattle.lattices.specs.Laws.Permutation.{Perm, same, skip, swap, then}
-use Rattle.lattices.specs.Greedy.{Row, vectors, insert, order, lastOf, before, less, credited, total}
+use Rattle.lattices.specs.Greedy.{Row, vectors, insert, order, lastOf, before, less, credited, total, insertBy, orderBy}
 use Rattle.integers.specs.All.{All}
 use Rattle.greedy_reduction.specs.Every.{moves-all}
 use Rattle.greedy_reduction.specs.Moves.{Moves, none, after, exchange, subtract, vectors-credited}
@@ -81,7 +81,7 @@ at-least-le h [] k = tt
 at-least-le h (r ∷ rows) k = (≤ℤ-trans h (k .0), at-least-le h rows (k .1))
 
 insert-at-least : (s : ℤ) (r : Row) (rows : List Row) → s ≤ℤ N (r .vector) → AtLeast s rows → AtLeast s (insert r rows)
-unfolding insert
+unfolding insertBy
 insert-at-least s r [] h k = (h, tt)
 insert-at-least s r (q ∷ rows) h k = go (ltZ (N (q .vector)) (N (r .vector))) (insert-at-least s r rows h (k .1))
   where
@@ -90,7 +90,7 @@ insert-at-least s r (q ∷ rows) h k = go (ltZ (N (q .vector)) (N (r .vector))) 
     go false p = (h, k)
 
 insert-sorted : (r : Row) (rows : List Row) → Sorted rows → Sorted (insert r rows)
-unfolding insert
+unfolding insertBy
 insert-sorted r [] k = (tt, tt)
 insert-sorted r (q ∷ rows) k = go (ltZ (N (q .vector)) (N (r .vector))) refl (insert-sorted r rows (k .1))
   where
@@ -99,7 +99,7 @@ insert-sorted r (q ∷ rows) k = go (ltZ (N (q .vector)) (N (r .vector))) refl (
     go false e p = ((ltZ-false e, at-least-le (ltZ-false e) rows (k .0)), k)
 
 pub order-sorted : (rows : List Row) → Sorted (order rows)
-unfolding order
+unfolding orderBy
 order-sorted [] = tt
 order-sorted (r ∷ rows) = insert-sorted r (order rows) (order-sorted rows)
 

@@ -10,7 +10,7 @@ use lib.ListN.{length, length-append, length-map}
 use Rattle.lattices.specs.Vector.{N}
 use Rattle.lattices.specs.Laws.Permutation.{Perm, same, skip, swap, then, perm-append, perm-length}
 use Rattle.lattices.specs.Nearest.{nearest}
-use Rattle.lattices.specs.Greedy.{Row, vectors, insert, order, lastOf, before, less, credited, Counted, pass, round, shorter, joined, repeat, total, greedy}
+use Rattle.lattices.specs.Greedy.{Row, vectors, insert, order, lastOf, before, less, credited, Counted, pass, round, shorter, joined, repeat, total, greedy, greedyBy, insertBy, orderBy}
 use Rattle.successive_minima.specs.Laws.NearestLaws.{nearest-count, nearest-shorter}
 
 pub data Moves : List Row → List Row → Type 0 where
@@ -30,7 +30,7 @@ moves-append (subtract x rows r rest e h) c =
 
 -- ---- the steps are moves
 insert-perm : (r : Row) (rows : List Row) → Perm (r ∷ rows) (insert r rows)
-unfolding insert
+unfolding insertBy
 insert-perm r [] = same (r ∷ [])
 insert-perm r (s ∷ rows) = go (ltZ (N (s .vector)) (N (r .vector))) (insert-perm r rows)
   where
@@ -39,7 +39,7 @@ insert-perm r (s ∷ rows) = go (ltZ (N (s .vector)) (N (r .vector))) (insert-pe
     go false p = same (r ∷ s ∷ rows)
 
 pub order-perm : (rows : List Row) → Perm rows (order rows)
-unfolding order
+unfolding orderBy
 order-perm [] = same []
 order-perm (r ∷ rows) = then (skip r (order-perm rows)) (insert-perm r (order rows))
 
@@ -114,7 +114,7 @@ repeat-moves k reduce m (suc fuel) rows e =
 
 -- the greedy reduction of d rows is a chain of moves
 pub greedy-moves : (d : ℕ) → Moving d (greedy d)
-unfolding greedy
+unfolding greedyBy
 greedy-moves zero rows e = none rows
 greedy-moves (suc zero) rows e = none rows
 greedy-moves (suc (suc d)) rows e = repeat-moves (suc d) (greedy (suc d)) (greedy-moves (suc d)) (suc (natAbs (total rows))) rows e

@@ -19,7 +19,7 @@ use Rattle.lattices.specs.Laws.Vector.{_≈_, ≈-N, ≈-trans, bilinear, comb-
 use Rattle.lattices.specs.Laws.Permutation.{perm-length}
 use Rattle.lattices.specs.Volume.{squaredVolume}
 use Rattle.lattices.specs.Nearest.{nearest}
-use Rattle.lattices.specs.Greedy.{Row, vectors, order, lastOf, before, Counted, Pass, pass, round, shorter, joined, repeat, total, greedy}
+use Rattle.lattices.specs.Greedy.{Row, vectors, order, lastOf, before, Counted, Pass, pass, round, shorter, joined, repeat, total, greedy, greedyBy}
 use Rattle.successive_minima.specs.Laws.Values.{Least}
 use Rattle.successive_minima.specs.Reduced.{Under, Descending, Reduced}
 use Rattle.successive_minima.specs.Laws.Snoc.{comb-fit}
@@ -181,7 +181,7 @@ one-settled m (r ∷ []) e v = (
 
 -- the output of the greedy steps is settled
 pub greedy-settled : (m d : ℕ) → d ≤ 4 → (rows : List Row) → length rows ≡ d → pos 0 <ℤ squaredVolume m (vectors rows) → SettledRows (vectors (greedy d rows .rows))
-unfolding greedy
+unfolding greedyBy
 greedy-settled m zero h [] e v = (tt, tt)
 greedy-settled m zero h (r ∷ rows) e v = absurd (omega arith)
 greedy-settled m (suc zero) h rows e v = one-settled m rows e v

@@ -12,8 +12,8 @@ use Rattle.integers.specs.ListLaws.{same, nth-⊕, nth-⊙, length-⊕, length-
 use Rattle.lattices.specs.Vector.{Vec, N, _⊕_, _⊙_, _⊖_, comb}
 use Rattle.lattices.specs.Laws.Vector.{_≈_, ≈-refl, ≈-sym, ≈-trans, ≈-⊕, ≈-⊙, ≈-≡, ≈-N}
 use Rattle.lattices.specs.Laws.Permutation.{perm-length}
-use Rattle.lattices.specs.Nearest.{outward, least, nearest}
-use Rattle.lattices.specs.Greedy.{Row, vectors, insert, order, lastOf, before, less, credited, Counted, Pass, pass, round, shorter, joined, repeat, total, greedy}
+use Rattle.lattices.specs.Nearest.{outward, least, nearest, leastBy, nearestBy}
+use Rattle.lattices.specs.Greedy.{Row, vectors, insert, order, lastOf, before, less, credited, Counted, Pass, pass, round, shorter, joined, repeat, total, greedy, greedyBy, insertBy, orderBy}
 use Rattle.lattices.specs.Answer.{padded}
 use Rattle.lattices.specs.Laws.Answer.{length-padded, nth-padded, padded-≈}
 use Rattle.greedy_reduction.specs.Moves.{Moves, Moving, order-perm, before-last, length-before, moves-length, ordered-moves, greedy-moves}
@@ -63,7 +63,7 @@ padded-minus n m k a h x bs c = ≈-≡ (padded n (a ⊖ comb x bs)) (padded n a
 
 -- ---- the nearest vector of padded vectors
 least-padded : (n m : ℕ) → m ≤ n → (bs : List Vec) → Coordinates m bs → (t : Vec) → length t ≡ m → least (map (padded n) bs) (padded n t) ≡ least bs t
-unfolding least
+unfolding leastBy
 least-padded n m k [] c t e = ap (λ s. s ∷ []) (padded-N n t (omega arith))
 least-padded n m k (b ∷ bs) c t e = congruent
     (fun-ext (λ j. ap (λ l. l ++ (j ∷ [])) (ap (least (map (padded n) bs)) (shifted j) ∙ least-padded n m k bs (c .1) (t ⊖ j ⊙ b) (places j))))
@@ -89,7 +89,7 @@ reverse-coordinates m [] cs h k = k
 reverse-coordinates m (b ∷ bs) cs h k = reverse-coordinates m bs (b ∷ cs) (h .1) (h .0, k)
 
 pub nearest-padded : (n m : ℕ) → m ≤ n → (bs : List Vec) → Coordinates m bs → (t : Vec) → length t ≡ m → nearest (map (padded n) bs) (padded n t) ≡ nearest bs t
-unfolding nearest
+unfolding nearestBy
 nearest-padded n m k bs c t e =
     ap tail (ap (λ l. least l (padded n t)) (reverse-map (padded n) bs []) ∙ least-padded n m k (reverse bs) (reverse-coordinates m bs [] c tt) t e)
 
@@ -116,7 +116,7 @@ module _ (w h m d : ℕ) (wide : m ≤ w) (high : d ≤ h) where
   pad-N r s = padded-N w (r .vector) (omega (arith, s .vector))
 
   insert-padded : (r : Row) (rows : List Row) → Sized m d r → Fits rows → insert (pad r) (map pad rows) ≡ map pad (insert r rows)
-  unfolding insert
+  unfolding insertBy
   insert-padded r [] s f = refl
   insert-padded r (q ∷ rows) s f =
       ap₂ {C = List Row} (λ a b. elim (ltZ a b) [ true ↦ pad q ∷ insert (pad r) (map pad rows) | false ↦ pad r ∷ (pad q ∷ map pad rows) ]) (pad-N q (f .0)) (pad-N r s)
@@ -129,7 +129,7 @@ module _ (w h m d : ℕ) (wide : m ≤ w) (high : d ≤ h) where
       go false e = refl
 
   order-padded : (rows : List Row) → Fits rows → order (map pad rows) ≡ map pad (order rows)
-  unfolding order
+  unfolding orderBy
   order-padded [] f = refl
   order-padded (r ∷ rows) f = ap (insert (pad r)) (order-padded rows (f .1)) ∙ insert-padded r (order rows) (f .0) (all-perm (Sized m d) (order-perm rows) (f .1))
 
@@ -260,7 +260,7 @@ module _ (w h m d : ℕ) (wide : m ≤ w) (high : d ≤ h) where
       same-rows = joined-padded p
 
   pub greedy-padded : (k : ℕ) → Padding k (greedy k)
-  unfolding greedy pad-counted
+  unfolding greedyBy pad-counted
   greedy-padded zero rows e f = refl
   greedy-padded (suc zero) rows e f = refl
   greedy-padded (suc (suc k)) rows e f =

@@ -14,7 +14,7 @@ use Rattle.integers.specs.Size.{size-add}
 use Rattle.lattices.specs.Vector.{N}
 use Rattle.lattices.specs.Laws.Vector.{N-nonneg}
 use Rattle.lattices.specs.Laws.Permutation.{perm-length}
-use Rattle.lattices.specs.Greedy.{Row, vectors, order, lastOf, before, Counted, Pass, pass, round, shorter, joined, repeat, total, greedy}
+use Rattle.lattices.specs.Greedy.{Row, vectors, order, lastOf, before, Counted, Pass, pass, round, shorter, joined, repeat, total, greedy, greedyBy}
 use Rattle.successive_minima.specs.Laws.NearestLaws.{nearest-shorter}
 use Rattle.greedy_reduction.specs.Moves.{Moves, Moving, order-perm, before-last, length-before, moves-length, ordered-moves, greedy-moves}
 use Rattle.greedy_reduction.specs.Lengths.{NoLonger, total-append, total-credited, total-nonneg, perm-total, moves-total}
@@ -107,7 +107,7 @@ repeat-frugal k reduce mv fr (suc fuel) rows e h =
         again-pays (weight k) k (p .passes) (repeat reduce fuel (joined p) .passes) (sum (joined p)) (sum rows) (sum (repeat reduce fuel (joined p) .rows)) fell paid (ih fell)
 
 greedy-frugal : (d : ℕ) → Frugal d (greedy d)
-unfolding greedy sum
+unfolding greedyBy sum
 greedy-frugal zero rows e = omega arith
 greedy-frugal (suc zero) rows e = omega arith
 greedy-frugal (suc (suc d)) rows e = repeat-frugal (suc d) (greedy (suc d)) (greedy-moves (suc d)) (greedy-frugal (suc d)) (suc (natAbs (total rows))) rows e (omega arith)

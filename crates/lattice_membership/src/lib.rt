@@ -21,11 +21,8 @@ ghost use Rattle.row_operations.specs.RowStructs.{vectorRow};
 ghost use Rattle.lattice_membership.specs.Choice.{choice, places, firsts, firstPlace, coordinates};
 ghost use Rattle.lattice_membership.specs.Cofactor.{without, others, missingPlace, cofactor, cofactors, cofactorRows};
 ghost use Rattle.lattice_membership.specs.Known.{ReducedBasis, FirstMinor, Known, vectorsIn, isWhole};
-
-// How many coordinates a vector has.
-pub const WIDTH: usize = 4;
-
-pub type Vector = [i64; WIDTH];
+use row_operations::Vector;
+use row_operations::WIDTH;
 
 // No coefficient of a vector within the length limit is larger, on a reduced basis.
 const MOST_TIMES: i64 = 1080000;

@@ -1,8 +1,10 @@
--- The answers of the services Reduction and Nearest for every input: a refusal with its number and all else zero, or the answer.
+-- The answers of the services Reduction, Nearest and Membership for every input: a refusal with its number and all else zero, or the answer.
 -- Unused places of every answer hold zero.
+use mathlib.Core.Bool.{Bool, false}
 use mathlib.Core.List.{List, [], _∷_, _++_, map}
 use Prim.Native.Nat.{ℕ, zero, suc}
 use lib.IntN.{ℤ, pos}
+use lib.Signed.{leZ}
 use lib.ListN.{length}
 use Rattle.integers.specs.Filled.{filled}
 use Rattle.lattices.specs.Vector.{Vec, N, nth, comb, distance}
@@ -101,3 +103,14 @@ nearestGiven bs t =
 unfoldable pub nearestOf : Input → Nearest
 nearestOf i = elim (firstOf (vectorChecks ++ targetChecks) i)
     [ zero ↦ nearestGiven (vectors (reduction (basis i) .rows)) (i .target) | suc n ↦ noNearest (suc n) ]
+
+-- R5.5: the answer of Membership: whether the target is a vector of the lattice
+pub record Membership : Type 0 where
+  pub refusal : ℕ
+  pub place : ℕ
+  pub member : Bool
+
+-- R4.4, R5.4, R5.5, R8.8: yes exactly when the squared distance is 0
+unfoldable pub membershipOf : Input → Membership
+membershipOf i = elim (firstOf (vectorChecks ++ targetChecks) i)
+    [ zero ↦ record { refusal = 0; place = 0; member = leZ (nearestOf i .square) (pos 0) } | suc n ↦ record { refusal = suc n; place = 0; member = false } ]

@@ -6,7 +6,7 @@ use lib.IntN.{ℤ, pos, natAbs, _+ℤ_}
 use lib.Signed.{ltZ}
 use lib.ListN.{length, replicate}
 use Rattle.lattices.specs.Vector.{Vec, N, _⊕_, _⊖_, _⊙_, comb}
-use Rattle.lattices.specs.Nearest.{nearest}
+use Rattle.lattices.specs.Nearest.{nearestBy}
 
 -- R3.8: a vector of the list with its row of U (its coefficients on the inputs) and its column of V (its coefficient in each input)
 pub record Row : Type 0 where
@@ -16,16 +16,6 @@ pub record Row : Type 0 where
 
 abbrev pub vectors : List Row → List Vec
 vectors = map (λ r. r .vector)
-
--- R3.2: step 2: shortest first; equal lengths stay in their order
-unfoldable pub insert : Row → List Row → List Row
-insert r [] = r ∷ []
-insert r (s ∷ rows) = elim (ltZ (N (s .vector)) (N (r .vector))) [ true ↦ s ∷ insert r rows | false ↦ r ∷ (s ∷ rows) ]
-
--- R3.2
-unfoldable pub order : List Row → List Row
-order [] = []
-order (r ∷ rows) = insert r (order rows)
 
 -- R3.3: the last of r, rows; and those before it
 abbrev pub lastOf : Row → List Row → Row
@@ -62,46 +52,9 @@ pub record Pass : Type 0 where
   pub last : Row
   pub passes : ℕ
 
--- R3.4, R3.7: steps 4 and 5, one pass: the vector nearest to the last one in the lattice of the others is subtracted from it
-abbrev pub pass : Counted → Row → Pass
-pass c r =
-    let x = nearest (vectors (c .rows)) (r .vector) in
-    record { first = credited x (r .v) (c .rows); last = less x (c .rows) r; passes = suc (c .passes) }
-
--- R3.3: steps 2 to 5, where `reduce` does step 3 for the first d−1 vectors
-abbrev pub round : (List Row → Counted) → List Row → Pass
-round reduce [] = record { first = []; last = record { vector = []; u = []; v = [] }; passes = 0 }
-round reduce (r ∷ rows) = pass (reduce (before r rows)) (lastOf r rows)
-
--- R3.6: step 6: is the last vector shorter than the one before it?
-abbrev pub shorter : Row → List Row → Bool
-shorter r [] = false
-shorter r (s ∷ rows) = ltZ (N (r .vector)) (N (lastOf s rows .vector))
-
 -- R3.6
 abbrev pub joined : Pass → List Row
 joined p = p .first ++ (p .last ∷ [])
-
--- R3.6: steps 2 to 6, repeated until the last vector is kept; the fuel is always enough (`greedy-steps` of greedy_reduction/specs/Fuel.antt)
-abbrev pub repeat : (List Row → Counted) → ℕ → List Row → Counted
-repeat reduce zero rows = record { rows = rows; passes = 0 }
-repeat reduce (suc fuel) rows =
-    let p = round reduce (order rows) in
-    elim (shorter (p .last) (p .first)) [
-      | false ↦ record { rows = joined p; passes = p .passes }
-      | true ↦ let c = repeat reduce fuel (joined p) in record { rows = c .rows; passes = p .passes + c .passes }
-    ]
-
--- the sum of the squared lengths, which falls at each repetition
-abbrev pub total : List Row → ℤ
-total [] = pos 0
-total (r ∷ rows) = N (r .vector) +ℤ total rows
-
--- R3.1 to R3.7: steps 1 to 6 for a list of d vectors
-unfoldable pub greedy : ℕ → List Row → Counted
-greedy zero rows = record { rows = rows; passes = 0 }
-greedy (suc zero) rows = record { rows = rows; passes = 0 }
-greedy (suc (suc d)) rows = repeat (greedy (suc d)) (suc (natAbs (total rows))) rows
 
 -- R3.8: the unit lists of d numbers: 1 at place i, else 0
 abbrev pub units : ℕ → List (List ℤ)
@@ -114,6 +67,83 @@ start [] es = []
 start (b ∷ bs) [] = []
 start (b ∷ bs) (e ∷ es) = record { vector = b; u = e; v = e } ∷ start bs es
 
--- R3: the greedy reduction of a list of vectors
+-- S is the squared length
+module _ (S : Vec → ℤ) where
+  -- R3.2: step 2: shortest first; equal lengths stay in their order
+  unfoldable pub insertBy : Row → List Row → List Row
+  insertBy r [] = r ∷ []
+  insertBy r (s ∷ rows) = elim (ltZ (S (s .vector)) (S (r .vector))) [ true ↦ s ∷ insertBy r rows | false ↦ r ∷ (s ∷ rows) ]
+
+  -- R3.2
+  unfoldable pub orderBy : List Row → List Row
+  orderBy [] = []
+  orderBy (r ∷ rows) = insertBy r (orderBy rows)
+
+  -- R3.4, R3.7: steps 4 and 5, one pass: the vector nearest to the last one in the lattice of the others is subtracted from it
+  abbrev pub passBy : Counted → Row → Pass
+  passBy c r =
+      let x = nearestBy S (vectors (c .rows)) (r .vector) in
+      record { first = credited x (r .v) (c .rows); last = less x (c .rows) r; passes = suc (c .passes) }
+
+  -- R3.3: steps 2 to 5, where `reduce` does step 3 for the first d−1 vectors
+  abbrev pub roundBy : (List Row → Counted) → List Row → Pass
+  roundBy reduce [] = record { first = []; last = record { vector = []; u = []; v = [] }; passes = 0 }
+  roundBy reduce (r ∷ rows) = passBy (reduce (before r rows)) (lastOf r rows)
+
+  -- R3.6: step 6: is the last vector shorter than the one before it?
+  abbrev pub shorterBy : Row → List Row → Bool
+  shorterBy r [] = false
+  shorterBy r (s ∷ rows) = ltZ (S (r .vector)) (S (lastOf s rows .vector))
+
+  -- R3.6: steps 2 to 6, repeated until the last vector is kept; the fuel is always enough (`greedy-steps` of greedy_reduction/specs/Fuel.antt)
+  abbrev pub repeatBy : (List Row → Counted) → ℕ → List Row → Counted
+  repeatBy reduce zero rows = record { rows = rows; passes = 0 }
+  repeatBy reduce (suc fuel) rows =
+      let p = roundBy reduce (orderBy rows) in
+      elim (shorterBy (p .last) (p .first)) [
+        | false ↦ record { rows = joined p; passes = p .passes }
+        | true ↦ let c = repeatBy reduce fuel (joined p) in record { rows = c .rows; passes = p .passes + c .passes }
+      ]
+
+  -- the sum of the squared lengths, which falls at each repetition
+  abbrev pub totalBy : List Row → ℤ
+  totalBy [] = pos 0
+  totalBy (r ∷ rows) = S (r .vector) +ℤ totalBy rows
+
+  -- R3.1 to R3.7: steps 1 to 6 for a list of d vectors
+  unfoldable pub greedyBy : ℕ → List Row → Counted
+  greedyBy zero rows = record { rows = rows; passes = 0 }
+  greedyBy (suc zero) rows = record { rows = rows; passes = 0 }
+  greedyBy (suc (suc d)) rows = repeatBy (greedyBy (suc d)) (suc (natAbs (totalBy rows))) rows
+
+  -- R3: the greedy reduction of a list of vectors
+  abbrev pub reductionBy : List Vec → Counted
+  reductionBy bs = greedyBy (length bs) (start bs (units (length bs)))
+
+-- R3: the same for vectors, whose squared length is N
+abbrev pub insert : Row → List Row → List Row
+insert = insertBy N
+
+abbrev pub order : List Row → List Row
+order = orderBy N
+
+abbrev pub pass : Counted → Row → Pass
+pass = passBy N
+
+abbrev pub round : (List Row → Counted) → List Row → Pass
+round = roundBy N
+
+abbrev pub shorter : Row → List Row → Bool
+shorter = shorterBy N
+
+abbrev pub repeat : (List Row → Counted) → ℕ → List Row → Counted
+repeat = repeatBy N
+
+abbrev pub total : List Row → ℤ
+total = totalBy N
+
+abbrev pub greedy : ℕ → List Row → Counted
+greedy = greedyBy N
+
 abbrev pub reduction : List Vec → Counted
-reduction bs = greedy (length bs) (start bs (units (length bs)))
+reduction = reductionBy N

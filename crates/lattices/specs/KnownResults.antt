@@ -6,8 +6,8 @@ use lib.IntN.{ℤ, pos, negℤ}
 use Rattle.integers.specs.All.{All}
 use Rattle.lattices.specs.Vector.{dot, _⊕_, _⊙_, comb}
 use Rattle.lattices.specs.Volume.{squaredVolume, isDependent}
-use Rattle.lattices.specs.Nearest.{least, nearest}
-use Rattle.lattices.specs.Greedy.{insert, order, credited, greedy}
+use Rattle.lattices.specs.Nearest.{least, nearest, leastBy, nearestBy}
+use Rattle.lattices.specs.Greedy.{insert, order, credited, greedy, greedyBy, insertBy, orderBy}
 use Rattle.lattices.specs.Refusal.{mostVectors, mostCoordinates}
 use Rattle.lattices.specs.Answer.{Reduction, Nearest, padded, table, noReduction, reductionOf, nearestOf}
 
@@ -92,5 +92,5 @@ Holds (reduces d m numbers r) = reductionOf (record { numbers = numbers; d = d; 
 Holds (nearest-to t d m numbers r) = nearestOf (record { numbers = numbers; d = d; m = m; target = t }) ≡ r
 
 pub known-results : All Holds known
-unfolding dot _⊕_ _⊙_ comb squaredVolume isDependent least nearest insert order credited greedy reductionOf nearestOf
+unfolding dot _⊕_ _⊙_ comb squaredVolume isDependent leastBy nearestBy insertBy orderBy credited greedyBy reductionOf nearestOf
 known-results = (refl, (refl, (refl, (refl, (refl, (refl, (refl, (refl, (refl, (refl, tt))))))))))

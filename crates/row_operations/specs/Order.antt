@@ -12,7 +12,7 @@ use lib.Seq.{length-take-le}
 use Rattle.integers.specs.Order.{leZ-true, leZ-false, <ℤ-ltZ, ≤ℤ-ltZ}
 use Rattle.integers.specs.Size.{Within}
 use Rattle.lattices.specs.Vector.{N, nth}
-use Rattle.lattices.specs.Greedy.{Row, insert, order}
+use Rattle.lattices.specs.Greedy.{Row, insert, order, insertBy, orderBy}
 use Rattle.row_operations.specs.Rows.{rowsOf}
 
 -- coordinates whose squares are far from 64 bits
@@ -126,7 +126,7 @@ insertAt-cons zero j r l = refl
 insertAt-cons (suc m) j r l = branch (λ k. r ∷ k) (longer l j) (insertAt-cons m (suc j) r (exchanged j l)) refl
 
 insertAt-first : (r : Row) (l s : List Row) → insertAt 0 (length l) (r ∷ l ++ s) ≡ insert r l ++ s
-unfolding insertAt exchanged insert
+unfolding insertAt exchanged insertBy
 insertAt-first r [] s = refl
 insertAt-first r (q ∷ l) s = branch (λ k. k ++ s) (longer (r ∷ q ∷ l) 0) (insertAt-cons (length l) 0 q (r ∷ l ++ s) ∙ ap (λ k. q ∷ k) (insertAt-first r l s)) refl
 
@@ -137,7 +137,7 @@ abbrev pub orderedFrom : ℕ → ℕ → List Row → List Row
 orderedFrom n i l = take i l ++ order (drop i (take n l)) ++ drop n l
 
 length-insert : (r : Row) (l : List Row) → length (insert r l) ≡ suc (length l)
-unfolding insert
+unfolding insertBy
 length-insert r [] = refl
 length-insert r (q ∷ l) = by (longer (r ∷ q ∷ l) 0) (length-insert r l)
   where
@@ -146,18 +146,18 @@ length-insert r (q ∷ l) = by (longer (r ∷ q ∷ l) 0) (length-insert r l)
     by false e = refl
 
 length-order : (l : List Row) → length (order l) ≡ length l
-unfolding order
+unfolding orderBy
 length-order [] = refl
 length-order (r ∷ l) = length-insert r (order l) ∙ ap suc (length-order l)
 
 pub orderedFrom-last : (n : ℕ) (l : List Row) → n ≤ length l → orderedFrom n n l ≡ l
-unfolding order
+unfolding orderBy
 orderedFrom-last zero l h = refl
 orderedFrom-last (suc n) [] h = absurd (omega arith)
 orderedFrom-last (suc n) (r ∷ l) h = ap (λ k. r ∷ k) (orderedFrom-last n l (omega arith))
 
 pub orderedFrom-next : (i m n : ℕ) (l : List Row) → n ≡ suc (i + m) → n ≤ length l → insertAt i m (orderedFrom n (suc i) l) ≡ orderedFrom n i l
-unfolding order
+unfolding orderBy
 orderedFrom-next i m zero l e h = absurd (omega arith)
 orderedFrom-next i m (suc n) [] e h = absurd (omega arith)
 orderedFrom-next zero m (suc n) (r ∷ l) e h =

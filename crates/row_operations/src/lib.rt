@@ -15,6 +15,13 @@ ghost use Rattle.row_operations.specs.RowStructs.{tableRow};
 ghost use Rattle.row_operations.specs.Order.{ShortRows, exchanged, insertAt};
 ghost use Rattle.row_operations.specs.Minus.{room};
 
+// How many coordinates a vector has.
+pub const WIDTH: usize = 4;
+
+pub type Vector = [i64; WIDTH];
+
+pub type Basis = [Vector; 4];
+
 // One vector.
 pub struct VectorRow {
     pub at: [i64; 4],

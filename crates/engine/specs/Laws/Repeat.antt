@@ -7,7 +7,7 @@ use lib.IntN.{natAbs}
 use lib.Signed.{ltZ}
 use lib.ListN.{getD, take, take-append-drop}
 use Rattle.lattices.specs.Vector.{N}
-use Rattle.lattices.specs.Greedy.{greedy, shorter, total}
+use Rattle.lattices.specs.Greedy.{greedy, shorter, total, greedyBy}
 use Rattle.row_operations.specs.declared.Work.{Work}
 use Rattle.row_operations.specs.Rows.{workOf}
 use Rattle.engine.specs.Laws.State.{rowsIn, blank, orderRows, greedyRows, ordered, passed, reduced}
@@ -18,7 +18,7 @@ use Rattle.engine.specs.Laws.Whole.{Whole, packed}
 
 -- step 1
 pub reduced-few : {w : Work} → Whole w → (n : ℕ) → n < 2 → reduced n w ≡ w
-unfolding reduced greedy
+unfolding reduced greedyBy
 reduced-few {w} h zero l = ap₂ workOf (take-append-drop 0 (rowsIn w)) (omega arith) ∙ packed h
 reduced-few {w} h (suc zero) l = ap₂ workOf (take-append-drop 1 (rowsIn w)) (omega arith) ∙ packed h
 reduced-few {w} h (suc (suc j)) l = absurd (omega arith)

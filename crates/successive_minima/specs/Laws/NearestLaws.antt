@@ -18,7 +18,7 @@ use Rattle.integers.specs.ListLaws.{nth-replicate}
 use Rattle.integers.specs.Lex.{below-irrefl, below-asymm, below-negtrans, below-last, below-<, below->, below-≡}
 use Rattle.lattices.specs.Vector.{Vec, N, dot, _⊙_, _⊖_, comb}
 use Rattle.lattices.specs.Laws.Vector.{_≈_, ≈-N, nil-dot, dot-⊙, bilinear, N-nonneg, comb-cons, comb-none, comb-zero, ⊖-zero, comb-snoc, comb-reverse}
-use Rattle.lattices.specs.Nearest.{value, below, lesser, outward, near, least, nearest}
+use Rattle.lattices.specs.Nearest.{value, below, lesser, outward, near, least, nearest, leastBy, nearestBy}
 use Rattle.exterior_algebra.specs.Sizes.{near-le}
 use Rattle.successive_minima.specs.Laws.Values.{Least}
 use Rattle.successive_minima.specs.Laws.ValueLaws.{least-only}
@@ -164,7 +164,7 @@ record Attained (bs : List Vec) (t : Vec) (l : List ℤ) : Type 0 where
   is : l ≡ value (reverse bs) t list
 
 least-attained : (bs : List Vec) (t : Vec) → Attained bs t (least bs t)
-unfolding least
+unfolding leastBy
 least-attained [] t = record { list = []; count = refl; is = ap (λ s. s ∷ []) (sym (≈-N (⊖-zero t (comb-none [])))) }
 least-attained (b ∷ bs) t = outward-ind (Attained (b ∷ bs) t) (λ j. least bs (t ⊖ j ⊙ b) ++ (j ∷ [])) (near b t) (λ j. at j (least-attained bs (t ⊖ j ⊙ b)))
     (suc (natAbs (pos 16 *ℤ N t))) 1 (least bs (t ⊖ pos 0 ⊙ b) ++ (pos 0 ∷ [])) (at (pos 0) (least-attained bs (t ⊖ pos 0 ⊙ b)))
@@ -238,7 +238,7 @@ module _ (b : Vec) (bs : List Vec) (t : Vec) where
   layer j = least bs (t ⊖ j ⊙ b) ++ (j ∷ [])
 
   least-cons : least (b ∷ bs) t ≡ outward layer (near b t) (suc (natAbs (pos 16 *ℤ N t))) 1 (layer (pos 0))
-  unfolding least
+  unfolding leastBy
   least-cons = refl
 
   layer-length : (j : ℤ) → length (layer j) ≡ suc (suc (length bs))
@@ -307,7 +307,7 @@ module _ (b : Vec) (bs : List Vec) (t : Vec) where
 
 -- the least value is below no value: first for the vectors last one first
 least-lower : (bs : List Vec) → Descending bs → length bs ≤ 4 → (t : Vec) (x : List ℤ) → length x ≡ length bs → below (value (reverse bs) t x) (least bs t) ≡ false
-unfolding least
+unfolding leastBy
 least-lower [] d h t [] e = below-≡ [] [] (≈-N (⊖-zero t (comb-none [])))
 least-lower [] d h t (y ∷ x) e = absurd (omega arith)
 least-lower (b ∷ bs) d h t x e =
@@ -317,7 +317,7 @@ least-lower (b ∷ bs) d h t x e =
 
 -- `nearest` has the least value over all integer lists
 pub nearest-least : (bs : List Vec) → Reduced bs → length bs ≤ 4 → (t : Vec) → Least bs t (nearest bs t)
-unfolding nearest
+unfolding nearestBy
 nearest-least bs d h t =
     let a = least-attained (reverse bs) t in
     let e : least (reverse bs) t ≡ value bs t (a .list) = a .is ∙ ap (λ cs. value cs t (a .list)) (reverse-reverse bs) in
@@ -335,7 +335,7 @@ nearest-only bs d h t y l = least-only bs t y (nearest bs t) l (nearest-least bs
 
 -- ---- what holds of every list, reduced or not
 attained : (bs : List Vec) (t : Vec) → (length (nearest bs t) ≡ length bs) × (least (reverse bs) t ≡ value bs t (nearest bs t))
-unfolding nearest
+unfolding nearestBy
 attained bs t =
     let a = least-attained (reverse bs) t in
     let e : least (reverse bs) t ≡ value bs t (a .list) = a .is ∙ ap (λ cs. value cs t (a .list)) (reverse-reverse bs) in
@@ -365,7 +365,7 @@ least-head-cons b bs t = subst (λ s. head (least (b ∷ bs) t) ≤ℤ s) (head-
     (rw (least-cons b bs t) (outward-best (layer b bs t) (near b t) (suc (suc (length bs))) (layer-length b bs t) (suc (natAbs (pos 16 *ℤ N t))) 1 (layer b bs t (pos 0)) (layer-length b bs t (pos 0)))))
 
 least-head : (bs : List Vec) (t : Vec) → head (least bs t) ≤ℤ N t
-unfolding head least
+unfolding head leastBy
 least-head [] t = ≤ℤ-refl (N t)
 least-head (b ∷ bs) t = ≤ℤ-trans (least-head-cons b bs t) (subst (λ s. head (least bs (t ⊖ pos 0 ⊙ b)) ≤ℤ s) (less-nothing b t) (least-head bs (t ⊖ pos 0 ⊙ b)))
 
