@@ -2,6 +2,5 @@
 pub mod Puts
 pub mod Joined
 pub mod Within
-pub mod Decimals
 pub mod Turned
 pub mod Signs

@@ -27,14 +27,16 @@ pub fn put_bytes(out: &mut [u8], at: usize, text: &[u8]) -> usize
     at + text.len()
 }
 
-// A number in decimal.
+// A number in decimal: all digits but the last, then the last.
 pub fn put_decimal(out: &mut [u8], at: usize, n: u64) -> usize
     requires { ⌜ at + length (decimal n) ≤ length (now out) ⌝ }
     ensures { λ r. ⌜ Puts (decimal n) (now (out .entry)) at (now (out .exit)) r ⌝ }
 {
-    let mut text = [0u8; 20];
-    let k = io::decimal(n, &mut text);
-    put_bytes(out, at, &text[..k])
+    if n < 10 {
+        return put_byte(out, at, 48 + n as u8);
+    }
+    let last = put_decimal(out, at, n / 10);
+    put_byte(out, last, 48 + (n % 10) as u8)
 }
 
 // The size of z. The least number's size is no i64, so one is added after the sign is turned.

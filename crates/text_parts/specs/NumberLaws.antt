@@ -1,16 +1,17 @@
 -- Why digits and values may be read from left to right, and why a value may be cut off at the first number that no i64 has.
 use mathlib.Core.Path.{_≡_, refl, sym, ap, _∙_}
 use mathlib.Core.Bool.{Bool, true, false, cond}
-use mathlib.Core.List.{List, [], _∷_}
+use mathlib.Core.List.{List, [], _∷_, _++_}
 use Prim.Native.Nat.{ℕ, zero, suc, _+_, _-_, _*_, _≤_, _<_, _^_, min}
 use native.Mathlib.Omega.{arith}
 use lib.ListN.{length, getD, drop, take, drop-of-length-le, length-drop}
-use lib.Seq.{drop-cons}
+use lib.Seq.{drop-cons, take-suc}
 use lib.IntN.{pos, negsuc, negℤ, _-ℤ_}
 use lib.Dec.{leb, ltb, eqb}
 use mir.Syntax.{w64}
 use mir.Val.{SFits}
 use borrow.Author.Tests.{leb-true, leb-false, eq-eqb, ne-eqb, lt-ltb, le-ltb}
+use Rattle.integers.specs.Tests.{both}
 use Rattle.text_parts.specs.declared.Kind.the-variants.{Unexpected, TooLarge}
 use Rattle.text_parts.specs.declared.Token.{Token}
 use Rattle.text_parts.specs.Numbers.{isDigit, leading, digits, value, beyond, withSign, wrong, read, sized, signedAt, minusAt, numberAt}
@@ -34,26 +35,21 @@ leading-next f s i h e = ap (leading f) (drop-next s i h) ∙ ap (λ t. cond t (
 pub leading-end : (f : ℕ → Bool) (s : List ℕ) (i : ℕ) → length s ≤ i → leading f (drop i s) ≡ 0
 leading-end f s i h = ap (leading f) (drop-of-length-le s h)
 
-value-grows : (n : ℕ) (s : List ℕ) → n ≤ value n s
-value-grows n [] = omega arith
-value-grows n (b ∷ bs) = omega (arith, value-grows (n * 10 + (b - 48)) bs)
+pub digit-range : (b : ℕ) → isDigit b ≡ true → (48 ≤ b) × (b ≤ 57)
+digit-range b e = let h = both (leb 48 b) (leb b 57) e in (leb-true 48 b (h .0), leb-true b 57 (h .1))
 
--- a value that is cut off on the way is cut off at the end
-value-cut : (n : ℕ) (s : List ℕ) → min beyond (value n s) ≡ min beyond (value (min beyond n) s)
-value-cut n s = go (leb n beyond) refl
-  where
-    go : (t : Bool) → leb n beyond ≡ t → min beyond (value n s) ≡ min beyond (value (min beyond n) s)
-    go true e =
-        let same : min beyond n ≡ n = omega (arith, leb-true n beyond e) in
-        ap (λ m. min beyond (value m s)) (sym same)
-    go false e = omega (arith, leb-false n beyond e, value-grows n s, value-grows (min beyond n) s)
+-- one digit more
+value-last : (n : ℕ) (s : List ℕ) (b : ℕ) → value n (s ++ (b ∷ [])) ≡ value n s * 10 + (b - 48)
+value-last n [] b = refl
+value-last n (a ∷ s) b = value-last (n * 10 + (a - 48)) s b
 
-pub value-next : (n : ℕ) (s : List ℕ) (i : ℕ)
-    → i < length s → min beyond (value n (drop i s)) ≡ min beyond (value (min beyond (n * 10 + (getD s i 0 - 48))) (drop (i + 1) s))
-value-next n s i h = ap (λ l. min beyond (value n l)) (drop-next s i h) ∙ value-cut (n * 10 + (getD s i 0 - 48)) (drop (i + 1) s)
-
-pub value-end : (n : ℕ) (s : List ℕ) (i : ℕ) → length s ≤ i → value n (drop i s) ≡ n
-value-end n s i h = ap (value n) (drop-of-length-le s h)
+-- a value that is cut off on the way is cut off with one digit more
+pub value-more : (s : List ℕ) (i n : ℕ) → i < length s → n ≡ min beyond (value 0 (take i s)) → min beyond (n * 10 + (getD s i 0 - 48)) ≡ min beyond (value 0 (take (i + 1) s))
+value-more s i n h e =
+    let e′ : i + 1 ≡ suc i = omega arith in
+    let more : value 0 (take (i + 1) s) ≡ value 0 (take i s) * 10 + (getD s i 0 - 48)
+    = ap (λ j. value 0 (take j s)) e′ ∙ ap (value 0) (take-suc s i 0 h) ∙ value-last 0 (take i s) (getD s i 0) in
+    omega (arith, more, e)
 
 pub neg-fits : (k : ℕ) → k < 2 ^ 63 → SFits w64 (negℤ (pos k))
 neg-fits zero h = record { sfits = omega arith }

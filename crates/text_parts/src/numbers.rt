@@ -1,7 +1,7 @@
 // Numbers as text.
 ghost use mathlib.Core.Path.{_≡_};
 ghost use Prim.Native.Nat.{_+_, _-_, _*_, _≤_, _<_, min};
-ghost use lib.ListN.{length};
+ghost use lib.ListN.{length, take};
 ghost use Rattle.text_parts.specs.Numbers.{isDigit, digits, value, beyond, withSign, wrong, signedAt, minusAt, numberAt};
 use super::Kind;
 use super::Token;
@@ -12,57 +12,45 @@ fn is_digit(b: u8) -> bool
     b >= 48 && b <= 57
 }
 
-fn digit(b: u8) -> u64
-    ensures { λ r. ⌜ r ≡ b - 48 ⌝ }
-    ensures { λ r. ⌜ r < 256 ⌝ }
-{
-    if b < 48 {
-        return 0;
-    }
-    (b - 48) as u64
+// The digits that bytes begin with: how many, and the number that they write, or where no i64 has it the least such number.
+struct Scan {
+    count: usize,
+    size: u64,
 }
 
-// How many digits the bytes begin with.
-fn digits(s: &[u8]) -> usize
-    ensures { λ r. ⌜ r ≡ digits (now (s .entry)) ⌝ }
-    ensures { λ r. ⌜ r ≤ length (now (s .entry)) ⌝ }
+// One digit more.
+fn shifted(n: u64, b: u8) -> u64
+    requires { ⌜ n ≤ beyond ⌝ }
+    requires { ⌜ (48 ≤ b) × (b ≤ 57) ⌝ }
+    ensures { λ r. ⌜ r ≡ min beyond (n * 10 + (b - 48)) ⌝ }
 {
-    let mut i = 0;
-    while i < s.len() {
-        if !is_digit(s[i]) {
-            return i;
-        }
-        i += 1;
+    if n < 922337203685477580 {
+        return n * 10 + (b - 48) as u64;
     }
-    i
-}
-
-// One digit more. A number that no i64 has stays at the least such number.
-fn shifted(n: u64, d: u64) -> u64
-    requires { ⌜ d < 256 ⌝ }
-    ensures { λ r. ⌜ r ≡ min beyond (n * 10 + d) ⌝ }
-{
     if n > 922337203685477580 {
         return 9223372036854775809;
     }
-    let m = n * 10 + d;
-    if m > 9223372036854775809 {
-        return 9223372036854775809;
-    }
-    m
+    // of the last digits only 9 leads beyond
+    9223372036854775800 + (b - 48) as u64
 }
 
-// The number that the digits write.
-fn value(s: &[u8]) -> u64
-    ensures { λ r. ⌜ r ≡ min beyond (value 0 (now (s .entry))) ⌝ }
+// The digits that the bytes begin with.
+fn digits(s: &[u8]) -> Scan
+    ensures { λ r. ⌜ r .count ≡ digits (now (s .entry)) ⌝ }
+    ensures { λ r. ⌜ r .size ≡ min beyond (value 0 (take (digits (now (s .entry))) (now (s .entry)))) ⌝ }
+    ensures { λ r. ⌜ r .count ≤ length (now (s .entry)) ⌝ }
 {
     let mut n = 0;
     let mut i = 0;
     while i < s.len() {
-        n = shifted(n, digit(s[i]));
+        let b = s[i];
+        if !is_digit(b) {
+            return Scan { count: i, size: n };
+        }
+        n = shifted(n, b);
         i += 1;
     }
-    n
+    Scan { count: i, size: n }
 }
 
 // n, or -n where minus is 1. The least number's size is no i64, so one is taken away after the sign is turned.
@@ -97,11 +85,11 @@ fn signed(s: &[u8], minus: usize) -> Token
     ensures { λ r. ⌜ r ≡ signedAt minus (now (s .entry)) ⌝ }
 {
     let n = digits(s);
-    if n == 0 {
+    if n.count == 0 {
         return wrong(Kind::Unexpected, 0);
     }
-    let size = value(&s[..n]);
-    let length = n + minus;
+    let size = n.size;
+    let length = n.count + minus;
     if size > 9223372036854775807 + minus as u64 {
         return wrong(Kind::TooLarge, length);
     }
