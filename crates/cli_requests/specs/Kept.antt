@@ -11,9 +11,9 @@ use lib.Seq.{take-all, length-take-le, take-append-le}
 use borrow.Author.Tests.{lt-ltb}
 use Rattle.text_parts.specs.Numbers.{leading}
 use Rattle.text_parts.specs.Tokens.{isBlank}
-use Rattle.cli_requests.specs.declared.replies.Command.{Command}
+use Rattle.cli_replies.specs.declared.Command.{Command}
 use Rattle.cli_requests.specs.Lines.{kept}
-use Rattle.cli_requests.specs.Replies.{reply, numberText, tooLong, answer}
+use Rattle.cli_replies.specs.Replies.{reply, numberText, tooLong, answer}
 use Rattle.cli_answers.specs.Answers.{errorText}
 
 module _ (command : Command) (numbered : Bool) (line : ℕ) where

@@ -4,10 +4,9 @@ ghost use Prim.Native.Nat.{_+_, _≤_};
 ghost use mathlib.Core.Path.{_≡_};
 ghost use lib.ListN.{length};
 use libc::STDIN_FILENO;
-use replies::Command;
+use cli_replies::Command;
 
 mod framing;
-mod replies;
 
 // How far the output is filled, and whether every write went through.
 struct Room {
@@ -79,7 +78,7 @@ fn answer_lines(
                 is_open: false,
             };
         }
-        at = replies::answer(
+        at = cli_replies::answer(
             command,
             numbered,
             &bytes[from..end],
@@ -176,7 +175,7 @@ fn finish(
     }
     let have = t.have;
     let line = t.line;
-    let at = replies::answer(
+    let at = cli_replies::answer(
         command,
         numbered,
         &bytes[..have],

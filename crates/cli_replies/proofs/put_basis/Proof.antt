@@ -12,9 +12,9 @@ use Rattle.lattices.specs.Answer.{reductionOf}
 use Rattle.engine.specs.Packed.{packed}
 use Rattle.text_output.specs.Puts.{Puts, puts-none}
 use Rattle.cli_answers.specs.Answers.{basisText}
-use Rattle.cli_requests.specs.Cases.{first-of, second-of}
-use Rattle.cli_requests.proofs.replies.put_basis.Statement.{statement}
-use Rattle.cli_requests.proofs.replies.put_basis.Tie as tie
+use Rattle.cli_replies.specs.Cases.{first-of, second-of}
+use Rattle.cli_replies.proofs.put_basis.Statement.{statement}
+use Rattle.cli_replies.proofs.put_basis.Tie as tie
 
 abbrev vectors : tie.Start → List ℕ
 vectors s = let a = s .args in basisText (a .d) (a .m) (packed (reductionOf (record { numbers = a .numbers .now; d = a .d; m = a .m; target = [] })))

@@ -3,11 +3,11 @@ ghost use mathlib.Core.Path.{_≡_};
 ghost use Prim.Native.Nat.{_+_, _≤_};
 ghost use lib.ListN.{length};
 ghost use Rattle.text_output.specs.Puts.{Puts};
-ghost use Rattle.cli_requests.specs.Replies.{mistakeText, reducedOf, reduceWith, reduceReply, basisOf, foundOn, withTarget, withVectors, nearestReply, reply, numberText, answer};
+ghost use Rattle.cli_replies.specs.Replies.{mistakeText, reducedOf, reduceWith, reduceReply, basisOf, foundOn, withTarget, withVectors, nearestReply, reply, numberText, answer};
 use text_parts::Kind;
 
 // What the lines ask for.
-pub(crate) enum Command {
+pub enum Command {
     Reduce,
     Nearest,
     NearestOnBasis,
@@ -257,7 +257,7 @@ fn put_line_number(out: &mut [u8], at: usize, numbered: bool, line: u64) -> usiz
 }
 
 // Answers a line: nothing where it holds nothing but blanks.
-pub(crate) fn answer(
+pub fn answer(
     command: Command,
     numbered: bool,
     s: &[u8],

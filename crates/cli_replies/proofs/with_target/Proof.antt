@@ -8,10 +8,10 @@ use lib.Seq.{length-take-le}
 use borrow.Author.Tests.{not-true, not-false}
 use Rattle.text_output.specs.Puts.{Puts}
 use Rattle.text_parts.specs.Parts.{isEnd, takenAt, partOf, filled}
-use Rattle.cli_requests.specs.Cases.{behind, numbers-of, first-of, second-of}
-use Rattle.cli_requests.specs.Replies.{mistakeText, foundOn}
-use Rattle.cli_requests.proofs.replies.with_target.Statement.{statement}
-use Rattle.cli_requests.proofs.replies.with_target.Tie as tie
+use Rattle.cli_replies.specs.Cases.{behind, numbers-of, first-of, second-of}
+use Rattle.cli_replies.specs.Replies.{mistakeText, foundOn}
+use Rattle.cli_replies.proofs.with_target.Statement.{statement}
+use Rattle.cli_replies.proofs.with_target.Tie as tie
 
 read-part-requires : tie.Need-read-part-requires
 read-part-requires c κs = search needs

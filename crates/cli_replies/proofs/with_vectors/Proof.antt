@@ -8,10 +8,10 @@ use lib.Seq.{length-take-le}
 use borrow.Author.Tests.{not-true, not-false}
 use Rattle.text_output.specs.Puts.{Puts}
 use Rattle.text_parts.specs.Parts.{isSemicolon, takenAt, partOf, filled}
-use Rattle.cli_requests.specs.Cases.{behind, numbers-of, first-of, second-of}
-use Rattle.cli_requests.specs.Replies.{mistakeText, withTarget}
-use Rattle.cli_requests.proofs.replies.with_vectors.Statement.{statement}
-use Rattle.cli_requests.proofs.replies.with_vectors.Tie as tie
+use Rattle.cli_replies.specs.Cases.{behind, numbers-of, first-of, second-of}
+use Rattle.cli_replies.specs.Replies.{mistakeText, withTarget}
+use Rattle.cli_replies.proofs.with_vectors.Statement.{statement}
+use Rattle.cli_replies.proofs.with_vectors.Tie as tie
 
 read-part-requires : tie.Need-read-part-requires
 read-part-requires c κs = search needs

@@ -8,10 +8,10 @@ use borrow.Author.Tests.{not-true, not-false}
 use Rattle.text_output.specs.Puts.{Puts}
 use Rattle.text_parts.specs.Parts.{isSemicolon}
 use Rattle.text_parts.specs.Counts.{countsAt}
-use Rattle.cli_requests.specs.Cases.{behind, first-of, second-of}
-use Rattle.cli_requests.specs.Replies.{mistakeText, reduceWith}
-use Rattle.cli_requests.proofs.replies.reduce.Statement.{statement}
-use Rattle.cli_requests.proofs.replies.reduce.Tie as tie
+use Rattle.cli_replies.specs.Cases.{behind, first-of, second-of}
+use Rattle.cli_replies.specs.Replies.{mistakeText, reduceWith}
+use Rattle.cli_replies.proofs.reduce.Statement.{statement}
+use Rattle.cli_replies.proofs.reduce.Tie as tie
 
 read-counts-requires : tie.Need-read-counts-requires
 read-counts-requires c κs = search needs

@@ -4,9 +4,9 @@ use Prim.Native.Nat.{_≤_, _-_}
 use mathlib.Core.Path.{sym, subst}
 use native.Mathlib.Omega.{arith}
 use Rattle.text_output.specs.Puts.{Puts}
-use Rattle.cli_requests.specs.Replies.{mistakeText}
-use Rattle.cli_requests.proofs.replies.put_mistake.Statement.{statement}
-use Rattle.cli_requests.proofs.replies.put_mistake.Tie as tie
+use Rattle.cli_replies.specs.Replies.{mistakeText}
+use Rattle.cli_replies.proofs.put_mistake.Statement.{statement}
+use Rattle.cli_replies.proofs.put_mistake.Tie as tie
 
 enum-told : tie.Need-enum-told
 enum-told c = search needs

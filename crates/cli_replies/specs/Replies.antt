@@ -15,8 +15,8 @@ use Rattle.text_parts.specs.Tokens.{isBlank}
 use Rattle.text_parts.specs.Parts.{isSemicolon, isEnd, takenAt}
 use Rattle.text_parts.specs.Counts.{countsAt}
 use Rattle.cli_answers.specs.Answers.{errorText, reductionText, basisText, nearestText}
-use Rattle.cli_requests.specs.declared.replies.Command.{Command}
-use Rattle.cli_requests.specs.declared.replies.Command.the-variants.{Reduce, Nearest, NearestOnBasis}
+use Rattle.cli_replies.specs.declared.Command.{Command}
+use Rattle.cli_replies.specs.declared.Command.the-variants.{Reduce, Nearest, NearestOnBasis}
 
 -- ---- what is wrong where a part stops in a way that it may not
 

@@ -4,8 +4,8 @@ use Prim.Native.Nat.{_≤_, _-_}
 use mathlib.Core.Path.{subst}
 use Rattle.text_output.specs.Puts.{Puts}
 use Rattle.cli_answers.specs.Answers.{reductionText}
-use Rattle.cli_requests.proofs.replies.put_reduction.Statement.{statement}
-use Rattle.cli_requests.proofs.replies.put_reduction.Tie as tie
+use Rattle.cli_replies.proofs.put_reduction.Statement.{statement}
+use Rattle.cli_replies.proofs.put_reduction.Tie as tie
 
 reduce-requires : tie.Need-reduce-requires
 reduce-requires c κs = search needs

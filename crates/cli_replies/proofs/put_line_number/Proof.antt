@@ -7,9 +7,9 @@ use native.Mathlib.Omega.{arith}
 use borrow.Author.Tests.{not-true, not-false}
 use Rattle.integers.specs.Decimal.{decimal}
 use Rattle.text_output.specs.Puts.{Puts, puts-none, puts-then}
-use Rattle.cli_requests.specs.Cases.{first-of, second-of}
-use Rattle.cli_requests.proofs.replies.put_line_number.Statement.{statement}
-use Rattle.cli_requests.proofs.replies.put_line_number.Tie as tie
+use Rattle.cli_replies.specs.Cases.{first-of, second-of}
+use Rattle.cli_replies.proofs.put_line_number.Statement.{statement}
+use Rattle.cli_replies.proofs.put_line_number.Tie as tie
 
 returns : tie.Need-returns
 returns c =

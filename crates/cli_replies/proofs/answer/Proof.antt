@@ -13,10 +13,10 @@ use Rattle.text_output.specs.Puts.{Puts, puts-none, puts-then}
 use Rattle.text_parts.specs.Numbers.{leading}
 use Rattle.text_parts.specs.Tokens.{isBlank}
 use Rattle.cli_answers.specs.Answers.{errorText}
-use Rattle.cli_requests.specs.Replies.{reply, numberText, tooLong}
-use Rattle.cli_requests.specs.Cases.{first-of, second-of}
-use Rattle.cli_requests.proofs.replies.answer.Statement.{statement}
-use Rattle.cli_requests.proofs.replies.answer.Tie as tie
+use Rattle.cli_replies.specs.Replies.{reply, numberText, tooLong}
+use Rattle.cli_replies.specs.Cases.{first-of, second-of}
+use Rattle.cli_replies.proofs.answer.Statement.{statement}
+use Rattle.cli_replies.proofs.answer.Tie as tie
 
 put-line-number-requires : tie.Need-put-line-number-requires
 put-line-number-requires c κs = search needs

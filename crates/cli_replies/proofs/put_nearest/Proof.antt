@@ -6,9 +6,9 @@ use mathlib.Core.List.{_++_}
 use native.Mathlib.Omega.{arith}
 use Rattle.text_output.specs.Puts.{Puts, puts-then}
 use Rattle.cli_answers.specs.Answers.{nearestText}
-use Rattle.cli_requests.specs.Replies.{basisOf}
-use Rattle.cli_requests.proofs.replies.put_nearest.Statement.{statement}
-use Rattle.cli_requests.proofs.replies.put_nearest.Tie as tie
+use Rattle.cli_replies.specs.Replies.{basisOf}
+use Rattle.cli_replies.proofs.put_nearest.Statement.{statement}
+use Rattle.cli_replies.proofs.put_nearest.Tie as tie
 
 nearest-requires : tie.Need-nearest-requires
 nearest-requires c κs = search needs
