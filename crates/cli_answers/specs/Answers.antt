@@ -1,5 +1,5 @@
 -- The text of each answer, as bytes: what the command line writes for it.
-use mathlib.Core.Bool.{cond}
+use mathlib.Core.Bool.{Bool, cond}
 use mathlib.Core.List.{List, [], _∷_, _++_, map}
 use Prim.Native.Nat.{ℕ}
 use lib.Dec.{eqb}
@@ -11,6 +11,7 @@ use Rattle.fold_rules.specs.Listing.{refusedWord}
 use Rattle.text_output.specs.Joined.{joined}
 use Rattle.engine.specs.declared.Reduction.{Reduction}
 use Rattle.engine.specs.declared.NearestVector.{NearestVector}
+use Rattle.engine.specs.declared.lattice.MemberAnswer.{MemberAnswer}
 use Rattle.cli_output.specs.Rows.{rowLine}
 
 -- "refused", the number and the place
@@ -56,3 +57,12 @@ foundText d m a = line nearestWord (signed (a .square) ∷ []) ++ (rowLine 99 d 
 
 abbrev pub nearestText : (d m : ℕ) → NearestVector → List ℕ
 nearestText d m a = cond (eqb (a .refusal) 0) (foundText d m a) (refusedText (a .refusal) (a .place))
+
+-- ---- a membership
+
+-- "yes", or "no"
+abbrev pub yesOrNo : Bool → List ℕ
+yesOrNo member = cond member (121 ∷ 101 ∷ 115 ∷ 10 ∷ []) (110 ∷ 111 ∷ 10 ∷ [])
+
+abbrev pub membershipText : MemberAnswer → List ℕ
+membershipText a = cond (eqb (a .refusal) 0) (yesOrNo (a .member)) (refusedText (a .refusal) (a .place))

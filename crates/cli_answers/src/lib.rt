@@ -3,7 +3,7 @@
 ghost use Prim.Native.Nat.{_+_, _≤_};
 ghost use lib.ListN.{length};
 ghost use Rattle.text_output.specs.Puts.{Puts};
-ghost use Rattle.cli_answers.specs.Answers.{refusedText, errorText, reducedText, reductionText, foundText, nearestText, basisText};
+ghost use Rattle.cli_answers.specs.Answers.{refusedText, errorText, reducedText, reductionText, foundText, nearestText, basisText, yesOrNo, membershipText};
 
 pub mod refusals;
 
@@ -101,4 +101,28 @@ pub fn put_nearest(out: &mut [u8], at: usize, a: engine::NearestVector, d: usize
         return put_refused(out, at, a.refusal, a.place);
     }
     put_found(out, at, a, d, m)
+}
+
+// Yes or no, a line.
+fn put_yes_or_no(out: &mut [u8], at: usize, member: bool) -> usize
+    requires { ⌜ at + 4 ≤ length (now out) ⌝ }
+    ensures { λ r. ⌜ Puts (yesOrNo member) (now (out .entry)) at (now (out .exit)) r ⌝ }
+    ensures { λ r. ⌜ r ≤ at + 4 ⌝ }
+{
+    if member {
+        return text_output::put_bytes(out, at, b"yes\n");
+    }
+    text_output::put_bytes(out, at, b"no\n")
+}
+
+// The answer to whether a target is in a lattice.
+pub fn put_membership(out: &mut [u8], at: usize, a: engine::MemberAnswer) -> usize
+    requires { ⌜ at + 50 ≤ length (now out) ⌝ }
+    ensures { λ r. ⌜ Puts (membershipText a) (now (out .entry)) at (now (out .exit)) r ⌝ }
+    ensures { λ r. ⌜ r ≤ at + 50 ⌝ }
+{
+    if a.refusal != 0 {
+        return put_refused(out, at, a.refusal, a.place);
+    }
+    put_yes_or_no(out, at, a.member)
 }

@@ -6,17 +6,19 @@ use lib.Dec.{eqb, ltb}
 use lib.IntN.{ℤ}
 use lib.ListN.{length, drop}
 use Rattle.integers.specs.Decimal.{decimal}
-use Rattle.lattices.specs.Answer.{reductionOf, nearestOf}
-use Rattle.engine.specs.Packed.{packed, packedNearest}
+use Rattle.lattices.specs.Answer.{reductionOf, nearestOf, membershipOf}
+use Rattle.engine.specs.Packed.{packed, packedNearest, packedMembership}
 use Rattle.text_parts.specs.declared.Kind.{Kind}
 use Rattle.text_parts.specs.declared.Kind.the-variants.{Number, Semicolon, End, Unexpected, TooLarge, TooMany, NoCount}
 use Rattle.text_parts.specs.Numbers.{leading}
 use Rattle.text_parts.specs.Tokens.{isBlank}
 use Rattle.text_parts.specs.Parts.{isSemicolon, isEnd, takenAt}
 use Rattle.text_parts.specs.Counts.{countsAt}
-use Rattle.cli_answers.specs.Answers.{errorText, reductionText, basisText, nearestText}
+use Rattle.cli_answers.specs.Answers.{errorText, reductionText, basisText, nearestText, membershipText}
 use Rattle.cli_replies.specs.declared.Command.{Command}
-use Rattle.cli_replies.specs.declared.Command.the-variants.{Reduce, Nearest, NearestOnBasis}
+use Rattle.cli_replies.specs.declared.Command.the-variants.{Reduce, Nearest, NearestOnBasis, Member}
+use Rattle.cli_replies.specs.declared.Wanted.{Wanted}
+use Rattle.cli_replies.specs.declared.Wanted.the-variants.{Vector, VectorOnBasis, Membership}
 
 -- ---- what is wrong where a part stops in a way that it may not
 
@@ -64,22 +66,32 @@ abbrev pub foundOn : (with : Bool) (d m : ℕ) → List ℤ → List ℤ → Lis
 foundOn with d m numbers target =
     let a = packedNearest (nearestOf (record { numbers = numbers; d = d; m = m; target = target })) in basisOf with (a .refusal) d m numbers ++ nearestText d m a
 
-abbrev pub withTarget : (with : Bool) (line d m : ℕ) → List ℤ → List ℕ → List ℕ
-withTarget with line d m numbers s = let p = takenAt 2048 s in cond (isEnd (p .stop)) (foundOn with d m numbers (p .numbers)) (mistakeText line (p .stop))
+abbrev pub memberOn : (d m : ℕ) → List ℤ → List ℤ → List ℕ
+memberOn d m numbers target = membershipText (packedMembership (membershipOf (record { numbers = numbers; d = d; m = m; target = target })))
 
-abbrev pub withVectors : (with : Bool) (line d m : ℕ) → List ℕ → List ℕ
-withVectors with line d m s =
-    let p = takenAt 2048 s in cond (isSemicolon (p .stop)) (withTarget with line d m (p .numbers) (drop (p .length) s)) (mistakeText line (p .stop))
+-- what is asked about the target
+abbrev pub wantedOf : Wanted → (d m : ℕ) → List ℤ → List ℤ → List ℕ
+wantedOf Vector d m numbers target = foundOn false d m numbers target
+wantedOf VectorOnBasis d m numbers target = foundOn true d m numbers target
+wantedOf Membership d m numbers target = memberOn d m numbers target
 
-abbrev pub nearestReply : (with : Bool) → ℕ → List ℕ → List ℕ
-nearestReply with line s = let c = countsAt s in cond (isSemicolon (c .stop)) (withVectors with line (c .d) (c .m) (drop (c .length) s)) (mistakeText line (c .stop))
+abbrev pub withTarget : Wanted → (line d m : ℕ) → List ℤ → List ℕ → List ℕ
+withTarget wanted line d m numbers s = let p = takenAt 2048 s in cond (isEnd (p .stop)) (wantedOf wanted d m numbers (p .numbers)) (mistakeText line (p .stop))
+
+abbrev pub withVectors : Wanted → (line d m : ℕ) → List ℕ → List ℕ
+withVectors wanted line d m s =
+    let p = takenAt 2048 s in cond (isSemicolon (p .stop)) (withTarget wanted line d m (p .numbers) (drop (p .length) s)) (mistakeText line (p .stop))
+
+abbrev pub targetReply : Wanted → ℕ → List ℕ → List ℕ
+targetReply wanted line s = let c = countsAt s in cond (isSemicolon (c .stop)) (withVectors wanted line (c .d) (c .m) (drop (c .length) s)) (mistakeText line (c .stop))
 
 -- ---- a line
 
 abbrev pub reply : Command → ℕ → List ℕ → List ℕ
 reply Reduce line s = reduceReply line s
-reply Nearest line s = nearestReply false line s
-reply NearestOnBasis line s = nearestReply true line s
+reply Nearest line s = targetReply Vector line s
+reply NearestOnBasis line s = targetReply VectorOnBasis line s
+reply Member line s = targetReply Membership line s
 
 -- the line's number before its answer, where it is asked for
 abbrev pub numberText : Bool → ℕ → List ℕ

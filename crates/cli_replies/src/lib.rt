@@ -3,7 +3,7 @@ ghost use mathlib.Core.Path.{_≡_};
 ghost use Prim.Native.Nat.{_+_, _≤_};
 ghost use lib.ListN.{length};
 ghost use Rattle.text_output.specs.Puts.{Puts};
-ghost use Rattle.cli_replies.specs.Replies.{mistakeText, reducedOf, reduceWith, reduceReply, basisOf, foundOn, withTarget, withVectors, nearestReply, reply, numberText, answer};
+ghost use Rattle.cli_replies.specs.Replies.{mistakeText, reducedOf, reduceWith, reduceReply, basisOf, foundOn, memberOn, wantedOf, withTarget, withVectors, targetReply, reply, numberText, answer};
 use text_parts::Kind;
 
 // What the lines ask for.
@@ -11,6 +11,14 @@ pub enum Command {
     Reduce,
     Nearest,
     NearestOnBasis,
+    Member,
+}
+
+// What is asked about a target.
+pub enum Wanted {
+    Vector,
+    VectorOnBasis,
+    Membership,
 }
 
 // What is wrong where a part stops in a way that it may not.
@@ -121,11 +129,48 @@ fn put_nearest(
     cli_answers::put_nearest(out, k, a, d, m)
 }
 
-// Answers the last part of a search, the target.
+// Whether the target is in the lattice.
+fn put_member(
+    out: &mut [u8],
+    at: usize,
+    d: usize,
+    m: usize,
+    numbers: &[i64],
+    target: &[i64],
+) -> usize
+    requires { ⌜ at + 50 ≤ length (now out) ⌝ }
+    ensures { λ r. ⌜ Puts (memberOn d m (now (numbers .entry)) (now (target .entry))) (now (out .entry)) at (now (out .exit)) r ⌝ }
+    ensures { λ r. ⌜ r ≤ at + 50 ⌝ }
+{
+    cli_answers::put_membership(out, at, engine::membership(numbers, d, m, target))
+}
+
+// What is asked about the target.
+fn put_wanted(
+    out: &mut [u8],
+    at: usize,
+    wanted: Wanted,
+    d: usize,
+    m: usize,
+    numbers: &[i64],
+    target: &[i64],
+) -> usize
+    requires { ⌜ at + 545 ≤ length (now out) ⌝ }
+    ensures { λ r. ⌜ Puts (wantedOf wanted d m (now (numbers .entry)) (now (target .entry))) (now (out .entry)) at (now (out .exit)) r ⌝ }
+    ensures { λ r. ⌜ r ≤ at + 545 ⌝ }
+{
+    match wanted {
+        Wanted::Vector => put_nearest(out, at, false, d, m, numbers, target),
+        Wanted::VectorOnBasis => put_nearest(out, at, true, d, m, numbers, target),
+        Wanted::Membership => put_member(out, at, d, m, numbers, target),
+    }
+}
+
+// Answers the last part of a request with a target, the target.
 fn with_target(
     out: &mut [u8],
     at: usize,
-    basis: bool,
+    wanted: Wanted,
     line: u64,
     d: usize,
     m: usize,
@@ -135,7 +180,7 @@ fn with_target(
 ) -> usize
     requires { ⌜ at + 545 ≤ length (now out) ⌝ }
     requires { ⌜ length (now target) ≡ 2048 ⌝ }
-    ensures { λ r. ⌜ Puts (withTarget basis line d m (now (numbers .entry)) (now (s .entry))) (now (out .entry)) at (now (out .exit)) r ⌝ }
+    ensures { λ r. ⌜ Puts (withTarget wanted line d m (now (numbers .entry)) (now (s .entry))) (now (out .entry)) at (now (out .exit)) r ⌝ }
     ensures { λ r. ⌜ r ≤ at + 545 ⌝ }
 {
     let part = text_parts::read_part(s, target);
@@ -144,14 +189,14 @@ fn with_target(
         return put_mistake(out, at, line, stop);
     }
     let n = part.count;
-    put_nearest(out, at, basis, d, m, numbers, &target[..n])
+    put_wanted(out, at, wanted, d, m, numbers, &target[..n])
 }
 
-// Answers the parts after the first of a search, vectors and target.
+// Answers the parts after the first of such a request, vectors and target.
 fn with_vectors(
     out: &mut [u8],
     at: usize,
-    basis: bool,
+    wanted: Wanted,
     line: u64,
     d: usize,
     m: usize,
@@ -162,7 +207,7 @@ fn with_vectors(
     requires { ⌜ at + 545 ≤ length (now out) ⌝ }
     requires { ⌜ length (now numbers) ≡ 2048 ⌝ }
     requires { ⌜ length (now target) ≡ 2048 ⌝ }
-    ensures { λ r. ⌜ Puts (withVectors basis line d m (now (s .entry))) (now (out .entry)) at (now (out .exit)) r ⌝ }
+    ensures { λ r. ⌜ Puts (withVectors wanted line d m (now (s .entry))) (now (out .entry)) at (now (out .exit)) r ⌝ }
     ensures { λ r. ⌜ r ≤ at + 545 ⌝ }
 {
     let part = text_parts::read_part(s, numbers);
@@ -175,7 +220,7 @@ fn with_vectors(
     with_target(
         out,
         at,
-        basis,
+        wanted,
         line,
         d,
         m,
@@ -186,10 +231,10 @@ fn with_vectors(
 }
 
 // Answers `d m ; numbers ; target`.
-fn nearest(
+fn about_target(
     out: &mut [u8],
     at: usize,
-    basis: bool,
+    wanted: Wanted,
     line: u64,
     s: &[u8],
     numbers: &mut [i64],
@@ -198,7 +243,7 @@ fn nearest(
     requires { ⌜ at + 545 ≤ length (now out) ⌝ }
     requires { ⌜ length (now numbers) ≡ 2048 ⌝ }
     requires { ⌜ length (now target) ≡ 2048 ⌝ }
-    ensures { λ r. ⌜ Puts (nearestReply basis line (now (s .entry))) (now (out .entry)) at (now (out .exit)) r ⌝ }
+    ensures { λ r. ⌜ Puts (targetReply wanted line (now (s .entry))) (now (out .entry)) at (now (out .exit)) r ⌝ }
     ensures { λ r. ⌜ r ≤ at + 545 ⌝ }
 {
     let counts = text_parts::first_part::read_counts(s);
@@ -210,7 +255,7 @@ fn nearest(
     with_vectors(
         out,
         at,
-        basis,
+        wanted,
         line,
         counts.d,
         counts.m,
@@ -238,8 +283,11 @@ fn put_reply(
 {
     match command {
         Command::Reduce => reduce(out, at, line, s, numbers),
-        Command::Nearest => nearest(out, at, false, line, s, numbers, target),
-        Command::NearestOnBasis => nearest(out, at, true, line, s, numbers, target),
+        Command::Nearest => about_target(out, at, Wanted::Vector, line, s, numbers, target),
+        Command::NearestOnBasis => {
+            about_target(out, at, Wanted::VectorOnBasis, line, s, numbers, target)
+        }
+        Command::Member => about_target(out, at, Wanted::Membership, line, s, numbers, target),
     }
 }
 

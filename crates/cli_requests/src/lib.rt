@@ -3,8 +3,8 @@
 ghost use Prim.Native.Nat.{_+_, _≤_};
 ghost use mathlib.Core.Path.{_≡_};
 ghost use lib.ListN.{length};
-use libc::STDIN_FILENO;
 use cli_replies::Command;
+use libc::STDIN_FILENO;
 
 mod framing;
 

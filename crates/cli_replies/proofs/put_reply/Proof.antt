@@ -1,6 +1,5 @@
 -- One case for each command.
 use borrow.Author.Needs.{needs}
-use Prim.Native.Nat.{_≤_, _-_}
 use mathlib.Core.Path.{sym, subst}
 use native.Mathlib.Omega.{arith}
 use Rattle.text_output.specs.Puts.{Puts}
@@ -17,14 +16,20 @@ reduce-requires c κs = search needs
 enum-told-2 : tie.Need-enum-told-2
 enum-told-2 c = search needs
 
-nearest-requires : tie.Need-nearest-requires
-nearest-requires c κs = search needs
+about-target-requires : tie.Need-about-target-requires
+about-target-requires c κs = search needs
 
 enum-told-3 : tie.Need-enum-told-3
 enum-told-3 c = search needs
 
-nearest-requires-2 : tie.Need-nearest-requires-2
-nearest-requires-2 c κs = search needs
+about-target-requires-2 : tie.Need-about-target-requires-2
+about-target-requires-2 c κs = search needs
+
+enum-told-4 : tie.Need-enum-told-4
+enum-told-4 c = search needs
+
+about-target-requires-3 : tie.Need-about-target-requires-3
+about-target-requires-3 c κs = search needs
 
 same-length : tie.Need-same-length
 same-length c = search needs
@@ -51,7 +56,7 @@ returns-2 : tie.Need-returns-2
 returns-2 c =
     let p = c .before .before .before .before in
     let a = c .before .before .before .before .before .before .before .before .before .before .before .before .args in
-    (subst (λ k. Puts (reply k (a .line) (a .s .now)) (a .out .now) (a .at) (p .nearest .last .0) (p .nearest .result)) (sym (c .before .before .before .before .before .before .before .before .enum-told2 .given .1)) (p .nearest .ensures .0), omega (arith, p .nearest .ensures .1))
+    (subst (λ k. Puts (reply k (a .line) (a .s .now)) (a .out .now) (a .at) (p .about-target .last .0) (p .about-target .result)) (sym (c .before .before .before .before .before .before .before .before .enum-told2 .given .1)) (p .about-target .ensures .0), omega (arith, p .about-target .ensures .1))
 
 same-length-6 : tie.Need-same-length-6
 same-length-6 c = search needs
@@ -66,7 +71,22 @@ returns-3 : tie.Need-returns-3
 returns-3 c =
     let p = c .before .before .before .before in
     let a = c .before .before .before .before .before .before .before .before .before .before .before .before .args in
-    (subst (λ k. Puts (reply k (a .line) (a .s .now)) (a .out .now) (a .at) (p .nearest2 .last .0) (p .nearest2 .result)) (sym (c .before .before .before .before .before .before .before .before .enum-told3 .given .1)) (p .nearest2 .ensures .0), omega (arith, p .nearest2 .ensures .1))
+    (subst (λ k. Puts (reply k (a .line) (a .s .now)) (a .out .now) (a .at) (p .about-target2 .last .0) (p .about-target2 .result)) (sym (c .before .before .before .before .before .before .before .before .enum-told3 .given .1)) (p .about-target2 .ensures .0), omega (arith, p .about-target2 .ensures .1))
+
+same-length-9 : tie.Need-same-length-9
+same-length-9 c = search needs
+
+same-length-10 : tie.Need-same-length-10
+same-length-10 c = search needs
+
+same-length-11 : tie.Need-same-length-11
+same-length-11 c = search needs
+
+returns-4 : tie.Need-returns-4
+returns-4 c =
+    let p = c .before .before .before .before in
+    let a = c .before .before .before .before .before .before .before .before .before .before .before .before .args in
+    (subst (λ k. Puts (reply k (a .line) (a .s .now)) (a .out .now) (a .at) (p .about-target3 .last .0) (p .about-target3 .result)) (sym (c .before .before .before .before .before .before .before .before .enum-told4 .given .1)) (p .about-target3 .ensures .0), omega (arith, p .about-target3 .ensures .1))
 
 pub put-reply-spec : {M : Type 1} → statement M
 put-reply-spec =
@@ -75,9 +95,11 @@ put-reply-spec =
     enum-told
     reduce-requires
     enum-told-2
-    nearest-requires
+    about-target-requires
     enum-told-3
-    nearest-requires-2
+    about-target-requires-2
+    enum-told-4
+    about-target-requires-3
     same-length
     same-length-2
     returns
@@ -88,4 +110,8 @@ put-reply-spec =
     same-length-6
     same-length-7
     same-length-8
-    returns-3)
+    returns-3
+    same-length-9
+    same-length-10
+    same-length-11
+    returns-4)

@@ -9,7 +9,7 @@ use borrow.Author.Tests.{not-true, not-false}
 use Rattle.text_output.specs.Puts.{Puts}
 use Rattle.text_parts.specs.Parts.{isEnd, takenAt, partOf, filled}
 use Rattle.cli_replies.specs.Cases.{behind, numbers-of, first-of, second-of}
-use Rattle.cli_replies.specs.Replies.{mistakeText, foundOn}
+use Rattle.cli_replies.specs.Replies.{mistakeText, wantedOf}
 use Rattle.cli_replies.proofs.with_target.Statement.{statement}
 use Rattle.cli_replies.proofs.with_target.Tie as tie
 
@@ -46,17 +46,17 @@ returns c =
     let r = c .before .before .before .before .before .before .before in
     let a = c .before .before .before .before .before .before .before .before .before .before .before .args in
     let q = takenAt 2048 (a .s .now) in
-    let text = ap (λ x. mistakeText (a .line) (x .stop)) (part r) ∙ second-of (foundOn (a .basis) (a .d) (a .m) (a .numbers .now) (q .numbers)) (mistakeText (a .line) (q .stop)) (sym (stops (c .before .before .before .before .before)) ∙ not-true _ (c .before .before .before .before .if1 .taken)) in
+    let text = ap (λ x. mistakeText (a .line) (x .stop)) (part r) ∙ second-of (wantedOf (a .wanted) (a .d) (a .m) (a .numbers .now) (q .numbers)) (mistakeText (a .line) (q .stop)) (sym (stops (c .before .before .before .before .before)) ∙ not-true _ (c .before .before .before .before .if1 .taken)) in
     (subst (λ t. Puts t (a .out .now) (a .at) (p .put-mistake .last .0) (p .put-mistake .result)) text (p .put-mistake .ensures .0), omega (arith, p .put-mistake .ensures .1))
 
-slice-reshare-prefix-put-nearest : tie.Need-slice-reshare-prefix-put-nearest
-slice-reshare-prefix-put-nearest c = search needs
+slice-reshare-prefix-put-wanted : tie.Need-slice-reshare-prefix-put-wanted
+slice-reshare-prefix-put-wanted c = search needs
 
-slice-aggregate-put-nearest : tie.Need-slice-aggregate-put-nearest
-slice-aggregate-put-nearest c = sym (length-take-le _ _ (omega (arith, c .before .before .before .before .before .read-part .ensures .1 .1 .0)))
+slice-aggregate-put-wanted : tie.Need-slice-aggregate-put-wanted
+slice-aggregate-put-wanted c = sym (length-take-le _ _ (omega (arith, c .before .before .before .before .before .read-part .ensures .1 .1 .0)))
 
-put-nearest-requires : tie.Need-put-nearest-requires
-put-nearest-requires c κs = search needs
+put-wanted-requires : tie.Need-put-wanted-requires
+put-wanted-requires c κs = search needs
 
 same-length-3 : tie.Need-same-length-3
 same-length-3 c = search needs
@@ -70,8 +70,8 @@ returns-2 c =
     let r = c .before .before .before .before .before .before .before .before in
     let a = c .before .before .before .before .before .before .before .before .before .before .before .before .args in
     let q = takenAt 2048 (a .s .now) in
-    let text = ap (foundOn (a .basis) (a .d) (a .m) (a .numbers .now)) (cut r) ∙ first-of (foundOn (a .basis) (a .d) (a .m) (a .numbers .now) (q .numbers)) (mistakeText (a .line) (q .stop)) (sym (stops (c .before .before .before .before .before .before)) ∙ not-false _ (c .before .before .before .before .before .if1 .left)) in
-    (subst (λ t. Puts t (a .out .now) (a .at) (p .put-nearest .last .0) (p .put-nearest .result)) text (p .put-nearest .ensures .0), p .put-nearest .ensures .1)
+    let text = ap (wantedOf (a .wanted) (a .d) (a .m) (a .numbers .now)) (cut r) ∙ first-of (wantedOf (a .wanted) (a .d) (a .m) (a .numbers .now) (q .numbers)) (mistakeText (a .line) (q .stop)) (sym (stops (c .before .before .before .before .before .before)) ∙ not-false _ (c .before .before .before .before .before .if1 .left)) in
+    (subst (λ t. Puts t (a .out .now) (a .at) (p .put-wanted .last .0) (p .put-wanted .result)) text (p .put-wanted .ensures .0), p .put-wanted .ensures .1)
 
 pub with-target-spec : {M : Type 1} → statement M
 with-target-spec =
@@ -83,9 +83,9 @@ with-target-spec =
     same-length
     same-length-2
     returns
-    slice-reshare-prefix-put-nearest
-    slice-aggregate-put-nearest
-    put-nearest-requires
+    slice-reshare-prefix-put-wanted
+    slice-aggregate-put-wanted
+    put-wanted-requires
     same-length-3
     same-length-4
     returns-2)

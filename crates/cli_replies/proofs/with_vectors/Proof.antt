@@ -46,7 +46,7 @@ returns c =
     let r = c .before .before .before .before .before .before .before in
     let a = c .before .before .before .before .before .before .before .before .before .before .before .args in
     let q = takenAt 2048 (a .s .now) in
-    let text = ap (λ x. mistakeText (a .line) (x .stop)) (part r) ∙ second-of (withTarget (a .basis) (a .line) (a .d) (a .m) (q .numbers) (drop (q .length) (a .s .now))) (mistakeText (a .line) (q .stop)) (sym (stops (c .before .before .before .before .before)) ∙ not-true _ (c .before .before .before .before .if1 .taken)) in
+    let text = ap (λ x. mistakeText (a .line) (x .stop)) (part r) ∙ second-of (withTarget (a .wanted) (a .line) (a .d) (a .m) (q .numbers) (drop (q .length) (a .s .now))) (mistakeText (a .line) (q .stop)) (sym (stops (c .before .before .before .before .before)) ∙ not-true _ (c .before .before .before .before .if1 .taken)) in
     (subst (λ t. Puts t (a .out .now) (a .at) (p .put-mistake .last .0) (p .put-mistake .result)) text (p .put-mistake .ensures .0), omega (arith, p .put-mistake .ensures .1))
 
 slice-reshare-prefix-with-target : tie.Need-slice-reshare-prefix-with-target
@@ -83,7 +83,7 @@ returns-2 c =
     let a = c .before .before .before .before .before .before .before .before .before .before .before .before .before .before .before .args in
     let s = a .s .now in
     let q = takenAt 2048 s in
-    let whole = withTarget (a .basis) (a .line) (a .d) (a .m) in
+    let whole = withTarget (a .wanted) (a .line) (a .d) (a .m) in
     let text = (λ j. whole (cut r j) (behind (r .read-part .result .length) s j)) ∙ ap (λ x. whole (q .numbers) (drop (x .length) s)) (part r)
     ∙ first-of (whole (q .numbers) (drop (q .length) s)) (mistakeText (a .line) (q .stop)) (sym (stops (c .before .before .before .before .before .before .before .before .before)) ∙ not-false _ (c .before .before .before .before .before .before .before .before .if1 .left)) in
     (subst (λ t. Puts t (a .out .now) (a .at) (p .with-target .last .0) (p .with-target .result)) text (p .with-target .ensures .0), p .with-target .ensures .1)
