@@ -10,7 +10,7 @@ pub(crate) fn version() {
 pub(crate) fn say_usage() {
     io::write_all(
         STDERR_FILENO,
-        b"usage: raghymtos reduce [-n] | nearest [-n] [-r] | fold [FILE] | lookup NUMBER [FILE] | list [FILE] | encode [FILE] | decode [FILE] | refusals | help [COMMAND] | --version\n",
+        b"usage: raghymtos reduce [-n] | nearest [-n] [-r] | member [-n] | fold [FILE] | lookup NUMBER [FILE] | list [FILE] | encode [FILE] | decode [FILE] | refusals | help [COMMAND] | --version\n",
     );
 }
 
@@ -49,7 +49,11 @@ fn usage() {
     );
     go = line(
         go,
-        b"                      both answer: refused NUMBER PLACE, or: error LINE: what is wrong",
+        b"member [-n]           requests as for nearest; answers: yes where the target is in the lattice, else no",
+    );
+    go = line(
+        go,
+        b"                      all three answer: refused NUMBER PLACE, or: error LINE: what is wrong",
     );
     go = line(
         go,
@@ -93,7 +97,7 @@ fn usage() {
     );
     go = line(
         go,
-        b"What is no answer is said on standard error; list, reduce and nearest have refused NUMBER PLACE for an answer.",
+        b"What is no answer is said on standard error; list, reduce, nearest and member have refused NUMBER PLACE for an answer.",
     );
     line(
         go,
@@ -124,6 +128,14 @@ fn stream_example(command: &[u8]) -> bool {
         go = line(go, b"nearest 117");
         go = line(go, b"c 1 0");
         line(go, b"v 20 0");
+        return true;
+    }
+    if check::same(command, b"member") {
+        let go = line(
+            true,
+            b"$ echo \"2 2 ; 20 0 10 20 ; 50 20\" | raghymtos member",
+        );
+        line(go, b"yes");
         return true;
     }
     false

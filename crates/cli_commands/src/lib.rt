@@ -65,6 +65,16 @@ fn nearest(first: &[u8], second: &[u8]) {
     cli_requests::nearest(o.numbered, o.basis);
 }
 
+// Answers a stream of questions whether a target is in a lattice.
+fn member(first: &[u8], second: &[u8]) {
+    let o = options_of(first, second);
+    if !o.fit || o.basis {
+        help::say_usage();
+        return;
+    }
+    cli_requests::member(o.numbered);
+}
+
 // Does what is done with a whole catalogue. False where the word is no such command. It is called from two places, so that its arrays do not
 // become part of the stack that the streams need.
 fn catalogue(word: &[u8], number: &[u8], fd: i32) -> bool {
@@ -148,6 +158,10 @@ pub fn run(word: &[u8], first: &[u8], second: &[u8], more: bool) {
     }
     if check::same(word, b"nearest") {
         nearest(first, second);
+        return;
+    }
+    if check::same(word, b"member") {
+        member(first, second);
         return;
     }
     if check::same(word, b"lookup") {

@@ -247,3 +247,8 @@ pub fn nearest(numbered: bool, basis: bool) {
     }
     serve(Command::Nearest, numbered);
 }
+
+// Answers requests whether a target is in a lattice.
+pub fn member(numbered: bool) {
+    serve(Command::Member, numbered);
+}

@@ -1,11 +1,11 @@
 -- The answers of the services as runs of numbers, in the order that the header gives.
-use mathlib.Core.Bool.{cond}
+use mathlib.Core.Bool.{Bool, cond}
 use mathlib.Core.List.{List, [], _∷_, _++_}
 use Prim.Native.Nat.{ℕ}
 use lib.IntN.{ℤ, pos}
 use lib.Dec.{leb}
 use lib.ListN.{length, drop}
-use Rattle.lattices.specs.Answer.{Reduction, Nearest}
+use Rattle.lattices.specs.Answer.{Reduction, Nearest, Membership}
 use Rattle.catalogue_rules.specs.Output.{Output}
 use Rattle.fold_rules.specs.Services.{Lookup}
 
@@ -25,6 +25,14 @@ layout a = head (a .refusal) (a .place) (pos (a .passes)) ++ (a .squares ++ (fla
 -- R16.3: the answer with a nearest vector: head with the squared distance, coefficients, vector
 unfoldable pub layoutNearest : Nearest → List ℤ
 layoutNearest a = head (a .refusal) (a .place) (a .square) ++ (a .coefficients ++ a .vector)
+
+-- R16.4: 1 for yes, 0 for no
+abbrev pub flag : Bool → ℤ
+flag b = cond b (pos 1) (pos 0)
+
+-- R16.4: the answer of a membership: head with 1 for yes, 0 for no
+abbrev pub layoutMembership : Membership → List ℤ
+layoutMembership a = head (a .refusal) (a .place) (flag (a .member))
 
 -- R16.4: the answer of a writing: head with the length written; the output itself is lent
 abbrev pub layoutOutput : Output → List ℤ

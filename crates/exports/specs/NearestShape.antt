@@ -1,16 +1,18 @@
 -- How long the parts of an answer with a nearest vector are, and that its refusal fits a signed number.
 use mathlib.Core.Path.{_≡_, refl, _∙_, subst}
+use mathlib.Core.Bool.{false}
 use mathlib.Core.List.{List, [], _++_}
 use Prim.Native.Nat.{ℕ, zero, suc, _≤_}
 use native.Mathlib.Omega.{arith}
-use lib.IntN.{ℤ}
+use lib.IntN.{ℤ, pos}
+use lib.Signed.{leZ}
 use lib.ListN.{length, length-append}
 use lib.Seq.{sets}
 use Rattle.lattices.specs.Vector.{comb}
 use Rattle.lattices.specs.Nearest.{nearest}
 use Rattle.lattices.specs.Greedy.{vectors, reduction}
 use Rattle.lattices.specs.Refusal.{Input, basis, firstOf, vectorChecks, targetChecks}
-use Rattle.lattices.specs.Answer.{Nearest, noNearest, nearestGiven, nearestOf}
+use Rattle.lattices.specs.Answer.{Nearest, noNearest, nearestGiven, nearestOf, Membership, membershipOf}
 use Rattle.lattices.specs.Laws.Answer.{length-padded}
 use Rattle.exports.specs.Layout.{head, layoutNearest, written}
 use Rattle.exports.specs.Runs.{sets-then, written-long}
@@ -37,6 +39,17 @@ nearest-shape i = go (firstOf (vectorChecks ++ targetChecks) i) refl
         let x = nearest bs (i .target) in
         record { refusal = omega arith; place = refl; coefficients = length-padded 4 x; vector = length-padded 4 (comb x bs) }
     go (suc n) e = record { refusal = subst (λ k. k ≤ 7) e (checks-most i); place = refl; coefficients = length-padded 4 []; vector = length-padded 4 [] }
+
+-- of a membership too
+pub member-few : (i : Input) → (membershipOf i .refusal ≤ 7) × (membershipOf i .place ≤ 7)
+unfolding membershipOf
+member-few i = go (firstOf (vectorChecks ++ targetChecks) i) (checks-most i)
+  where
+    go : (n : ℕ) → n ≤ 7
+        → let a = elim n as (λ n. Membership) [ zero ↦ record { refusal = 0; place = 0; member = leZ (nearestOf i .square) (pos 0) } | suc n ↦ record { refusal = suc n; place = 0; member = false } ] in
+        (a .refusal ≤ 7) × (a .place ≤ 7)
+    go zero h = (omega arith, omega arith)
+    go (suc n) h = (h, omega arith)
 
 -- an answer stored part by part
 module _ {a : Nearest} (s : NearestShape a) where

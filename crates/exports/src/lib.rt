@@ -6,17 +6,20 @@ ghost use lib.Dec.{leb};
 ghost use lib.IntN.{pos};
 ghost use lib.ListN.{length};
 ghost use lib.Seq.{sets};
-ghost use Rattle.lattices.specs.Answer.{reductionOf, nearestOf};
+ghost use Rattle.lattices.specs.Answer.{reductionOf, nearestOf, membershipOf};
 ghost use Rattle.catalogue_rules.specs.Read.{read};
 ghost use Rattle.catalogue_rules.specs.Output.{output};
 ghost use Rattle.fold_rules.specs.Services.{foldOf, lookupOf, listOf};
-ghost use Rattle.exports.specs.Layout.{flat, head, layout, layoutNearest, layoutOutput, layoutLookup, written, beside};
+ghost use Rattle.exports.specs.Layout.{flat, head, layout, layoutNearest, flag, layoutMembership, layoutOutput, layoutLookup, written, beside};
 
 // How many numbers a reduction's answer takes.
 const REDUCTION: usize = 55;
 
 // How many numbers the answer with a nearest vector takes.
 const NEAREST: usize = 11;
+
+// How many numbers the answer of a membership takes.
+const MEMBER: usize = 3;
 
 // How many numbers the answer of a writing takes.
 const WRITING: usize = 3;
@@ -67,6 +70,16 @@ fn put_counts(out: &mut [i64], refusal: u64, place: usize, count: usize)
     put_head(out, refusal, place as u64, count as i64);
 }
 
+// 1 for yes, 0 for no.
+fn flag(yes: bool) -> i64
+    ensures { λ r. ⌜ r ≡ flag yes ⌝ }
+{
+    if yes {
+        return 1;
+    }
+    0
+}
+
 // Reduces d vectors of m coordinates each. The answer is written to the first 55 numbers of `out`; a shorter `out` stays as it is.
 #[no_mangle]
 pub extern "C" fn raghymtos_reduce(numbers: &[i64], d: usize, m: usize, out: &mut [i64]) -> bool
@@ -111,6 +124,27 @@ pub extern "C" fn raghymtos_nearest(
     put_head(out, a.refusal, a.place, a.square);
     put_row(out, 3, coefficients);
     put_row(out, 7, vector);
+    true
+}
+
+// Whether the target is in the lattice of d vectors of m coordinates each. The answer is written to the first 3 numbers of `out`; a
+// shorter `out` stays as it is.
+#[no_mangle]
+pub extern "C" fn raghymtos_member(
+    numbers: &[i64],
+    d: usize,
+    m: usize,
+    target: &[i64],
+    out: &mut [i64],
+) -> bool
+    ensures { λ r. ⌜ r ≡ leb 3 (length (now (out .entry))) ⌝ }
+    ensures { λ _. ⌜ now (out .exit) ≡ written (now (out .entry)) 3 (layoutMembership (membershipOf (record { numbers = now (numbers .entry); d = d; m = m; target = now (target .entry) }))) ⌝ }
+{
+    if out.len() < MEMBER {
+        return false;
+    }
+    let a = engine::membership(numbers, d, m, target);
+    put_head(out, a.refusal, a.place, flag(a.member));
     true
 }
 

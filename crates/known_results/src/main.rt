@@ -1,5 +1,5 @@
-// The known results of document 01 on the compiled engine, with the limits of length, the refusals, and targets that tell wrong readings
-// of "nearest" apart.
+// The known results of document 01 on the compiled engine, with the limits of length, the refusals, targets that tell wrong readings
+// of "nearest" apart, and membership.
 // Writes the name of an input, then the answer to its reduction.
 fn reduced(name: &[u8], numbers: &[i64], d: usize, m: usize) {
     cli_output::write(name);
@@ -88,10 +88,40 @@ fn target_refusals() {
     near(b"dependent vectors, no target", &[1, 2, 2, 4], 2, 2, &[]);
 }
 
+// Writes the name of an input, then the answer to whether the target is in the lattice.
+fn in_lattice(name: &[u8], numbers: &[i64], d: usize, m: usize, target: &[i64]) {
+    cli_output::write(name);
+    cli_output::newline();
+    let mut out = [0u8; cli_answers::MOST_BYTES];
+    let n = cli_answers::put_membership(&mut out, 0, engine::membership(numbers, d, m, target));
+    cli_output::write(&out[..n]);
+}
+
+// Targets in the lattice and outside, of it one that is in the span, and the refusals.
+fn members() {
+    in_lattice(b"a vector of the basis", &[5, 8, 8, 13], 2, 2, &[8, 13]);
+    in_lattice(b"the zero vector", &[2, 0, 0, 2], 2, 2, &[0, 0]);
+    in_lattice(b"between the vectors", &[2, 0, 0, 2], 2, 2, &[1, 1]);
+    in_lattice(
+        b"of the lattice that short vectors miss",
+        &[2, 0, 0, 0, 0, 2, 0, 0, 0, 0, 2, 0, 1, 1, 1, 1],
+        4,
+        4,
+        &[1, 1, 1, -1],
+    );
+    in_lattice(b"beside the span", &[2, 0, 0], 1, 3, &[4, 0, 1]);
+    in_lattice(b"far away", &[1, 0, 0, 3], 2, 2, &[-20000, 0]);
+    in_lattice(b"far away, not in it", &[1, 0, 0, 3], 2, 2, &[0, 19999]);
+    in_lattice(b"a dependent basis", &[1, 2, 2, 4], 2, 2, &[1, 2]);
+    in_lattice(b"a target too long", &[1, 0], 1, 2, &[20000, 1]);
+    in_lattice(b"a target of another m", &[1, 0], 1, 2, &[1]);
+}
+
 fn main() {
     reductions();
     lengths();
     counts();
     targets();
     target_refusals();
+    members();
 }
