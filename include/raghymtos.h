@@ -1,5 +1,5 @@
 /* Lattices of at most four vectors with at most four coordinates: reduction, the vector nearest to
- * a target, and catalogues of bases. docs/RULES.md has the rules.
+ * a target, whether a target is in the lattice, and catalogues of bases. docs/RULES.md has the rules.
  *
  * Link with target/lib/libraghymtos.a, which rust/archive makes (x86-64 Linux).
  *
@@ -18,9 +18,9 @@ extern "C" {
 #endif
 
 #define RAGHYMTOS_VERSION_MAJOR 0
-#define RAGHYMTOS_VERSION_MINOR 1
+#define RAGHYMTOS_VERSION_MINOR 2
 #define RAGHYMTOS_VERSION_PATCH 0
-#define RAGHYMTOS_VERSION "0.1.0"
+#define RAGHYMTOS_VERSION "0.2.0"
 
 /* A name that ends in _AT is an index into an answer, one that ends in _COUNT a number of numbers,
  * one that begins with MOST a limit. */
@@ -54,14 +54,18 @@ extern "C" {
 #define RAGHYMTOS_COEFFICIENTS_AT 3 /* 4 numbers: its coefficients on the reduced vectors */
 #define RAGHYMTOS_VECTOR_AT 7       /* 4 numbers: the nearest vector */
 
+/* The answer of a membership. */
+#define RAGHYMTOS_MEMBER_COUNT 3
+#define RAGHYMTOS_MEMBER_AT 2 /* 1 for a target in the lattice, 0 for another */
+
 /* The answer about a catalogue. */
 #define RAGHYMTOS_CATALOGUE_COUNT 3
 #define RAGHYMTOS_WRITTEN_AT 2  /* of a writing: the bytes written */
 #define RAGHYMTOS_STANDING_AT 2 /* of a lookup: the standing number */
 
-/* The refusals. The first that applies is given. A reduction gives 1 to 5, a nearest vector 1 to 7,
- * a catalogue 1, 2, 4, 5 and 8 to 15, a writing 16 and a lookup 17 besides. Later versions may have
- * more: whatever is not 0 is a refusal. */
+/* The refusals. The first that applies is given. A reduction gives 1 to 5, a nearest vector and
+ * a membership 1 to 7, a catalogue 1, 2, 4, 5 and 8 to 15, a writing 16 and a lookup 17 besides. Later
+ * versions may have more: whatever is not 0 is a refusal. */
 enum raghymtos_refusal {
     RAGHYMTOS_ACCEPTED = 0,
     RAGHYMTOS_BAD_D = 1,         /* place: the head */
@@ -135,6 +139,12 @@ bool raghymtos_reduce(const int64_t *numbers, size_t count, size_t d, size_t m,
  * all must be aligned for int64_t, and out must overlap neither numbers nor target. */
 bool raghymtos_nearest(const int64_t *numbers, size_t count, size_t d, size_t m,
                        const int64_t *target, size_t target_count, int64_t *out, size_t room);
+
+/* Says whether a target is in the lattice of d vectors of m coordinates each: exactly when it is a
+ * combination of the vectors with whole coefficients. All but the answer is as for raghymtos_nearest,
+ * with 3 in the place of 11. */
+bool raghymtos_member(const int64_t *numbers, size_t count, size_t d, size_t m,
+                      const int64_t *target, size_t target_count, int64_t *out, size_t room);
 
 /* Reads a catalogue and writes its entries to out, unfolded.
  *

@@ -1,4 +1,4 @@
-/* The header used from C: a reduction, a nearest vector, a catalogue, refusals with their texts, lent numbers that are too few, and the
+/* The header used from C: a reduction, a nearest vector, a membership, a catalogue, refusals with their texts, lent numbers that are too few, and the
  * version. */
 #include <stdio.h>
 #include <string.h>
@@ -38,6 +38,19 @@ static void nearest(void) {
     raghymtos_nearest(numbers, 4, 2, 2, target, 1, out, RAGHYMTOS_NEAREST_COUNT);
     expect(out[RAGHYMTOS_REFUSAL_AT] == RAGHYMTOS_TARGET_NOT_M, "a target of one number is refused");
     expect(!raghymtos_nearest(numbers, 4, 2, 2, target, 2, out, RAGHYMTOS_NEAREST_COUNT - 1), "10 lent numbers are too few");
+}
+
+static void member(void) {
+    const int64_t numbers[] = {20, 0, 10, 20};
+    const int64_t targets[] = {50, 20, 50, 21};
+    int64_t out[RAGHYMTOS_MEMBER_COUNT];
+    expect(raghymtos_member(numbers, 4, 2, 2, targets, 2, out, RAGHYMTOS_MEMBER_COUNT), "3 lent numbers are enough");
+    expect(out[RAGHYMTOS_REFUSAL_AT] == 0 && out[RAGHYMTOS_MEMBER_AT] == 1, "(50,20) is in the lattice");
+    raghymtos_member(numbers, 4, 2, 2, targets + 2, 2, out, RAGHYMTOS_MEMBER_COUNT);
+    expect(out[RAGHYMTOS_REFUSAL_AT] == 0 && out[RAGHYMTOS_MEMBER_AT] == 0, "(50,21) is not");
+    raghymtos_member(numbers, 4, 2, 2, targets, 3, out, RAGHYMTOS_MEMBER_COUNT);
+    expect(out[RAGHYMTOS_REFUSAL_AT] == RAGHYMTOS_TARGET_NOT_M, "a target of three numbers is refused");
+    expect(!raghymtos_member(numbers, 4, 2, 2, targets, 2, out, RAGHYMTOS_MEMBER_COUNT - 1), "2 lent numbers are too few");
 }
 
 /* entry 7: (1,0),(4,1); entry 9: (2,0),(0,3), see 12; entry 12: (0,1),(1,0), see 9 */
@@ -105,6 +118,7 @@ int main(void) {
     version();
     reduction();
     nearest();
+    member();
     catalogue();
     listing();
     return wrong;

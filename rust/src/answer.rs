@@ -1,6 +1,6 @@
-//! Reductions and nearest vectors with Rust's types.
+//! Reductions, nearest vectors and membership with Rust's types.
 
-use crate::raw::{self, NEAREST_NUMBERS, REDUCTION_NUMBERS};
+use crate::raw::{self, MEMBER_NUMBERS, NEAREST_NUMBERS, REDUCTION_NUMBERS};
 use crate::{Refusal, MOST_COORDINATES, MOST_VECTORS};
 
 /// Where the parts of the answers begin, as in the header.
@@ -12,6 +12,7 @@ const V_AT: usize = 39;
 const SQUARE_AT: usize = 2;
 const COEFFICIENTS_AT: usize = 3;
 const VECTOR_AT: usize = 7;
+const MEMBER_AT: usize = 2;
 
 /// The answer of a reduction: d reduced vectors of m coordinates, the tables that lead to them and back, their squared lengths and the
 /// passes.
@@ -143,6 +144,17 @@ pub fn nearest(numbers: &[i64], d: usize, m: usize, target: &[i64]) -> Result<Ne
     );
     Refusal::check(out[0])?;
     Ok(Nearest { d, m, numbers: out })
+}
+
+/// Says whether the target is in the lattice of d vectors of m coordinates each.
+pub fn member(numbers: &[i64], d: usize, m: usize, target: &[i64]) -> Result<bool, Refusal> {
+    let mut out = [0; MEMBER_NUMBERS];
+    assert!(
+        raw::member(numbers, d, m, target, &mut out),
+        "{OTHER_ARCHIVE}"
+    );
+    Refusal::check(out[0])?;
+    Ok(out[MEMBER_AT] == 1)
 }
 
 /// What is said where an answer wants more numbers than this version lends.

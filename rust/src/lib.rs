@@ -1,8 +1,8 @@
-//! Lattices of at most four vectors of at most four coordinates: greedy reduction, the nearest vector, and catalogues of bases
-//! ([`catalogue`]), by a proved engine.
+//! Lattices of at most four vectors of at most four coordinates: greedy reduction, the nearest vector, membership, and
+//! catalogues of bases ([`catalogue`]), by a proved engine.
 //!
 //! ```
-//! use raghymtos::{nearest, reduce, Refusal};
+//! use raghymtos::{member, nearest, reduce, Refusal};
 //!
 //! let r = reduce(&[1, 0, 4, 1], 2, 2).unwrap();
 //! assert_eq!(r.vectors().collect::<Vec<_>>(), [[1, 0], [0, 1]]);
@@ -12,6 +12,8 @@
 //! let n = nearest(&[20, 0, 10, 20], 2, 2, &[14, 9]).unwrap();
 //! assert_eq!((n.vector(), n.square()), (&[20, 0][..], 117));
 //! assert_eq!(nearest(&[3], 1, 1, &[1, 2]), Err(Refusal::TargetCount));
+//!
+//! assert_eq!(member(&[20, 0, 10, 20], 2, 2, &[50, 20]), Ok(true));
 //! ```
 //!
 //! What the engine writes is proved, for every input, to be what `docs/RULES.md` says. The Rust of this crate is not: it hands numbers to
@@ -25,7 +27,7 @@ pub mod catalogue;
 pub mod raw;
 mod refusal;
 
-pub use answer::{nearest, reduce, Nearest, Reduction, Rows};
+pub use answer::{member, nearest, reduce, Nearest, Reduction, Rows};
 pub use refusal::Refusal;
 
 /// The version, that of `include/raghymtos.h`.

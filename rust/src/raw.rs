@@ -7,6 +7,9 @@ pub const REDUCTION_NUMBERS: usize = 55;
 /// How many numbers the answer with a nearest vector takes.
 pub const NEAREST_NUMBERS: usize = 11;
 
+/// How many numbers the answer of a membership takes.
+pub const MEMBER_NUMBERS: usize = 3;
+
 /// How many numbers the answer about a catalogue takes: the refusal, its place, and the length written or the standing number.
 pub const ANSWER_NUMBERS: usize = 3;
 
@@ -21,6 +24,17 @@ extern "C" {
     ) -> bool;
 
     fn raghymtos_nearest(
+        numbers: *const i64,
+        count: usize,
+        d: usize,
+        m: usize,
+        target: *const i64,
+        target_count: usize,
+        out: *mut i64,
+        room: usize,
+    ) -> bool;
+
+    fn raghymtos_member(
         numbers: *const i64,
         count: usize,
         d: usize,
@@ -87,6 +101,22 @@ pub fn reduce(numbers: &[i64], d: usize, m: usize, out: &mut [i64]) -> bool {
 pub fn nearest(numbers: &[i64], d: usize, m: usize, target: &[i64], out: &mut [i64]) -> bool {
     unsafe {
         raghymtos_nearest(
+            numbers.as_ptr(),
+            numbers.len(),
+            d,
+            m,
+            target.as_ptr(),
+            target.len(),
+            out.as_mut_ptr(),
+            out.len(),
+        )
+    }
+}
+
+/// Writes the answer of a membership to the first 3 numbers of `out`. A shorter `out` is left as it is, and false is given.
+pub fn member(numbers: &[i64], d: usize, m: usize, target: &[i64], out: &mut [i64]) -> bool {
+    unsafe {
+        raghymtos_member(
             numbers.as_ptr(),
             numbers.len(),
             d,

@@ -1,6 +1,6 @@
 //! Answers with Rust's types: rows as long as d and m say, and refusals.
 
-use raghymtos::{nearest, reduce, Refusal};
+use raghymtos::{member, nearest, reduce, Refusal};
 
 #[test]
 fn rows_of_a_reduction() {
@@ -26,7 +26,17 @@ fn fewer_vectors_than_coordinates() {
 }
 
 #[test]
+fn members() {
+    let d4 = [2, 0, 0, 0, 0, 2, 0, 0, 0, 0, 2, 0, 1, 1, 1, 1];
+    assert_eq!(member(&d4, 4, 4, &[1, 1, 1, -1]), Ok(true));
+    assert_eq!(member(&d4, 4, 4, &[1, 1, 1, 0]), Ok(false));
+    assert_eq!(member(&[0, 3, 4], 1, 3, &[0, 6, 9]), Ok(false));
+}
+
+#[test]
 fn refused() {
+    assert_eq!(member(&[0], 1, 1, &[0]), Err(Refusal::Dependent));
+    assert_eq!(member(&[1], 1, 1, &[1, 1]), Err(Refusal::TargetCount));
     assert_eq!(reduce(&[], 0, 1), Err(Refusal::Vectors));
     assert_eq!(reduce(&[1], 1, usize::MAX), Err(Refusal::Coordinates));
     assert_eq!(reduce(&[1, 2], 1, 1), Err(Refusal::Count));

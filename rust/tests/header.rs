@@ -15,6 +15,7 @@ fn the_same_numbers() {
     let all = [
         ("REDUCTION_COUNT", raw::REDUCTION_NUMBERS),
         ("NEAREST_COUNT", raw::NEAREST_NUMBERS),
+        ("MEMBER_COUNT", raw::MEMBER_NUMBERS),
         ("CATALOGUE_COUNT", raw::ANSWER_NUMBERS),
         ("MOST_VECTORS", raghymtos::MOST_VECTORS),
         ("MOST_COORDINATES", raghymtos::MOST_COORDINATES),

@@ -3,7 +3,7 @@ use libc::STDERR_FILENO;
 
 // Writes the program's name and version.
 pub(crate) fn version() {
-    cli_output::write(b"raghymtos 0.1.0\n");
+    cli_output::write(b"raghymtos 0.2.0\n");
 }
 
 // Says what may be asked for, on standard error.

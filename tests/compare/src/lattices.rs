@@ -1,8 +1,8 @@
-//! Reductions and nearest vectors on inputs of every kind.
+//! Reductions, nearest vectors and memberships on inputs of every kind.
 
 use reference::cases::{cases, Case, KINDS};
 
-use crate::{nearest, reduction};
+use crate::{membership, nearest, reduction};
 
 /// Inputs of one seed: every kind as often as every other.
 const BATCH: usize = 1_000 * KINDS.len();
@@ -14,6 +14,7 @@ const SAMPLE: usize = 7;
 struct Counts {
     reductions: [u64; 8],
     nearest: [u64; 8],
+    members: [u64; 3],
     minima: u64,
 }
 
@@ -21,6 +22,7 @@ impl Counts {
     fn compare(&mut self, case: &Case, is_sample: bool) -> Result<(), String> {
         self.reductions[reduction::compare(case)?] += 1;
         self.nearest[nearest::compare(case)?] += 1;
+        membership::compare(case, &mut self.members)?;
         if is_sample {
             self.minima += reduction::minima(case)? as u64;
         }
@@ -38,6 +40,8 @@ impl Counts {
             "nearest vectors as the reference gives them: {}",
             answered(&self.nearest)
         );
+        let [inside, outside, refused] = self.members;
+        println!("members as the reference gives them: {inside} in the lattice, {outside} outside, {refused} refused");
         println!(
             "squared lengths as the successive minima are: {}",
             self.minima

@@ -7,6 +7,7 @@ mod catalogues;
 mod commands;
 mod lattices;
 mod lent;
+mod membership;
 mod nearest;
 mod reduction;
 

@@ -10,6 +10,7 @@ pub mod search;
 pub mod tied;
 pub mod vectors;
 
+use catalogue::hermite::hermite;
 use search::nearest_coefficients;
 use vectors::{combination, coordinates, minus, rank, rows, square};
 
@@ -107,6 +108,23 @@ pub fn nearest(numbers: &[i64], d: usize, m: usize, target: &[i64]) -> Nearest {
         coefficients,
         square,
     }
+}
+
+/// Whether the target is in the lattice, or the refusal's number: by Hermite normal forms, which a vector of the lattice leaves as they
+/// are.
+pub fn member(numbers: &[i64], d: usize, m: usize, target: &[i64]) -> Result<bool, u64> {
+    let mut refusal = refused_vectors(numbers, d, m);
+    if refusal == 0 {
+        refusal = refused_target(m, target);
+    }
+    if refusal != 0 {
+        return Err(refusal);
+    }
+    let basis = rows(numbers, m);
+    let mut more = basis.clone();
+    more.push(target.to_vec());
+    let form = hermite(&more);
+    Ok(form[d].iter().all(|&x| x == 0) && form[..d] == hermite(&basis))
 }
 
 // ---- refusals
