@@ -48,7 +48,7 @@ fn made(case: &Case) -> Vec<Vec<i64>> {
 /// How many targets were in the lattice, outside, and refused.
 pub fn compare(case: &Case, counts: &mut [u64; 3]) -> Result<(), String> {
     let mut targets = vec![case.target.clone()];
-    if reference::member(&case.numbers, case.d, case.m, &vec![0; case.m]) == Ok(true) {
+    if reference::reduce(&case.numbers, case.d, case.m).refusal == 0 {
         targets.extend(made(case));
     }
     for target in targets {
