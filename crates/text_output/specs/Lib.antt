@@ -2,5 +2,6 @@
 pub mod Puts
 pub mod Joined
 pub mod Within
+pub mod Digits
 pub mod Turned
 pub mod Signs
