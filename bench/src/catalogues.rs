@@ -1,4 +1,4 @@
-//! Full catalogues, 256 entries: written out, folded and looked up.
+//! Full catalogues, 256 entries: read, folded and looked up.
 
 use std::hint::black_box;
 use std::time::Instant;
@@ -11,9 +11,8 @@ use reference::catalogue::Entry;
 use reference::random::Random;
 use reference::vectors::rows;
 
-use crate::baseline::catalogue as plain;
-use crate::median;
-use crate::sets::{inputs, SETS};
+use crate::baseline;
+use crate::{median, sorts};
 
 const ENTRIES: usize = 256;
 
@@ -40,10 +39,9 @@ fn entries(name: &str) -> Vec<Entry> {
 /// 128 lattices of the three sets, of two to four vectors, each in two bases.
 fn typical(random: &mut Random) -> Vec<Vec<Vec<i64>>> {
     let mut all = vec![];
-    for set in SETS {
-        for d in 2..=4 {
-            let some = inputs(set, d, 15, 1);
-            all.extend(some.iter().map(|i| rows(&i.numbers, d)));
+    for d in 2..=4 {
+        for set in sorts(d) {
+            all.extend(set.numbers[..15].iter().map(|numbers| rows(numbers, d)));
         }
     }
     all.truncate(ENTRIES / 2);
@@ -107,7 +105,7 @@ fn moved(v: &[i64], order: [usize; 4], signs: usize) -> Vec<i64> {
 }
 
 /// Seconds for one call.
-fn timed<T>(call: impl Fn(&mut [u8]) -> T) -> f64 {
+fn timed<T>(mut call: impl FnMut(&mut [u8]) -> T) -> f64 {
     let mut out = vec![0; MOST_BYTES];
     let start = Instant::now();
     black_box(call(black_box(&mut out)));
@@ -117,33 +115,36 @@ fn timed<T>(call: impl Fn(&mut [u8]) -> T) -> f64 {
 /// Both must write the same bytes, or the times compare nothing.
 fn same(bytes: &[u8], last: u32) {
     let (mut a, mut b) = (vec![0; MOST_BYTES], vec![0; MOST_BYTES]);
+    assert_eq!(baseline::read(bytes, &mut baseline::room()), 0);
     let lengths = (
-        engine::write_out_to(bytes, &mut a),
-        plain::write_out(bytes, &mut b),
+        engine::fold_to(bytes, &mut a),
+        baseline::fold(bytes, &mut b),
     );
-    assert_eq!((lengths.0.ok(), &a), (lengths.1.ok(), &b));
-    let lengths = (engine::fold_to(bytes, &mut a), plain::fold(bytes, &mut b));
-    assert_eq!((lengths.0.ok(), &a), (lengths.1.ok(), &b));
-    let found = (engine::lookup(bytes, last), plain::lookup(bytes, last));
-    assert_eq!(found.0.ok(), found.1.ok());
+    assert_eq!((lengths.0.ok(), &a), (Some(lengths.1), &b));
+    assert_eq!(
+        engine::lookup(bytes, last).ok(),
+        Some(baseline::lookup(bytes, last))
+    );
 }
 
-/// Times both in turn, so that what else the machine does falls on both, and prints a line.
+/// Times both in turn, so that what else the machine does falls on both, and prints a line. Reading is timed by a lookup of a number that
+/// no entry has: the catalogue is read with all checks, and nothing is reduced.
 pub fn measure(name: &str, runs: usize) {
     let entries = entries(name);
     let bytes = write(&entries);
     let last = entries.len() as u32;
     same(&bytes, last);
     let bytes = &bytes[..];
+    let mut room = baseline::room();
     let times: Vec<[f64; 6]> = (0..runs)
         .map(|_| {
             [
-                timed(|out| engine::write_out_to(bytes, out)),
-                timed(|out| plain::write_out(bytes, out)),
+                timed(|_| engine::lookup(bytes, 1_000_000)),
+                timed(|_| baseline::read(bytes, &mut room)),
                 timed(|out| engine::fold_to(bytes, out)),
-                timed(|out| plain::fold(bytes, out)),
+                timed(|out| baseline::fold(bytes, out)),
                 timed(|_| engine::lookup(bytes, last)),
-                timed(|_| plain::lookup(bytes, last)),
+                timed(|_| baseline::lookup(bytes, last)),
             ]
         })
         .collect();
@@ -167,5 +168,5 @@ pub fn measure(name: &str, runs: usize) {
 }
 
 pub fn print_heading() {
-    println!("catalogue   bytes stands     write     Rust  ratio      fold     Rust  ratio    lookup     Rust  ratio");
+    println!("catalogue   bytes stands      read        C  ratio      fold        C  ratio    lookup        C  ratio");
 }

@@ -1,0 +1,241 @@
+/* Catalogues in C with the checks of docs/RULES.md: reading, the fold and lookup. One lattice is told by the
+   Hermite normal form, one for each entry. */
+#define OWN_ENTRIES 256
+#define OWN_BYTES 18436
+
+typedef struct {
+    uint32_t number, see;
+    int d, m, place, sees, see_place;
+    i64 b[4][4];
+} own_entry;
+
+typedef struct {
+    int refusal, place, count;
+    own_entry entries[OWN_ENTRIES];
+} own_catalogue;
+
+static uint32_t own_word(const uint8_t *bytes, int i) {
+    uint32_t w;
+    memcpy(&w, bytes + 4 * i, 4);
+    return w;
+}
+
+static int own_refuse(own_catalogue *c, int refusal, int place) {
+    c->refusal = refusal;
+    c->place = place;
+    c->count = 0;
+    return refusal;
+}
+
+static int own_find(const own_catalogue *c, uint32_t number) {
+    for (int i = 0; i < c->count; i++)
+        if (c->entries[i].number == number)
+            return i;
+    return -1;
+}
+
+/* An entry from its head at word i on: gives the index of the word behind it, or -1 when it is refused. */
+static int own_read_entry(const uint8_t *bytes, int words, int i, own_catalogue *c) {
+    uint32_t w = own_word(bytes, i), load = w & 0xFFFFFFF;
+    if (c->count == OWN_ENTRIES)
+        return own_refuse(c, 15, i), -1;
+    own_entry *e = &c->entries[c->count];
+    e->number = load >> 8;
+    e->d = load >> 4 & 15;
+    e->m = load & 15;
+    e->place = i;
+    e->sees = 0;
+    if (e->d < 1 || e->d > 4)
+        return own_refuse(c, 1, i), -1;
+    if (e->m < 1 || e->m > 4)
+        return own_refuse(c, 2, i), -1;
+    if (e->number == 0 || own_find(c, e->number) >= 0)
+        return own_refuse(c, 11, i), -1;
+    memset(e->b, 0, sizeof e->b);
+    for (int v = 0; v < e->d; v++) {
+        i64 square = 0;
+        for (int k = 0; k < e->m; k++) {
+            i++;
+            if (i == words)
+                return own_refuse(c, 10, words), -1;
+            w = own_word(bytes, i);
+            load = w & 0xFFFFFFF;
+            if (w >> 28 != 2)
+                return own_refuse(c, 10, i), -1;
+            if (load > 40000)
+                return own_refuse(c, 4, i), -1;
+            i64 x = (i64)load - 20000;
+            e->b[v][k] = x;
+            square += x * x;
+        }
+        if (square > OWN_LIM)
+            return own_refuse(c, 4, i), -1;
+    }
+    i++;
+    if (i < words && own_word(bytes, i) >> 28 == 3) {
+        e->sees = 1;
+        e->see = own_word(bytes, i) & 0xFFFFFFF;
+        e->see_place = i++;
+    }
+    c->count++;
+    return i;
+}
+
+OWN_API int own_read(const uint8_t *bytes, size_t n, own_catalogue *c) {
+    c->refusal = c->place = c->count = 0;
+    if (n % 4)
+        return own_refuse(c, 8, 0);
+    if (n > OWN_BYTES)
+        return own_refuse(c, 9, 0);
+    int words = (int)(n / 4), i = 0;
+    for (;;) {
+        if (i == words)
+            return own_refuse(c, 10, words);
+        uint32_t w = own_word(bytes, i);
+        if (w >> 28 == 4) {
+            if ((int)(w & 0xFFFFFFF) != c->count)
+                return own_refuse(c, 13, i);
+            if (i + 1 < words)
+                return own_refuse(c, 14, i + 1);
+            break;
+        }
+        if (w >> 28 != 1)
+            return own_refuse(c, 10, i);
+        i = own_read_entry(bytes, words, i, c);
+        if (i < 0)
+            return c->refusal;
+    }
+    for (int k = 0; k < c->count; k++) {
+        const own_entry *e = &c->entries[k];
+        if (!own_independent(e->d, e->m, e->b))
+            return own_refuse(c, 5, e->place);
+    }
+    for (int k = 0; k < c->count; k++) {
+        const own_entry *e = &c->entries[k];
+        if (e->sees && own_find(c, e->see) < 0)
+            return own_refuse(c, 12, e->see_place);
+    }
+    return 0;
+}
+
+/* The Hermite normal form: rows in steps, the numbers above a step from 0 to less than it. */
+static void own_hermite(int d, int m, i64 b[4][4]) {
+    int step[4], r = 0;
+    for (int k = 0; k < m && r < d; k++) {
+        for (;;) {
+            int least = -1, others = 0;
+            for (int i = r; i < d; i++)
+                if (b[i][k]) {
+                    others++;
+                    if (least < 0 || own_iabs(b[i][k]) < own_iabs(b[least][k]))
+                        least = i;
+                }
+            if (least < 0)
+                break;
+            i64 row[4];
+            memcpy(row, b[least], sizeof row);
+            memcpy(b[least], b[r], sizeof row);
+            for (int j = 0; j < 4; j++)
+                b[r][j] = row[k] < 0 ? -row[j] : row[j];
+            if (others == 1) {
+                step[r++] = k;
+                break;
+            }
+            for (int i = r + 1; i < d; i++) {
+                i64 q = b[i][k] / b[r][k];
+                for (int j = k; j < 4; j++)
+                    b[i][j] -= q * b[r][j];
+            }
+        }
+    }
+    for (int i = r - 1; i >= 0; i--)
+        for (int k = i + 1; k < r; k++) {
+            i64 p = b[k][step[k]], x = b[i][step[k]], q = x / p;
+            if (x - q * p < 0)
+                q--;
+            for (int j = 0; j < 4; j++)
+                b[i][j] -= q * b[k][j];
+        }
+}
+
+static int own_same(const own_entry *e, const own_entry *f, i64 g[4][4], i64 h[4][4]) {
+    return e->m == f->m && e->d == f->d && !memcmp(g, h, sizeof(i64[4][4]));
+}
+
+/* For each entry the first of its lattice. */
+static void own_standing(const own_catalogue *c, int *standing) {
+    static i64 forms[OWN_ENTRIES][4][4];
+    for (int i = 0; i < c->count; i++) {
+        const own_entry *e = &c->entries[i];
+        own_ans a;
+        own_reduce(e->d, e->m, e->b, &a);
+        memcpy(forms[i], a.b, sizeof forms[i]);
+        own_hermite(e->d, e->m, forms[i]);
+        int s = 0;
+        while (s < i && (standing[s] != s || !own_same(e, &c->entries[s], forms[i], forms[s])))
+            s++;
+        standing[i] = s;
+    }
+}
+
+static uint8_t *own_put(uint8_t *out, uint32_t w) {
+    memcpy(out, &w, 4);
+    return out + 4;
+}
+
+/* The length written; the output is long enough for any catalogue. */
+OWN_API size_t own_fold(const uint8_t *bytes, size_t n, uint8_t *out) {
+    static own_catalogue c;
+    int standing[OWN_ENTRIES];
+    if (own_read(bytes, n, &c))
+        return 0;
+    own_standing(&c, standing);
+    uint8_t *at = out;
+    int count = 0;
+    for (int i = 0; i < c.count; i++) {
+        const own_entry *e = &c.entries[i];
+        if (standing[i] != i)
+            continue;
+        count++;
+        own_ans a;
+        own_reduce(e->d, e->m, e->b, &a);
+        at = own_put(at, 1u << 28 | e->number << 8 | (uint32_t)e->d << 4 | (uint32_t)e->m);
+        for (int v = 0; v < e->d; v++)
+            for (int k = 0; k < e->m; k++)
+                at = own_put(at, 2u << 28 | (uint32_t)(a.b[v][k] + 20000));
+        if (e->sees) {
+            int s = standing[own_find(&c, e->see)];
+            if (s != i)
+                at = own_put(at, 3u << 28 | c.entries[s].number);
+        }
+    }
+    at = own_put(at, 4u << 28 | (uint32_t)count);
+    return (size_t)(at - out);
+}
+
+/* The standing number, 0 where there is none. */
+OWN_API uint32_t own_lookup(const uint8_t *bytes, size_t n, uint32_t number) {
+    static own_catalogue c;
+    if (own_read(bytes, n, &c))
+        return 0;
+    int k = own_find(&c, number);
+    if (k < 0)
+        return 0;
+    own_entry *e = &c.entries[k];
+    i64 form[4][4], other[4][4];
+    own_ans a;
+    own_reduce(e->d, e->m, e->b, &a);
+    memcpy(form, a.b, sizeof form);
+    own_hermite(e->d, e->m, form);
+    for (int i = 0; i < k; i++) {
+        own_entry *f = &c.entries[i];
+        if (f->m != e->m || f->d != e->d)
+            continue;
+        own_reduce(f->d, f->m, f->b, &a);
+        memcpy(other, a.b, sizeof other);
+        own_hermite(f->d, f->m, other);
+        if (own_same(e, f, form, other))
+            return f->number;
+    }
+    return number;
+}

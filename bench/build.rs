@@ -1,0 +1,28 @@
+//! Compiles the C that the engine is measured against.
+
+use std::path::PathBuf;
+use std::process::Command;
+
+fn main() {
+    let out = PathBuf::from(std::env::var("OUT_DIR").expect("cargo names a folder"));
+    for file in ["baseline.c", "own.h", "sets.h", "catalogue.h"] {
+        println!("cargo:rerun-if-changed=baseline/{file}");
+    }
+    run(Command::new("cc")
+        .args(["-O3", "-c", "baseline/baseline.c", "-o"])
+        .arg(out.join("baseline.o")));
+    run(Command::new("ar")
+        .arg("rcs")
+        .arg(out.join("libbaseline.a"))
+        .arg(out.join("baseline.o")));
+    println!("cargo:rustc-link-search=native={}", out.display());
+    println!("cargo:rustc-link-lib=static=baseline");
+    println!("cargo:rustc-link-lib=m");
+}
+
+fn run(command: &mut Command) {
+    let status = command
+        .status()
+        .unwrap_or_else(|e| panic!("{command:?}: {e}"));
+    assert!(status.success(), "{command:?} fails");
+}
