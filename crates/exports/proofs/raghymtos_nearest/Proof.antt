@@ -1,5 +1,5 @@
 -- The answer is stored part by part where there is room, and nothing is where there is not.
-use mathlib.Core.Path.{sym, ap, _∙_, subst}
+use mathlib.Core.Path.{_≡_, sym, ap, _∙_, subst}
 use Prim.Native.Nat.{_≤_, _<_}
 use native.Mathlib.Omega.{arith}
 use lib.ListN.{length}
@@ -10,6 +10,8 @@ use denote.Ref.{now}
 use borrow.Author.Tests.{le-leb, lt-leb}
 use Rattle.lattices.specs.Refusal.{Input}
 use Rattle.lattices.specs.Answer.{nearestOf}
+use Rattle.engine.specs.declared.NearestVector.{NearestVector}
+use Rattle.engine.specs.Packed.{packedNearest}
 use Rattle.exports.specs.Layout.{head, layoutNearest}
 use Rattle.exports.specs.Runs.{written-short}
 use Rattle.exports.specs.NearestShape.{nearest-shape, nearest-stored}
@@ -29,13 +31,14 @@ returns c =
 nearest-requires : tie.Need-nearest-requires
 nearest-requires c κs = search needs
 
+-- whatever input it is of
+small : (i : Input) (a : NearestVector) → a ≡ packedNearest (nearestOf i) → (a .refusal ≤ 1000000000000) × (a .place ≤ 1000000000000)
+small i a e =
+    let n = nearest-shape i in
+    subst (λ a. (a .refusal ≤ 1000000000000) × (a .place ≤ 1000000000000)) (sym e) (omega (arith, n .refusal), omega (arith, n .place))
+
 put-head-requires : tie.Need-put-head-requires
-put-head-requires c κs =
-    let r = c .before .before .before .before in
-    let n = nearest-shape (input (r .before .before)) in (
-      search needs,
-      subst (λ a. (a .refusal ≤ 1000000000000) × (a .place ≤ 1000000000000)) (sym (r .nearest .ensures)) (omega (arith, n .refusal), omega (arith, n .place)),
-    )
+put-head-requires c κs = (search needs, small _ _ (c .before .before .before .before .nearest .ensures))
 
 put-row-requires : tie.Need-put-row-requires
 put-row-requires c κs = search needs
