@@ -10,6 +10,7 @@ pub mod Few
 pub mod Answer
 pub mod Named
 pub mod Membership
+pub mod Members
 pub mod Tables
 pub mod Whole
 pub mod Repeat

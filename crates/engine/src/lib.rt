@@ -17,6 +17,10 @@ ghost use Rattle.nearest_of_four.specs.Near.{Near};
 ghost use Rattle.successive_minima.specs.Member.{isMember};
 ghost use Rattle.lattices.specs.Answer.{noReduction, reductionOf, noNearest, nearestOf};
 ghost use Rattle.engine.specs.Laws.Named.{named};
+pub use lattice::MemberAnswer;
+pub use lattice::membership;
+
+pub mod lattice;
 
 // Steps 4 and 5 for row k, the rows before it being reduced: the vector nearest to it in their lattice is subtracted from it.
 fn pass(b: &mut [[i64; 4]; 4], u: &mut [[i64; 4]; 4], v: &mut [[i64; 4]; 4], k: usize)

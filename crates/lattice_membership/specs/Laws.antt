@@ -2,5 +2,6 @@
 pub mod Choices
 pub mod Minor
 pub mod Made
+pub mod Accepted
 pub mod Members
 pub mod Cofactors
