@@ -8,15 +8,12 @@ use lib.IntN.{ℤ, pos}
 use lib.ListN.{length, getD, set, take, length-append, length-set}
 use lib.Seq.{sets, length-sets, append-snoc, take-suc, length-take-le}
 use Rattle.lattices.specs.Vector.{Vec}
-use Rattle.lattices.specs.Greedy.{vectors}
 use Rattle.lattices.specs.Laws.Refusal.{one-to}
 use Rattle.lattices.specs.Answer.{padded, table}
 use Rattle.lattices.specs.Laws.Answer.{length-padded, take-padded}
 use Rattle.greedy_reduction.specs.Start.{Coordinates}
-use Rattle.engine.specs.Laws.Finish.{R}
-use Rattle.catalogue_rules.specs.Catalogue.{Entry, coordinates, inputOf}
+use Rattle.catalogue_rules.specs.Catalogue.{Entry, coordinates}
 use Rattle.catalogue_rules.specs.Laws.RoundTrip.{coordinates-snoc}
-use Rattle.catalogue_rules.specs.Laws.EntriesAccepted.{is-basis}
 use Rattle.fold_rules.specs.Fold.{reducedOf}
 use Rattle.fold_rules.specs.Laws.SameLattice.{Sound, entry-full}
 use Rattle.integers.specs.Filled.{filled}
@@ -92,7 +89,7 @@ length-row (suc h) w (r ∷ rows) (suc i) l = length-row h w rows i (omega arith
 pub kept-full : (e : Entry) → Sound e → Full (reducedEntry e)
 kept-full e s =
     let few : e .head .d ≤ 4 = one-to 4 (e .head .d) (s .fits .head .d) .1 in
-    let vs = vectors (R (inputOf e) (is-basis e (s .fits) (s .independent))) in
+    let vs = reducedOf e in
     let same = rows-table e s in
     record {
       few = few;

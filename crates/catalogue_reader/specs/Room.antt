@@ -21,6 +21,8 @@ use Rattle.catalogue_rules.specs.Laws.WellFormed.{Known}
 use Rattle.catalogue_rules.specs.Laws.EntriesAccepted.{length-coordinates}
 use Rattle.integers.specs.Filled.{filled}
 use Rattle.integers.specs.FilledLaws.{length-filled}
+use Rattle.integers.specs.Size.{within-le}
+use Rattle.catalogue_reader.specs.Shown.{square-within}
 use Rattle.catalogue_reader.specs.Readings.{ReadyFor}
 use Rattle.catalogue_reader.specs.States.{readingOf, numbersOf, Fine}
 
@@ -76,6 +78,6 @@ fine (closed es) k d = k .few
 
 pub ready : (s : State) → Known s → Due s → ReadyFor (filled 0 256 (numbersOf s)) (readingOf s)
 ready (outside es) k d = record { room = omega (arith, length-filled 0 256 (numbersOf (outside es)), k .few) }
-ready (inside es h vs v) k d = record { room = (omega (arith, d .0, one-to 4 (h .d) (k .0 .head .d) .1), (omega (arith, d .1, one-to 4 (h .m) (k .0 .head .m) .1), places es h vs v k d)) }
+ready (inside es h vs v) k d = record { room = (omega (arith, d .0, one-to 4 (h .d) (k .0 .head .d) .1), (omega (arith, d .1, one-to 4 (h .m) (k .0 .head .m) .1), (places es h vs v k d, within-le (omega (arith, d .1, one-to 4 (h .m) (k .0 .head .m) .1)) (square-within v (k .2))))) }
 ready (after es h vs) k d = record { room = (k .0 .few, omega (arith, length-filled 0 256 (numbersOf (after es h vs)), k .0 .few)) }
 ready (closed es) k d = record { room = tt }

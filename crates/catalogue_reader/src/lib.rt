@@ -13,10 +13,12 @@ ghost use Rattle.catalogue_records.specs.Catalogues.{catalogueOf, unless};
 ghost use Rattle.catalogue_reader.specs.Readings.{isClosed, isNumber};
 ghost use Rattle.catalogue_reader.specs.Words.{wordIn};
 ghost use Rattle.catalogue_reader.specs.Store.{noted, Space};
+ghost use Rattle.catalogue_reader.specs.Cells.{Place, placed};
 ghost use Rattle.catalogue_rules.specs.Form.{EntryFits};
 ghost use Rattle.catalogue_records.specs.EntriesIn.{entryIn, entriesIn};
 use catalogue_records::Catalogue;
 use catalogue_records::Entry;
+use parts::first_numbers;
 use reading::Phase;
 use reading::Reading;
 use reading::numbered;
@@ -56,13 +58,34 @@ fn note(numbers: &mut [u32; 256], count: usize, w: Word)
     }
 }
 
-// The entries of the words, or the refusal of the first word that cannot stand. Entries and numbers of heads are stored in place.
+// A coordinate is stored after those of the entry before it.
+fn store(coordinates: &mut [i64; 16], n: usize, w: Word)
+    requires { ⌜ Place n (wordIn w) ⌝ }
+    ensures { λ _. ⌜ now (coordinates .exit) ≡ placed (now (coordinates .entry)) n (wordIn w) ⌝ }
+{
+    match w {
+        Word::Head {
+            number: _,
+            d: _,
+            m: _,
+        } => {}
+        Word::Coordinate(load) => {
+            coordinates[n] = load as i64 - 20000;
+        }
+        Word::See(_) => {}
+        Word::End(_) => {}
+        Word::Other { kind: _, load: _ } => {}
+    }
+}
+
+// The entries of the words, or the refusal of the first word that cannot stand. Entries, numbers of heads and coordinates are stored in place.
 fn read_words(bytes: &[u8]) -> Catalogue
     ensures { λ r. ⌜ r ≡ catalogueOf (readWords (outside []) 0 (wordsOf (now (bytes .entry)))) ⌝ }
 {
     let none = Catalogue::empty();
     let mut entries = none.entries;
     let mut numbers = [0u32; Catalogue::MOST_ENTRIES];
+    let mut coordinates = [0i64; 16];
     let mut s = Reading::start();
     let n = bytes.len() / 4;
     for i in 0..n {
@@ -73,11 +96,13 @@ fn read_words(bytes: &[u8]) -> Catalogue
         }
         let k = s.count;
         let c = t.count;
+        let part = s.part;
         if k < c {
-            let e = t.last;
+            let e = part.whole(first_numbers(&coordinates, part.filled), i, w);
             entries[k] = e;
         }
         note(&mut numbers, c, w);
+        store(&mut coordinates, part.filled, w);
         s = t;
     }
     let phase = s.phase;

@@ -19,7 +19,7 @@ use Rattle.catalogue_records.specs.Again.{few-read, formed}
 use Rattle.catalogue_records.specs.EntriesIn.{entryIn, entriesIn}
 use Rattle.catalogue_records.specs.Entries.{beyond, entryAt, length-entries, at-place, entry-has}
 use Rattle.catalogue_standing.specs.declared.reduced_entry.ReducedEntry.{ReducedEntry}
-use Rattle.catalogue_standing.specs.ReducedEntry.{reducedEntry, noReduced, Fair, kept-fair}
+use Rattle.catalogue_standing.specs.ReducedEntry.{reducedEntry, noReduced, Fair}
 use Rattle.catalogue_standing.specs.Places.{Closed}
 use Rattle.catalogue_standing.specs.Standing.{Held, Numbers}
 
@@ -60,7 +60,7 @@ module _ (c : Catalogue) (r : WasRead c) where
 
   module _ {list : List ReducedEntry} (kept : HoldReduced c (c .count) list) where
     pub keeps-fair : (k : ℕ) → k < c .count → Fair (getD list k noReduced)
-    keeps-fair k h = subst Fair (sym (kept .at k h)) (kept-fair _ (entry-has c (r .long) (r .few) k h Sound (sound-entries (entriesIn c) (r .formed))))
+    keeps-fair k h = record { entry = entryIn (entryAt c k); sound = entry-has c (r .long) (r .few) k h Sound (sound-entries (entriesIn c) (r .formed)); is = kept .at k h }
 
     pub keeps-held : {places : List ℕ} → Closed list (c .count) places → Held (entriesIn c) (entryIn beyond) list places
     keeps-held {places} p = record {

@@ -26,7 +26,7 @@ const ACCEPTED: u64 = 0;
 // The limits of a coordinate's size and of a squared length.
 const MOST_SIZE: i64 = 20000;
 
-const MOST_SQUARE: i64 = 400000000;
+pub const MOST_SQUARE: i64 = 400000000;
 
 // The m numbers from `at` on as a vector of the array: zeros follow.
 pub fn vector(numbers: &[i64], at: usize, m: usize) -> [i64; 4]

@@ -4,16 +4,18 @@ ghost use mathlib.Core.Path.{_≡_};
 ghost use mathlib.Core.Logic.{_≢_};
 ghost use mathlib.Core.Bool.{not};
 ghost use mathlib.Core.List.{[], map};
-ghost use Prim.Native.Nat.{ℕ, _≤_, _<_};
+ghost use Prim.Native.Nat.{ℕ, _*_, _≤_, _<_};
 ghost use lib.IntN.{pos};
-ghost use lib.ListN.{getD, take};
+ghost use lib.ListN.{length, getD, take};
 ghost use lib.Signed.{_≤ℤ_};
+ghost use Rattle.integers.specs.All.{All};
 ghost use Rattle.integers.specs.Every.{any, every};
 ghost use Rattle.integers.specs.Filled.{filled};
 ghost use Rattle.integers.specs.Size.{Within};
 ghost use Rattle.lattices.specs.Vector.{N, nth, dot};
 ghost use Rattle.lattices.specs.Volume.{volume};
-ghost use Rattle.lattices.specs.Refusal.{mostVectors, mostCoordinates};
+ghost use Rattle.lattices.specs.Refusal.{mostVectors, mostCoordinates, vectorsOf};
+ghost use Rattle.lattices.specs.Answer.{padded};
 ghost use Rattle.exterior_algebra.specs.Minors.{marks};
 ghost use Rattle.input_checks.specs.Volumes.{nonzero};
 ghost use Rattle.successive_minima.specs.Member.{isMember};
@@ -334,4 +336,25 @@ pub fn holds_all(l: Lattice, vectors: [Vector; 4], count: usize) -> bool
         }
     }
     true
+}
+
+// Whether a lattice holds another: its vectors are all in it.
+pub fn holds_lattice(l: Lattice, other: Lattice) -> bool
+    requires { ⌜ (Known l) × (Known other) ⌝ }
+    ensures { λ r. ⌜ r ≡ every (isMember (vectorsIn l)) (vectorsIn other) ⌝ }
+{
+    let vectors = other.vectors;
+    holds_all(l, row_operations::vectors_of(vectors), other.d)
+}
+
+// Whether d vectors of m coordinates each, vector by vector, are all in the lattice.
+pub fn holds_numbers(l: Lattice, numbers: &[i64], d: usize, m: usize) -> bool
+    requires { ⌜ Known l ⌝ }
+    requires { ⌜ (d ≤ mostVectors) × (m ≤ mostCoordinates) ⌝ }
+    requires { ⌜ length (now numbers) ≡ d * m ⌝ }
+    requires { ⌜ All (λ v. N v ≤ℤ pos 400000000) (vectorsOf d m (now numbers)) ⌝ }
+    ensures { λ r. ⌜ r ≡ every (isMember (vectorsIn l)) (map (padded mostCoordinates) (vectorsOf d m (now (numbers .entry)))) ⌝ }
+{
+    let b = input_checks::basis(numbers, d, m);
+    holds_all(l, b, d)
 }

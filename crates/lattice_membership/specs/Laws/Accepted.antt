@@ -1,5 +1,4 @@
 -- The basis that a reduction gives for an accepted input may be made a lattice.
-use mathlib.Core.Bool.{false}
 use mathlib.Core.Path.{_≡_, sym, ap, _∙_, subst}
 use mathlib.Core.List.{List, [], _∷_, map, reverseAux}
 use Prim.Native.Nat.{ℕ, _≤_, _<_}
@@ -8,11 +7,12 @@ use lib.IntN.{ℤ, pos}
 use lib.Signed.{_≤ℤ_, _<ℤ_}
 use lib.ListN.{length, getD, take}
 use lib.Seq.{getD-take}
-use Rattle.integers.specs.AllLaws.{getD-map, all-at}
+use Rattle.integers.specs.All.{All}
+use Rattle.integers.specs.AllLaws.{getD-map, all-at, all-imp}
 use Rattle.lattices.specs.Vector.{Vec, N, comb, _⊕_}
 use Rattle.lattices.specs.Laws.Vector.{≈-sym, ≈-⊕, ≈-N}
 use Rattle.lattices.specs.Greedy.{vectors, reduction}
-use Rattle.lattices.specs.Refusal.{Input, basis, firstOf, vectorChecks, tooLong, mostVectors, mostCoordinates}
+use Rattle.lattices.specs.Refusal.{Input, basis, firstOf, vectorChecks, mostVectors, mostCoordinates}
 use Rattle.lattices.specs.Answer.{padded, table, reductionOf}
 use Rattle.lattices.specs.Laws.Answer.{padded-≈, table-rows, length-vectorsOf}
 use Rattle.successive_minima.specs.Reduced.{Under, Top, Descending, Reduced}
@@ -55,6 +55,19 @@ module _ (n m : ℕ) (h : m ≤ n) where
   pub reduced-padded : (bs : List Vec) → Coordinates m bs → Reduced bs → Reduced (map (padded n) bs)
   reduced-padded bs c d = reversed-padded bs [] c tt d
 
+-- ---- the rows of an array that begins with such a list
+
+module _ (m : ℕ) (few : m ≤ mostCoordinates) (vs : List Vec) (full : Coordinates m vs) (d : ℕ) (count : length vs ≡ d) where
+  pub rows-short : (b : List Vec) → take d b ≡ map (padded mostCoordinates) vs → All (λ v. N v ≤ℤ pos 400000000) vs → (k : ℕ) → k < d → N (getD b k []) ≤ℤ pos 400000000
+  rows-short b rows limit k h =
+      let here : k < length vs = omega (arith, count) in
+      let v = getD vs k [] in
+      let row : getD b k [] ≡ padded mostCoordinates v = sym (getD-take d b k [] h) ∙ ap (λ l. getD l k []) rows ∙ getD-map (padded mostCoordinates) vs [] [] k here in
+      subst (λ n. n ≤ℤ pos 400000000) (sym (ap N row ∙ padded-N mostCoordinates v (omega (arith, coordinates-at m vs full k here, few)))) (all-at (λ v. N v ≤ℤ pos 400000000) vs [] limit k here)
+
+  pub table-first : d ≤ mostVectors → take d (table mostVectors mostCoordinates vs) ≡ map (padded mostCoordinates) vs
+  table-first most = ap (λ n. take n (table mostVectors mostCoordinates vs)) (sym count) ∙ table-rows mostVectors mostCoordinates vs (omega (arith, count, most))
+
 -- ---- the rows of the answer
 
 module _ (i : Input) (e : firstOf vectorChecks i ≡ 0) where
@@ -72,19 +85,9 @@ module _ (i : Input) (e : firstOf vectorChecks i ≡ 0) where
 
   pub outs-rows : take (i .d) (reductionOf i .basis) ≡ map (padded mostCoordinates) outs
   outs-rows =
-      ap (λ r. take (i .d) (r .basis)) (accepted-reduction i e) ∙ ap (λ n. take n (table mostVectors mostCoordinates outs)) (sym outs-count)
-      ∙ table-rows mostVectors mostCoordinates outs (omega (arith, outs-count, accepted i e .most))
-
-  outs-short : (k : ℕ) → k < i .d → N (getD (reductionOf i .basis) k []) ≤ℤ pos 400000000
-  outs-short k h =
-      let here : k < length outs = omega (arith, outs-count) in
-      let row : getD (reductionOf i .basis) k [] ≡ padded mostCoordinates (getD outs k []) =
-      sym (getD-take (i .d) (reductionOf i .basis) k [] h) ∙ ap (λ l. getD l k []) outs-rows ∙ getD-map (padded mostCoordinates) outs [] [] k here in
-      let v = getD outs k [] in
-      subst (λ n. n ≤ℤ pos 400000000) (sym (ap N row ∙ padded-N mostCoordinates v (omega (arith, coordinates-at (i .m) outs full k here, accepted i e .few))))
-      (short v (all-at (λ v. tooLong v ≡ false) outs [] (reduced-short (i .m) (basis i) B) k here))
+      ap (λ r. take (i .d) (r .basis)) (accepted-reduction i e) ∙ table-first (i .m) (accepted i e .few) outs full (i .d) outs-count (accepted i e .most)
 
   pub accepted-basis : ReducedBasis (i .d) (reductionOf i .basis)
   accepted-basis = basis-padded (i .d) (reductionOf i .basis) outs (accepted i e .most) outs-rows
       (subst Reduced (sym outs-rows) (reduced-padded mostCoordinates (i .m) (accepted i e .few) outs full (reduction-reduced (i .m) (basis i) (B .full) (B .some) (B .four) (B .volume))))
-      outs-short
+      (rows-short (i .m) (accepted i e .few) outs full (i .d) outs-count (reductionOf i .basis) outs-rows (all-imp (λ v h. short v h) outs (reduced-short (i .m) (basis i) B)))

@@ -38,11 +38,11 @@ reduce-requires c κs = search needs
 
 returns : tie.Need-returns
 returns c =
-    let s = c .before .before .before .before .before in
+    let s = c .before .before .before .before .before .before in
     let e = s .args .e in
-    let kept : _ → _ → ReducedEntry = λ vectors passes. record { d = e .d; m = e .m; vectors = vectors; passes = passes } in
-    ap (λ r. kept (r .vectors) (r .passes)) (c .before .reduce .ensures)
-    ∙ ap (λ l. let r = reductionOf (record { numbers = l; d = e .d; m = e .m; target = [] }) in kept (map vectorRow (r .basis)) (r .passes)) (same s)
+    let kept : _ → _ → _ → ReducedEntry = λ vectors squares passes. record { d = e .d; m = e .m; vectors = vectors; squares = squares; passes = passes } in
+    ap (λ r. kept (r .vectors) (r .squares) (r .passes)) (c .before .before .reduce .ensures)
+    ∙ ap (λ l. let r = reductionOf (record { numbers = l; d = e .d; m = e .m; target = [] }) in kept (map vectorRow (r .basis)) (r .squares) (r .passes)) (same s)
 
 pub keep-spec : {M : Type 1} → statement M
 keep-spec =

@@ -75,7 +75,7 @@ returns-5 c =
     let o = c .before .before .before in
     let s = c .before .before .before .before .before .before .before .before .before .before .before in
     c .going .ensures
-    ∙ ap (λ p. going Inside (s .args .self .count) p (s .args .self .last)) (c .before .start .ensures)
+    ∙ ap (λ p. going Inside (s .args .self .count) p) (c .before .start .ensures)
     ∙ head-goes (s .args .numbers .now) (s .args .self) (s .args .number) (s .args .d) (s .args .m) (s .args .i) (room (o .before .before .before .before .before)) (counted (o .before .before .before)) (narrow (o .before)) (sym (o .not-free .ensures) ∙ c .before .before .if4 .left)
 
 pub at-head-spec : {M : Type 1} → statement M
