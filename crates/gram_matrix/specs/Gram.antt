@@ -78,7 +78,7 @@ pub coordinates-against : (bs vs : List Vec) → Coordinates (length bs) (map (a
 coordinates-against bs [] = tt
 coordinates-against bs (v ∷ vs) = (length-against bs v, coordinates-against bs vs)
 
-nth-comb : (x : List ℤ) (ts : List (List ℤ)) (i : ℕ) → nth (comb x ts) i ≡ dot x (map (λ t. nth t i) ts)
+pub nth-comb : (x : List ℤ) (ts : List (List ℤ)) (i : ℕ) → nth (comb x ts) i ≡ dot x (map (λ t. nth t i) ts)
 nth-comb x ts i = nth-dot (comb x ts) i ∙ comb-dot x ts (unit i) ∙ ap (dot x) (against-map ts (unit i) ∙ ap (λ f. map f ts) (fun-ext (λ t. sym (nth-dot t i))))
 
 against-minus : (bs : List Vec) (u : Vec) (x : List ℤ) (vs : List Vec) → against bs (u ⊖ comb x vs) ≡ against bs u ⊖ comb x (map (against bs) vs)

@@ -6,3 +6,5 @@ pub mod ByRow
 pub mod Columns
 pub mod Fits
 pub mod Lose
+pub mod Cross
+pub mod Passed

@@ -4,11 +4,14 @@ ghost use mathlib.Core.List.{List, [], _++_, map};
 ghost use Prim.Native.Nat.{ℕ, suc, _+_, _-_, _≤_, _<_};
 ghost use lib.IntN.{ℤ, natAbs, _-ℤ_, _*ℤ_};
 ghost use lib.ListN.{length, getD, set, take, drop};
-ghost use Rattle.lattices.specs.Vector.{nth, _⊖_, _⊙_};
+ghost use Rattle.lattices.specs.Vector.{nth, dot, _⊖_, _⊙_};
 ghost use Rattle.row_operations.specs.Minus.{room};
 ghost use Rattle.gram_matrix.specs.Columns.{gainedAt, gainedColumns};
 ghost use Rattle.gram_matrix.specs.Lose.{Losable, Gainable, Loses, Gains, lost};
-ghost use Rattle.gram_matrix.specs.Gram.{losing};
+ghost use Rattle.gram_matrix.specs.Gram.{losing, losingEntry};
+ghost use Rattle.gram_matrix.specs.Cross.{entered, crossed};
+ghost use Rattle.integers.specs.Size.{Within};
+ghost use Rattle.gram_matrix.specs.Passed.{tied-passed};
 ghost use Rattle.lattices.specs.Greedy.{Row, order};
 ghost use Rattle.gram_matrix.specs.Order.{exchanged, swapped, insertAt};
 ghost use Rattle.gram_matrix.specs.Tied.{Held, Tied, shorterIn};
@@ -191,4 +194,53 @@ pub fn lose_combination(b: &mut Basis, u: &mut Table, v: &mut Table, k: usize, x
     for j in 0..k {
         lose_multiple(b, u, v, k, j, x[j]);
     }
+}
+
+// The inner product of the first k places.
+fn dot_first(x: [i64; 3], r: [i64; 4], k: usize) -> i64
+    requires { ⌜ k ≤ 3 ⌝ }
+    requires { ⌜ ((i : ℕ) → Within 3000000000000000000 (nth x i *ℤ nth r i)) ⌝ }
+    ensures { λ s. ⌜ s ≡ dot (take k x) (take k r) ⌝ }
+{
+    let mut sum = 0;
+    for i in 0..k {
+        sum += x[i] * r[i];
+    }
+    sum
+}
+
+// Entry k of a row loses the combination x of the entries before it.
+fn less_entry(r: [i64; 4], k: usize, x: [i64; 3]) -> [i64; 4]
+    requires { ⌜ k ≤ 3 ⌝ }
+    requires { ⌜ ((i : ℕ) → Within 2000000000000000000 (nth x i *ℤ nth r i)) ⌝ }
+    requires { ⌜ Within 1000000000000000000 (nth r k) ⌝ }
+    ensures { λ s. ⌜ s ≡ losingEntry (take k x) k r ⌝ }
+{
+    let mut s = r;
+    s[k] = r[k] - dot_first(x, r, k);
+    s
+}
+
+// Entry k of each row becomes that of r at its place.
+fn enter(g: &mut Table, k: usize, r: [i64; 4])
+    requires { ⌜ k ≤ 3 ⌝ }
+    requires { ⌜ length (now g) ≡ 4 ⌝ }
+    ensures { λ _. ⌜ now (g .exit) ≡ entered k r (now (g .entry)) ⌝ }
+{
+    for i in 0..4 {
+        g[i][k] = r[i];
+    }
+}
+
+// Row and column k of the Gram matrix become r, what is left of row k when the rows before it are taken away x times; its entry k, the
+// squared length, loses the same once more.
+pub fn cross(g: &mut Table, k: usize, r: [i64; 4], x: [i64; 3])
+    requires { ⌜ k ≤ 3 ⌝ }
+    requires { ⌜ length (now g) ≡ 4 ⌝ }
+    requires { ⌜ ((i : ℕ) → Within 2000000000000000000 (nth x i *ℤ nth r i)) ⌝ }
+    requires { ⌜ Within 1000000000000000000 (nth r k) ⌝ }
+    ensures { λ _. ⌜ now (g .exit) ≡ crossed (take k x) k r (now (g .entry)) ⌝ }
+{
+    enter(g, k, r);
+    g[k] = less_entry(r, k, x);
 }
