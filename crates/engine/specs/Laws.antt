@@ -13,4 +13,6 @@ pub mod Membership
 pub mod Tables
 pub mod Whole
 pub mod Repeat
+pub mod Products
+pub mod Passing
 pub mod Loop

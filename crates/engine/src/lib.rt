@@ -1,10 +1,16 @@
 // The lattice engine: greedy reduction with its tables, proved equal to the definition.
 ghost use mathlib.Core.Path.{_≡_};
-ghost use Prim.Native.Nat.{_+_, _-_, _≤_, _<_};
-ghost use mathlib.Core.List.{[]};
-ghost use lib.ListN.{getD, take};
+ghost use Prim.Native.Nat.{ℕ, _+_, _-_, _≤_, _<_};
+ghost use mathlib.Core.List.{List, []};
+ghost use lib.IntN.{ℤ, pos, natAbs};
+ghost use lib.ListN.{length, getD, take};
 ghost use lib.Signed.{ltZ};
-ghost use Rattle.lattices.specs.Vector.{N};
+ghost use Rattle.integers.specs.Size.{load};
+ghost use Rattle.lattices.specs.Vector.{nth, N, comb, _⊖_};
+ghost use Rattle.lattices.specs.Greedy.{Row};
+ghost use Rattle.row_operations.specs.Minus.{room};
+ghost use Rattle.gram_matrix.specs.Tied.{Held, Tied};
+ghost use Rattle.engine.specs.Laws.Tables.{Passable};
 ghost use Rattle.row_operations.specs.Rows.{FourRows, rowsOf, workOf};
 ghost use Rattle.row_operations.specs.Order.{ShortRows};
 ghost use Rattle.engine.specs.Laws.State.{rowsIn, passRows, greedyPasses, reduced};
@@ -18,71 +24,34 @@ ghost use Rattle.successive_minima.specs.Member.{isMember};
 ghost use Rattle.lattices.specs.Answer.{noReduction, reductionOf, noNearest, nearestOf};
 ghost use Rattle.engine.specs.Laws.Named.{named};
 
-// Steps 4 and 5 for row k, the rows before it being reduced: the vector nearest to it in their lattice is subtracted from it.
-fn pass(b: &mut [[i64; 4]; 4], u: &mut [[i64; 4]; 4], v: &mut [[i64; 4]; 4], k: usize)
+use gram_matrix::Table;
+use row_operations::Basis;
+
+// What is left of row k of the Gram matrix when the rows before it are taken away x times.
+fn left(g: &Table, k: usize, x: [i64; 3]) -> [i64; 4]
     requires { ⌜ k ≤ 3 ⌝ }
-    requires { ⌜ FourRows (now b) (now u) (now v) ⌝ }
-    requires { ⌜ PassReady k (rowsOf (now b) (now u) (now v)) ⌝ }
-    ensures { λ _. ⌜ FourRows (now (b .exit)) (now (u .exit)) (now (v .exit)) ⌝ }
-    ensures { λ _. ⌜ rowsOf (now (b .exit)) (now (u .exit)) (now (v .exit)) ≡ passRows k (rowsOf (now (b .entry)) (now (u .entry)) (now (v .entry))) ⌝ }
+    requires { ⌜ length (now g) ≡ 4 ⌝ }
+    requires { ⌜ ((i : ℕ) → natAbs (nth (getD (now g) k []) i) + load (take k x) (take k (now g)) i ≤ room) ⌝ }
+    ensures { λ r. ⌜ r ≡ getD (now (g .entry)) k [] ⊖ comb (take k x) (take k (now (g .entry))) ⌝ }
+{
+    let mut t = *g;
+    row_operations::minus_rows(&mut t, k, x);
+    t[k]
+}
+
+// Steps 4 and 5 for row k, the rows before it being reduced: the vector nearest to it in their lattice is subtracted from it.
+fn pass(g: &mut Table, b: &mut Basis, u: &mut Table, v: &mut Table, k: usize)
+    requires { ⌜ k ≤ 3 ⌝ }
+    requires { ⌜ Held (now g) (now b) (now u) (now v) ⌝ }
+    requires { ⌜ Passable k (now g) (now b) (now u) (now v) ⌝ }
+    ensures { λ _. ⌜ Held (now (g .exit)) (now (b .exit)) (now (u .exit)) (now (v .exit)) ⌝ }
+    ensures { λ _. ⌜ ((rows : List Row) → Tied (pos 1) rows (now (g .entry)) (now (b .entry)) (now (u .entry)) (now (v .entry)) → PassReady k rows → Tied (pos 1) (passRows k rows) (now (g .exit)) (now (b .exit)) (now (u .exit)) (now (v .exit))) ⌝ }
 {
     let last = b[k];
     let x = nearest_of_three::search(b, k, last);
-    row_operations::minus_rows(b, k, x);
-    row_operations::minus_rows(u, k, x);
-    row_operations::credit_rows(v, k, x);
-}
-
-// Step 6: is row k shorter than the row before it?
-fn shorter(b: &[[i64; 4]; 4], k: usize) -> bool
-    requires { ⌜ (0 < k) × (k ≤ 3) ⌝ }
-    requires { ⌜ ShortRows (now b) ⌝ }
-    ensures { λ r. ⌜ r ≡ ltZ (N (getD (now (b .entry)) k [])) (N (getD (now (b .entry)) (k - 1) [])) ⌝ }
-{
-    let last = b[k];
-    let other = b[k - 1];
-    row_operations::dot(last, last) < row_operations::dot(other, other)
-}
-
-// Steps 1 to 6 for the first n rows, on one vector fewer at each call of itself. `before` counts the passes made so far.
-fn reduce_first(
-    vectors: [[i64; 4]; 4],
-    us: [[i64; 4]; 4],
-    vs: [[i64; 4]; 4],
-    n: usize,
-    before: u64,
-) -> row_operations::Work
-    requires { ⌜ n ≤ 4 ⌝ }
-    requires { ⌜ Fine n (rowsOf vectors us vs) ⌝ }
-    requires { ⌜ before + greedyPasses n (rowsOf vectors us vs) ≤ 1000000000000 ⌝ }
-    ensures { λ r. ⌜ r ≡ reduced n (workOf (rowsOf vectors us vs) before) ⌝ }
-{
-    let mut b = vectors;
-    let mut u = us;
-    let mut v = vs;
-    let mut passes = before;
-    if n < 2 {
-        return row_operations::packed(&b, &u, &v, passes);
-    }
-    loop {
-        row_operations::order(&mut b, &mut u, &mut v, n);
-        // one vector is given back
-        if 2 < n {
-            let f = reduce_first(b, u, v, n - 1, passes);
-            let first = f.vectors;
-            let first_u = f.u;
-            let first_v = f.v;
-            row_operations::take_vectors(&mut b, first);
-            row_operations::take_table(&mut u, first_u);
-            row_operations::take_table(&mut v, first_v);
-            passes = f.passes;
-        }
-        pass(&mut b, &mut u, &mut v, n - 1);
-        passes += 1;
-        if !shorter(&b, n - 1) {
-            break row_operations::packed(&b, &u, &v, passes);
-        }
-    }
+    let r = left(g, k, x);
+    gram_matrix::lose_combination(b, u, v, k, x);
+    gram_matrix::cross(g, k, r, x);
 }
 
 // The answer of a reduction. Where the refusal is not 0, all else is 0; unused places hold 0.
@@ -109,40 +78,6 @@ fn refused(n: u64) -> Reduction
         squares: [0; 4],
         passes: 0,
     }
-}
-
-// The answer from the finished work: V is written out by rows.
-fn finished(w: row_operations::Work) -> Reduction
-    requires { ⌜ Fine 0 (rowsIn w) ⌝ }
-    ensures { λ r. ⌜ r ≡ finished w ⌝ }
-{
-    let vectors = w.vectors;
-    let u = w.u;
-    let vs = w.v;
-    let b = row_operations::vectors_of(vectors);
-    let v = row_operations::tables_of(vs);
-    Reduction {
-        refusal: 0,
-        place: 0,
-        vectors,
-        u,
-        v: row_operations::table_rows(row_operations::transposed(v)),
-        squares: row_operations::squared_lengths(b),
-        passes: w.passes,
-    }
-}
-
-// Reduction: d vectors of m coordinates each, vector by vector.
-pub fn reduce(numbers: &[i64], d: usize, m: usize) -> Reduction
-    ensures { λ r. ⌜ r ≡ packed (reductionOf (record { numbers = now (numbers .entry); d = d; m = m; target = [] })) ⌝ }
-{
-    let number = input_checks::refusal(numbers, d, m);
-    if number != 0 {
-        return refused(number);
-    }
-    let b = input_checks::basis(numbers, d, m);
-    let e = row_operations::unit_table(d);
-    finished(reduce_first(b, e, e, d, 0))
 }
 
 // The answer of a search for the nearest vector: the vector, its coefficients on the reduced basis, its squared distance from the target.
@@ -183,32 +118,3 @@ fn named(t: [i64; 4], x: [i64; 4], rest: [i64; 4]) -> NearestVector
     }
 }
 
-// Nearest: d vectors of m coordinates each, vector by vector, and a target of m coordinates. The basis is reduced first.
-pub fn nearest(numbers: &[i64], d: usize, m: usize, target: &[i64]) -> NearestVector
-    ensures { λ r. ⌜ r ≡ packedNearest (nearestOf (record { numbers = now (numbers .entry); d = d; m = m; target = now (target .entry) })) ⌝ }
-{
-    let r = reduce(numbers, d, m);
-    if r.refusal != 0 {
-        return refused_nearest(r.refusal);
-    }
-    let n = input_checks::target_refusal(target, m);
-    if n != 0 {
-        return refused_nearest(n);
-    }
-    let vectors = r.vectors;
-    let b = row_operations::vectors_of(vectors);
-    let t = input_checks::vector(target, 0, m);
-    let c = nearest_of_four::closest(b, d, t);
-    let x = c.list;
-    let rest = c.rest;
-    named(t, x, rest)
-}
-
-// Membership: whether v is in the lattice of the first d vectors, which are reduced already, so that many vectors can be tested on one basis.
-pub fn member(b: [[i64; 4]; 4], d: usize, v: [i64; 4]) -> bool
-    requires { ⌜ d ≤ 4 ⌝ }
-    requires { ⌜ Near d b v ⌝ }
-    ensures { λ r. ⌜ r ≡ isMember (take d b) v ⌝ }
-{
-    nearest_of_four::member(b, d, v)
-}
