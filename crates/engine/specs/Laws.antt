@@ -11,8 +11,6 @@ pub mod Answer
 pub mod Named
 pub mod Membership
 pub mod Tables
-pub mod Whole
 pub mod Repeat
 pub mod Products
 pub mod Passing
-pub mod Loop

@@ -1,23 +1,20 @@
 // The lattice engine: greedy reduction with its tables, proved equal to the definition.
 ghost use mathlib.Core.Path.{_≡_};
 ghost use Prim.Native.Nat.{ℕ, _+_, _-_, _≤_, _<_};
-ghost use mathlib.Core.List.{List, []};
-ghost use lib.IntN.{ℤ, pos, natAbs};
+ghost use mathlib.Core.List.{[]};
+ghost use lib.IntN.{natAbs};
 ghost use lib.ListN.{length, getD, take};
 ghost use lib.Signed.{ltZ};
 ghost use Rattle.integers.specs.Size.{load};
 ghost use Rattle.lattices.specs.Vector.{nth, N, comb, _⊖_};
-ghost use Rattle.lattices.specs.Greedy.{Row};
 ghost use Rattle.row_operations.specs.Minus.{room};
 ghost use Rattle.gram_matrix.specs.Tied.{Held, Tied};
 ghost use Rattle.engine.specs.Laws.Tables.{Passable};
-ghost use Rattle.row_operations.specs.Rows.{FourRows, rowsOf, workOf};
-ghost use Rattle.row_operations.specs.Order.{ShortRows};
-ghost use Rattle.engine.specs.Laws.State.{rowsIn, passRows, greedyPasses, reduced};
+ghost use Rattle.engine.specs.Laws.Repeat.{Reducible, Outcome};
+ghost use Rattle.engine.specs.Laws.State.{passRows};
 ghost use Rattle.engine.specs.Laws.Fine.{Fine};
 ghost use Rattle.engine.specs.Laws.Room.{PassReady};
 ghost use Rattle.engine.specs.Packed.{packed, packedNearest};
-ghost use Rattle.engine.specs.Laws.Answer.{finished};
 ghost use Rattle.successive_minima.specs.Laws.Digits.{Bounded};
 ghost use Rattle.nearest_of_four.specs.Near.{Near};
 ghost use Rattle.successive_minima.specs.Member.{isMember};
@@ -25,6 +22,7 @@ ghost use Rattle.lattices.specs.Answer.{noReduction, reductionOf, noNearest, ne
 ghost use Rattle.engine.specs.Laws.Named.{named};
 
 use gram_matrix::Table;
+use gram_matrix::Work;
 use row_operations::Basis;
 
 // What is left of row k of the Gram matrix when the rows before it are taken away x times.
@@ -45,13 +43,50 @@ fn pass(g: &mut Table, b: &mut Basis, u: &mut Table, v: &mut Table, k: usize)
     requires { ⌜ Held (now g) (now b) (now u) (now v) ⌝ }
     requires { ⌜ Passable k (now g) (now b) (now u) (now v) ⌝ }
     ensures { λ _. ⌜ Held (now (g .exit)) (now (b .exit)) (now (u .exit)) (now (v .exit)) ⌝ }
-    ensures { λ _. ⌜ ((rows : List Row) → Tied (pos 1) rows (now (g .entry)) (now (b .entry)) (now (u .entry)) (now (v .entry)) → PassReady k rows → Tied (pos 1) (passRows k rows) (now (g .exit)) (now (b .exit)) (now (u .exit)) (now (v .exit))) ⌝ }
+    ensures { λ _. ⌜ ((p : Passable k (now (g .entry)) (now (b .entry)) (now (u .entry)) (now (v .entry))) → Tied (p .factor) (passRows k (p .rows)) (now (g .exit)) (now (b .exit)) (now (u .exit)) (now (v .exit))) ⌝ }
 {
     let last = b[k];
     let x = nearest_of_three::search(b, k, last);
     let r = left(g, k, x);
     gram_matrix::lose_combination(b, u, v, k, x);
     gram_matrix::cross(g, k, r, x);
+}
+
+// Steps 1 to 6 for the first n rows, on one vector fewer at each call of itself. `before` counts the passes made so far.
+fn reduce_first(gram: Table, vectors: Basis, us: Table, vs: Table, n: usize, before: u64) -> Work
+    requires { ⌜ n ≤ 4 ⌝ }
+    requires { ⌜ Reducible n before gram vectors us vs ⌝ }
+    ensures { λ r. ⌜ ((p : Reducible n before gram vectors us vs) → Outcome (p .factor) n before (p .rows) r) ⌝ }
+{
+    let mut g = gram;
+    let mut b = vectors;
+    let mut u = us;
+    let mut v = vs;
+    let mut passes = before;
+    if n < 2 {
+        return gram_matrix::packed(&g, &b, &u, &v, passes);
+    }
+    loop {
+        gram_matrix::order(&mut g, &mut b, &mut u, &mut v, n);
+        // one vector is given back
+        if 2 < n {
+            let f = reduce_first(g, b, u, v, n - 1, passes);
+            let first_g = f.gram;
+            let first_b = f.vectors;
+            let first_u = f.u;
+            let first_v = f.v;
+            row_operations::take_table(&mut g, first_g);
+            row_operations::take_vectors(&mut b, first_b);
+            row_operations::take_table(&mut u, first_u);
+            row_operations::take_table(&mut v, first_v);
+            passes = f.passes;
+        }
+        pass(&mut g, &mut b, &mut u, &mut v, n - 1);
+        passes += 1;
+        if !gram_matrix::shorter(&g, n - 1) {
+            break gram_matrix::packed(&g, &b, &u, &v, passes);
+        }
+    }
 }
 
 // The answer of a reduction. Where the refusal is not 0, all else is 0; unused places hold 0.

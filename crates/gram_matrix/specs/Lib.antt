@@ -8,3 +8,4 @@ pub mod Fits
 pub mod Lose
 pub mod Cross
 pub mod Passed
+pub mod Work

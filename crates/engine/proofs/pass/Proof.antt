@@ -1,16 +1,11 @@
 -- `pass`: the search, then the row operations on the four tables.
 use mathlib.Core.Path.{_≡_, ap, _∙_}
-use mathlib.Core.List.{List}
-use lib.IntN.{pos}
 use lib.ListN.{length, take, length-set, length-map}
 use denote.Ref.{now}
 use Rattle.lattices.specs.Answer.{padded}
-use Rattle.lattices.specs.Greedy.{Row}
-use Rattle.gram_matrix.specs.Tied.{Tied}
 use Rattle.gram_matrix.specs.Cross.{entered, crossed, length-entered}
-use Rattle.engine.specs.Laws.Room.{PassReady}
 use Rattle.engine.specs.Laws.Passing.{coefficients}
-use Rattle.engine.specs.Laws.Tables.{Passable, searchable, found, gram-room, left-room, square-room, vectors-lose, us-lose, vs-gain, tied-after}
+use Rattle.engine.specs.Laws.Tables.{Passable, tied-one, searchable, found, gram-room, left-room, square-room, vectors-lose, us-lose, vs-gain, tied-after}
 use borrow.Author.Needs.{needs}
 use Rattle.engine.proofs.pass.Statement.{statement}
 use Rattle.engine.proofs.pass.Tie as tie
@@ -26,11 +21,11 @@ given s = s .pre .1 .1
 
 -- what the search finds, whatever rows the tables are those of
 x-of : (a : tie.After-search) → let s = a .before .before .before in
-    (rows : List Row) → Tied (pos 1) rows (now (s .args .g)) (now (s .args .b)) (now (s .args .u)) (now (s .args .v)) → PassReady (s .args .k) rows → a .search .result ≡ padded 3 (coefficients (s .args .k) rows)
-x-of a rows t r = let s = a .before .before .before in a .search .ensures ∙ found t r (s .pre .0) (s .pre .1 .0 .us)
+    (p : Passable (s .args .k) (now (s .args .g)) (now (s .args .b)) (now (s .args .u)) (now (s .args .v))) → a .search .result ≡ padded 3 (coefficients (s .args .k) (p .rows))
+x-of a p = let s = a .before .before .before in a .search .ensures ∙ found (tied-one p) (p .ready) (s .pre .0) (s .pre .1 .0 .us)
 
 x-here : (a : tie.After-search) → let s = a .before .before .before in a .search .result ≡ padded 3 (coefficients (s .args .k) (given s .rows))
-x-here a = let s = a .before .before .before in x-of a (given s .rows) (given s .tied) (given s .ready)
+x-here a = x-of a (given (a .before .before .before))
 
 mul-last : tie.Need-mul-last
 mul-last c = search needs
@@ -40,17 +35,17 @@ element-copy-out-last c = search needs
 
 search-requires : tie.Need-search-requires
 search-requires c κs =     let s = c .before .before in
-    (s .pre .0, searchable (given s .tied) (given s .ready) (s .pre .0) (s .pre .1 .0 .us))
+    (s .pre .0, searchable (tied-one (given s)) (given s .ready) (s .pre .0) (s .pre .1 .0 .us))
 
 left-requires : tie.Need-left-requires
 left-requires c κs =     let a = c .before in
     let s = a .before .before .before in
-    rw (x-here a) (s .pre .0, (s .pre .1 .0 .gram, gram-room (given s .tied) (given s .ready) (s .pre .0) (s .pre .1 .0 .us)))
+    rw (x-here a) (s .pre .0, (s .pre .1 .0 .gram, gram-room (tied-one (given s)) (given s .ready) (s .pre .0) (s .pre .1 .0 .us)))
 
 lose-combination-requires : tie.Need-lose-combination-requires
 lose-combination-requires c κs =     let a = c .before .before .before .before .before in
     let s = a .before .before .before in
-    let t = given s .tied in
+    let t = tied-one (given s) in
     let r = given s .ready in
     let f = s .pre .1 .0 .us in
     rw (x-here a) (s .pre .0, (vectors-lose t r (s .pre .0) f, (us-lose t r (s .pre .0) f, vs-gain t r (s .pre .0) f)))
@@ -59,7 +54,7 @@ cross-requires : tie.Need-cross-requires
 cross-requires c κs =     let l = c .before .before .before .before .before in
     let a = l .before .before in
     let s = a .before .before .before in
-    let t = given s .tied in
+    let t = tied-one (given s) in
     let r = given s .ready in
     let f = s .pre .1 .0 .us in
     rw (l .left .ensures) (rw (x-here a) (s .pre .0, (s .pre .1 .0 .gram, (left-room t r (s .pre .0) f, square-room t r (s .pre .0) f))))
@@ -78,7 +73,7 @@ returns c =     let l = c .before .before .before .before .before .before in
       vectors = ap length (e .0) ∙ length-set (now (s .args .b)) k _ ∙ h .vectors;
       us = ap length (e .1 .0) ∙ length-set (now (s .args .u)) k _ ∙ h .us;
       vs = ap length (e .1 .1) ∙ length-map (now (s .args .v)) _ ∙ h .vs;
-    }, λ rows t r. rw (eg, e .0, e .1 .0, e .1 .1) (rw (x-of a rows t r) (tied-after t r (s .pre .0) (h .us))))
+    }, λ p. rw (eg, e .0, e .1 .0, e .1 .1) (rw (x-of a p) (tied-after (tied-one p) (p .ready) (s .pre .0) (h .us) (p .tied))))
 
 pub pass-spec : {M : Type 1} → statement M
 pass-spec =

@@ -19,7 +19,7 @@ use Rattle.row_operations.specs.Rows.{workOf, transposed}
 use Rattle.row_operations.specs.RowStructs.{vectorRow, tableRow}
 use Rattle.engine.specs.declared.Reduction.{Reduction}
 use Rattle.engine.specs.Packed.{packed}
-use Rattle.engine.specs.Laws.State.{rowsIn, greedyRows, greedyPasses, reduced}
+use Rattle.engine.specs.Laws.State.{greedyRows, greedyPasses}
 use Rattle.engine.specs.Laws.Fine.{Fine, fine-fewer, fine-greedy}
 use Rattle.engine.specs.Laws.Few.{few-passes}
 use Rattle.engine.specs.Laws.Turn.{rowsIn-workOf}

@@ -33,11 +33,16 @@ use Rattle.engine.specs.Laws.Pass.{losing, gaining, length-gained, pass-
 use Rattle.engine.specs.Laws.Passing as Passing
 use Rattle.engine.specs.Laws.Passing.{coefficients}
 
--- some rows whose tables these are, ready for a pass
+-- some rows whose tables these are, ready for a pass; the limits hold of vectors, whose factor is 1
 pub record Passable (k : ℕ) (g b u v : List (List ℤ)) : Type 0 where
+  pub factor : ℤ
   pub rows : List Row
-  pub tied : Tied (pos 1) rows g b u v
+  pub tied : Tied factor rows g b u v
+  pub one : factor ≡ pos 1
   pub ready : PassReady k rows
+
+pub tied-one : {k : ℕ} {g b u v : List (List ℤ)} (p : Passable k g b u v) → Tied (pos 1) (p .rows) g b u v
+tied-one {g = g} {b} {u} {v} p = subst (λ F. Tied F (p .rows) g b u v) (p .one) (p .tied)
 
 -- ---- where the factor is 1, the Gram matrix is that of the vectors
 one-⊙ : (r : Vec) → pos 1 ⊙ r ≡ r
@@ -145,5 +150,5 @@ module _ {k : ℕ} {g b u v : List (List ℤ)} {rows : List Row} (t : Tied (pos 
       (count (λ s. s .u) ∙ sym (count (λ s. s .vector)))
       (length-gained (coefficients k rows) (getD columns k []) columns ∙ length-map rows (λ s. s .v) ∙ sym (count (λ s. s .vector))))
 
-  pub tied-after : let y = take k x in Tied (pos 1) (passRows k rows) (crossed y k (getD g k [] ⊖ comb y (take k g)) g) (losing y b k) (losing y u k) (gainedColumns y k v)
-  tied-after = rw x-is (tied-passed t k (Passing.long k rows r three) (coefficients k rows) (passRows k rows) (tables .vectors) (tables .u) (tables .v))
+  pub tied-after : {F : ℤ} → Tied F rows g b u v → let y = take k x in Tied F (passRows k rows) (crossed y k (getD g k [] ⊖ comb y (take k g)) g) (losing y b k) (losing y u k) (gainedColumns y k v)
+  tied-after s = rw x-is (tied-passed s k (Passing.long k rows r three) (coefficients k rows) (passRows k rows) (tables .vectors) (tables .u) (tables .v))
