@@ -11,6 +11,8 @@ ghost use Rattle.row_operations.specs.Minus.{room};
 ghost use Rattle.gram_matrix.specs.Tied.{Held, Tied};
 ghost use Rattle.engine.specs.Laws.Tables.{Passable};
 ghost use Rattle.engine.specs.Laws.Repeat.{Reducible, Outcome};
+ghost use Rattle.engine.specs.Laws.Answer.{diagonalOf, finished};
+ghost use Rattle.gram_matrix.specs.Work.{tableIn};
 ghost use Rattle.engine.specs.Laws.State.{passRows};
 ghost use Rattle.engine.specs.Laws.Fine.{Fine};
 ghost use Rattle.engine.specs.Laws.Room.{PassReady};
@@ -24,6 +26,7 @@ ghost use Rattle.engine.specs.Laws.Named.{named};
 use gram_matrix::Table;
 use gram_matrix::Work;
 use row_operations::Basis;
+use row_operations::TableRow;
 
 // What is left of row k of the Gram matrix when the rows before it are taken away x times.
 fn left(g: &Table, k: usize, x: [i64; 3]) -> [i64; 4]
@@ -115,6 +118,54 @@ fn refused(n: u64) -> Reduction
     }
 }
 
+// The numbers on the diagonal.
+fn diagonal(rows: [TableRow; 4]) -> [i64; 4]
+    ensures { λ r. ⌜ r ≡ diagonalOf (tableIn rows) ⌝ }
+{
+    let a = rows[0];
+    let b = rows[1];
+    let c = rows[2];
+    let d = rows[3];
+    let p = a.at;
+    let q = b.at;
+    let r = c.at;
+    let s = d.at;
+    [p[0], q[1], r[2], s[3]]
+}
+
+// The answer from the finished work: the squared lengths are the diagonal of the Gram matrix.
+fn finished(w: Work) -> Reduction
+    ensures { λ r. ⌜ r ≡ finished w ⌝ }
+{
+    let vectors = w.vectors;
+    let u = w.u;
+    let v = w.v;
+    let gram = w.gram;
+    Reduction {
+        refusal: 0,
+        place: 0,
+        vectors,
+        u,
+        v,
+        squares: diagonal(gram),
+        passes: w.passes,
+    }
+}
+
+// Reduction: d vectors of m coordinates each, vector by vector. The Gram matrix is formed once.
+pub fn reduce(numbers: &[i64], d: usize, m: usize) -> Reduction
+    ensures { λ r. ⌜ r ≡ packed (reductionOf (record { numbers = now (numbers .entry); d = d; m = m; target = [] })) ⌝ }
+{
+    let number = input_checks::refusal(numbers, d, m);
+    if number != 0 {
+        return refused(number);
+    }
+    let b = input_checks::basis(numbers, d, m);
+    let g = gram_matrix::formed(&b, d);
+    let e = row_operations::unit_table(d);
+    finished(reduce_first(g, b, e, e, d, 0))
+}
+
 // The answer of a search for the nearest vector: the vector, its coefficients on the reduced basis, its squared distance from the target.
 // Where the refusal is not 0, all else is 0; unused places hold 0.
 pub struct NearestVector {
@@ -153,3 +204,32 @@ fn named(t: [i64; 4], x: [i64; 4], rest: [i64; 4]) -> NearestVector
     }
 }
 
+// Nearest: d vectors of m coordinates each, vector by vector, and a target of m coordinates. The basis is reduced first.
+pub fn nearest(numbers: &[i64], d: usize, m: usize, target: &[i64]) -> NearestVector
+    ensures { λ r. ⌜ r ≡ packedNearest (nearestOf (record { numbers = now (numbers .entry); d = d; m = m; target = now (target .entry) })) ⌝ }
+{
+    let r = reduce(numbers, d, m);
+    if r.refusal != 0 {
+        return refused_nearest(r.refusal);
+    }
+    let n = input_checks::target_refusal(target, m);
+    if n != 0 {
+        return refused_nearest(n);
+    }
+    let vectors = r.vectors;
+    let b = row_operations::vectors_of(vectors);
+    let t = input_checks::vector(target, 0, m);
+    let c = nearest_of_four::closest(b, d, t);
+    let x = c.list;
+    let rest = c.rest;
+    named(t, x, rest)
+}
+
+// Membership: whether v is in the lattice of the first d vectors, which are reduced already, so that many vectors can be tested on one basis.
+pub fn member(b: [[i64; 4]; 4], d: usize, v: [i64; 4]) -> bool
+    requires { ⌜ d ≤ 4 ⌝ }
+    requires { ⌜ Near d b v ⌝ }
+    ensures { λ r. ⌜ r ≡ isMember (take d b) v ⌝ }
+{
+    nearest_of_four::member(b, d, v)
+}

@@ -25,7 +25,7 @@ map-exchanged f zero (p ∷ []) = refl
 map-exchanged f zero (p ∷ q ∷ l) = refl
 map-exchanged {B} f (suc j) (p ∷ l) = ap {B = List B} (λ k. f p ∷ k) (map-exchanged f j l)
 
-against-map : (bs : List Vec) (w : Vec) → against bs w ≡ map (λ b. dot b w) bs
+pub against-map : (bs : List Vec) (w : Vec) → against bs w ≡ map (λ b. dot b w) bs
 against-map [] w = refl
 against-map (b ∷ bs) w = ap (λ l. dot b w ∷ l) (against-map bs w)
 

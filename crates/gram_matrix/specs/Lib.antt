@@ -8,4 +8,5 @@ pub mod Fits
 pub mod Lose
 pub mod Cross
 pub mod Passed
+pub mod Formed
 pub mod Work

@@ -11,17 +11,47 @@ ghost use Rattle.gram_matrix.specs.Lose.{Losable, Gainable, Loses, Gains
 ghost use Rattle.gram_matrix.specs.Gram.{losing, losingEntry};
 ghost use Rattle.gram_matrix.specs.Cross.{entered, crossed};
 ghost use Rattle.integers.specs.Size.{Within};
-ghost use Rattle.gram_matrix.specs.Passed.{tied-passed};
+ghost use Rattle.gram_matrix.specs.Formed.{products, formed};
 ghost use Rattle.gram_matrix.specs.Work.{workOf};
 ghost use Rattle.lattices.specs.Greedy.{Row, order};
 ghost use Rattle.gram_matrix.specs.Order.{exchanged, swapped, insertAt};
 ghost use Rattle.gram_matrix.specs.Tied.{Held, Tied, shorterIn};
 use row_operations::Basis;
 use row_operations::TableRow;
+use row_operations::Vector;
 use row_operations::VectorRow;
 
 // A number for each two vectors.
 pub type Table = [[i64; 4]; 4];
+
+// The inner products of the first d vectors with v, zeros behind.
+fn products(b: &Basis, d: usize, v: Vector) -> [i64; 4]
+    requires { ⌜ d ≤ 4 ⌝ }
+    requires { ⌜ length (now b) ≡ 4 ⌝ }
+    requires { ⌜ ((i j : ℕ) → Within 100000 (nth (getD (now b) i []) j)) ⌝ }
+    requires { ⌜ ((j : ℕ) → Within 100000 (nth v j)) ⌝ }
+    ensures { λ r. ⌜ r ≡ products (take d (now (b .entry))) v ⌝ }
+{
+    let mut r = [0; 4];
+    for j in 0..d {
+        r[j] = row_operations::dot(b[j], v);
+    }
+    r
+}
+
+// The Gram matrix of the first d vectors, zeros behind.
+pub fn formed(b: &Basis, d: usize) -> Table
+    requires { ⌜ d ≤ 4 ⌝ }
+    requires { ⌜ length (now b) ≡ 4 ⌝ }
+    requires { ⌜ ((i j : ℕ) → Within 100000 (nth (getD (now b) i []) j)) ⌝ }
+    ensures { λ r. ⌜ r ≡ formed (take d (now (b .entry))) ⌝ }
+{
+    let mut g = [[0; 4]; 4];
+    for i in 0..d {
+        g[i] = products(b, d, b[i]);
+    }
+    g
+}
 
 // Is vector k shorter than the one before it?
 pub fn shorter(g: &Table, k: usize) -> bool

@@ -53,7 +53,7 @@ one-⊙ (x ∷ r) = ap₂ _∷_ (one x) (one-⊙ r)
     one : (x : ℤ) → pos 1 *ℤ x ≡ x
     one x = by-ring (x ∷ []) (search reads) (search reads) tt
 
-ones : (g : List (List ℤ)) → map (λ r. pos 1 ⊙ r) g ≡ g
+pub ones : (g : List (List ℤ)) → map (λ r. pos 1 ⊙ r) g ≡ g
 ones [] = refl
 ones (r ∷ g) = ap₂ _∷_ (one-⊙ r) (ones g)
 
