@@ -51,8 +51,8 @@ fn pass(g: &mut Table, b: &mut Basis, u: &mut Table, v: &mut Table, k: usize)
     let last = b[k];
     let x = nearest_of_three::search(b, k, last);
     let r = left(g, k, x);
-    gram_matrix::lose_combination(b, u, v, k, x);
-    gram_matrix::cross(g, k, r, x);
+    gram_matrix::lose_combination(b, u, v, k, &x);
+    gram_matrix::cross(g, k, &r, &x);
 }
 
 // Steps 1 to 6 for the first n rows, on one vector fewer at each call of itself. `before` counts the passes made so far.

@@ -215,14 +215,15 @@ fn lose_multiple(b: &mut Basis, u: &mut Table, v: &mut Table, k: usize, j: usize
 }
 
 // Row k of the vectors and of U loses the combination x of the rows before it; their columns of V gain.
-pub fn lose_combination(b: &mut Basis, u: &mut Table, v: &mut Table, k: usize, x: [i64; 3])
+pub fn lose_combination(b: &mut Basis, u: &mut Table, v: &mut Table, k: usize, x: &[i64; 3])
     requires { ⌜ k ≤ 3 ⌝ }
-    requires { ⌜ Loses k x (now b) ⌝ }
-    requires { ⌜ Loses k x (now u) ⌝ }
-    requires { ⌜ Gains k x (now v) ⌝ }
-    ensures { λ _. ⌜ now (b .exit) ≡ losing (take k x) (now (b .entry)) k ⌝ }
-    ensures { λ _. ⌜ now (u .exit) ≡ losing (take k x) (now (u .entry)) k ⌝ }
-    ensures { λ _. ⌜ now (v .exit) ≡ gainedColumns (take k x) k (now (v .entry)) ⌝ }
+    requires { ⌜ length (now x) ≡ 3 ⌝ }
+    requires { ⌜ Loses k (now x) (now b) ⌝ }
+    requires { ⌜ Loses k (now x) (now u) ⌝ }
+    requires { ⌜ Gains k (now x) (now v) ⌝ }
+    ensures { λ _. ⌜ now (b .exit) ≡ losing (take k (now (x .entry))) (now (b .entry)) k ⌝ }
+    ensures { λ _. ⌜ now (u .exit) ≡ losing (take k (now (x .entry))) (now (u .entry)) k ⌝ }
+    ensures { λ _. ⌜ now (v .exit) ≡ gainedColumns (take k (now (x .entry))) k (now (v .entry)) ⌝ }
 {
     for j in 0..k {
         lose_multiple(b, u, v, k, j, x[j]);
@@ -230,10 +231,10 @@ pub fn lose_combination(b: &mut Basis, u: &mut Table, v: &mut Table, k: usize, x
 }
 
 // The inner product of the first k places.
-fn dot_first(x: [i64; 3], r: [i64; 4], k: usize) -> i64
+fn dot_first(x: &[i64; 3], r: &[i64; 4], k: usize) -> i64
     requires { ⌜ k ≤ 3 ⌝ }
-    requires { ⌜ ((i : ℕ) → Within 3000000000000000000 (nth x i *ℤ nth r i)) ⌝ }
-    ensures { λ s. ⌜ s ≡ dot (take k x) (take k r) ⌝ }
+    requires { ⌜ ((i : ℕ) → Within 3000000000000000000 (nth (now x) i *ℤ nth (now r) i)) ⌝ }
+    ensures { λ s. ⌜ s ≡ dot (take k (now (x .entry))) (take k (now (r .entry))) ⌝ }
 {
     let mut sum = 0;
     for i in 0..k {
@@ -243,22 +244,22 @@ fn dot_first(x: [i64; 3], r: [i64; 4], k: usize) -> i64
 }
 
 // Entry k of a row loses the combination x of the entries before it.
-fn less_entry(r: [i64; 4], k: usize, x: [i64; 3]) -> [i64; 4]
+fn less_entry(r: &[i64; 4], k: usize, x: &[i64; 3]) -> [i64; 4]
     requires { ⌜ k ≤ 3 ⌝ }
-    requires { ⌜ ((i : ℕ) → Within 2000000000000000000 (nth x i *ℤ nth r i)) ⌝ }
-    requires { ⌜ Within 1000000000000000000 (nth r k) ⌝ }
-    ensures { λ s. ⌜ s ≡ losingEntry (take k x) k r ⌝ }
+    requires { ⌜ ((i : ℕ) → Within 2000000000000000000 (nth (now x) i *ℤ nth (now r) i)) ⌝ }
+    requires { ⌜ Within 1000000000000000000 (nth (now r) k) ⌝ }
+    ensures { λ s. ⌜ s ≡ losingEntry (take k (now (x .entry))) k (now (r .entry)) ⌝ }
 {
-    let mut s = r;
+    let mut s = *r;
     s[k] = r[k] - dot_first(x, r, k);
     s
 }
 
 // Entry k of each row becomes that of r at its place.
-fn enter(g: &mut Table, k: usize, r: [i64; 4])
+fn enter(g: &mut Table, k: usize, r: &[i64; 4])
     requires { ⌜ k ≤ 3 ⌝ }
     requires { ⌜ length (now g) ≡ 4 ⌝ }
-    ensures { λ _. ⌜ now (g .exit) ≡ entered k r (now (g .entry)) ⌝ }
+    ensures { λ _. ⌜ now (g .exit) ≡ entered k (now (r .entry)) (now (g .entry)) ⌝ }
 {
     for i in 0..4 {
         g[i][k] = r[i];
@@ -267,12 +268,12 @@ fn enter(g: &mut Table, k: usize, r: [i64; 4])
 
 // Row and column k of the Gram matrix become r, what is left of row k when the rows before it are taken away x times; its entry k, the
 // squared length, loses the same once more.
-pub fn cross(g: &mut Table, k: usize, r: [i64; 4], x: [i64; 3])
+pub fn cross(g: &mut Table, k: usize, r: &[i64; 4], x: &[i64; 3])
     requires { ⌜ k ≤ 3 ⌝ }
     requires { ⌜ length (now g) ≡ 4 ⌝ }
-    requires { ⌜ ((i : ℕ) → Within 2000000000000000000 (nth x i *ℤ nth r i)) ⌝ }
-    requires { ⌜ Within 1000000000000000000 (nth r k) ⌝ }
-    ensures { λ _. ⌜ now (g .exit) ≡ crossed (take k x) k r (now (g .entry)) ⌝ }
+    requires { ⌜ ((i : ℕ) → Within 2000000000000000000 (nth (now x) i *ℤ nth (now r) i)) ⌝ }
+    requires { ⌜ Within 1000000000000000000 (nth (now r) k) ⌝ }
+    ensures { λ _. ⌜ now (g .exit) ≡ crossed (take k (now (x .entry))) k (now (r .entry)) (now (g .entry)) ⌝ }
 {
     enter(g, k, r);
     g[k] = less_entry(r, k, x);

@@ -1,9 +1,11 @@
+-- The inner product of the first k places: after i turns the sum is that of the first i.
 use mathlib.Core.Path.{_≡_, refl, ap, ap₂, _∙_}
 use Prim.Native.Nat.{_≤_, _-_}
 use native.Mathlib.Numerals.{add-one}
 use native.Mathlib.Omega.{arith}
 use borrow.Author.Needs.{needs}
 use lib.ListN.{length, take}
+use denote.Ref.{now}
 use mir.Syntax.{w64}
 use mir.Val.{ofZ, toZ}
 use mir.Facts.{toZ-ofZ}
@@ -17,29 +19,29 @@ use Rattle.gram_matrix.proofs.dot_first.Reads as reads
 use Rattle.gram_matrix.proofs.dot_first.Lts as lts
 
 abbrev Inv-loop : tie.InvT-loop
-Inv-loop k x r sum₀ i₀ sum i = (i ≤ k) × (sum ≡ ofZ w64 (dot (take i x) (take i r)))
+Inv-loop x r k sum₀ i₀ sum i = (i ≤ k) × (sum ≡ ofZ w64 (dot (take i x) (take i r)))
 
 abbrev μ-loop : tie.MeasureT-loop
-μ-loop k x r sum₀ i₀ sum i = k - i
+μ-loop x r k sum₀ i₀ sum i = k - i
 
 loop-holds : tie.Need-loop-holds Inv-loop μ-loop
 unfolding dot
 loop-holds c = (search needs, refl)
 
-turn : (c : tie.After-sum2 Inv-loop μ-loop) → DotTurn (c .before .before .before .before .args .t1) (c .before .before .before .before .args .t2) (c .before .before .before .loop .i)
+turn : (c : tie.After-sum2 Inv-loop μ-loop) → DotTurn (now (c .before .before .before .before .args .x)) (now (c .before .before .before .before .args .r)) (c .before .before .before .loop .i)
 turn c = turn-at _ _ (c .before .before .before .before .pre .1) _ (search needs) (record { sfits = c .before .sum .given }) (record { sfits = c .sum2 .given })
 
 mul-sum : tie.Need-mul-sum Inv-loop μ-loop
 mul-sum c = search needs
 
-array-copy-out-sum : tie.Need-array-copy-out-sum Inv-loop μ-loop
-array-copy-out-sum c = search needs
+element-copy-out-sum : tie.Need-element-copy-out-sum Inv-loop μ-loop
+element-copy-out-sum c = search needs
 
 mul-sum-2 : tie.Need-mul-sum-2 Inv-loop μ-loop
 mul-sum-2 c = search needs
 
-array-copy-out-sum-2 : tie.Need-array-copy-out-sum-2 Inv-loop μ-loop
-array-copy-out-sum-2 c = search needs
+element-copy-out-sum-2 : tie.Need-element-copy-out-sum-2 Inv-loop μ-loop
+element-copy-out-sum-2 c = search needs
 
 mul-sum-3 : tie.Need-mul-sum-3 Inv-loop μ-loop
 mul-sum-3 c = let f = turn c in simp (toZ-ofZ, f .left, f .right) (f .product)
@@ -62,7 +64,7 @@ returns c =
     let i = c .before .loop .i in
     let e : i ≡ s .args .k = search needs in
     ap (toZ w64) (c .before .loop .inv .1)
-    ∙ toZ-ofZ (fits-within (within-le {B = 9000000000000000000} (omega (arith, e, s .pre .0)) (sum-within i (s .args .t1) (s .args .t2) (s .pre .1))) tt) ∙ ap (λ j. dot (take j (s .args .t1)) (take j (s .args .t2))) e
+    ∙ toZ-ofZ (fits-within (within-le {B = 9000000000000000000} (omega (arith, e, s .pre .0)) (sum-within i (now (s .args .x)) (now (s .args .r)) (s .pre .1))) tt) ∙ ap (λ j. dot (take j (now (s .args .x))) (take j (now (s .args .r)))) e
 
 pub dot-first-spec : {M : Type 1} → statement M
 dot-first-spec =
@@ -72,9 +74,9 @@ dot-first-spec =
     μ-loop
     loop-holds
     mul-sum
-    array-copy-out-sum
+    element-copy-out-sum
     mul-sum-2
-    array-copy-out-sum-2
+    element-copy-out-sum-2
     mul-sum-3
     add-sum
     add-i

@@ -28,14 +28,14 @@ loop-holds c = (search needs, refl)
 mul-g : tie.Need-mul-g Inv-loop μ-loop
 mul-g c = search needs
 
-array-copy-out-g : tie.Need-array-copy-out-g Inv-loop μ-loop
-array-copy-out-g c = search needs
+element-copy-out-g : tie.Need-element-copy-out-g Inv-loop μ-loop
+element-copy-out-g c = search needs
 
-mul-t11 : tie.Need-mul-t11 Inv-loop μ-loop
-mul-t11 c = search needs
+mul-t10 : tie.Need-mul-t10 Inv-loop μ-loop
+mul-t10 c = search needs
 
-mul-t14 : tie.Need-mul-t14 Inv-loop μ-loop
-mul-t14 c = search needs
+mul-t13 : tie.Need-mul-t13 Inv-loop μ-loop
+mul-t13 c = search needs
 
 index-1-g : tie.Need-index-1-g Inv-loop μ-loop
 index-1-g c = search needs
@@ -55,7 +55,7 @@ loop-again c =
     let s = l .before in
     let i = l .loop .i in
     let k = s .args .k in
-    let r = s .args .t3 in
+    let r = now (s .args .r) in
     let g = now (s .args .g) in
     let h : i < length g = omega (arith, s .pre .1) in
     let e : getD (l .loop .g) i [] ≡ getD g i [] = ap (λ t. getD t i []) (l .loop .inv .1) ∙ getD-front i i (entered k r g) g [] (omega (arith, length-entered k r g)) (omega arith) (omega arith) in
@@ -66,7 +66,7 @@ returns : tie.Need-returns Inv-loop μ-loop
 returns c =
     let s = c .before .before in
     let g = now (s .args .g) in
-    c .before .loop .inv .1 ∙ front-all (c .before .loop .i) (entered (s .args .k) (s .args .t3) g) g (omega (arith, length-entered (s .args .k) (s .args .t3) g, s .pre .1)) (omega (arith, s .pre .1))
+    c .before .loop .inv .1 ∙ front-all (c .before .loop .i) (entered (s .args .k) (now (s .args .r)) g) g (omega (arith, length-entered (s .args .k) (now (s .args .r)) g, s .pre .1)) (omega (arith, s .pre .1))
 
 pub enter-spec : {M : Type 1} → statement M
 enter-spec =
@@ -76,9 +76,9 @@ enter-spec =
     μ-loop
     loop-holds
     mul-g
-    array-copy-out-g
-    mul-t11
-    mul-t14
+    element-copy-out-g
+    mul-t10
+    mul-t13
     index-1-g
     index-2-g
     add-i
