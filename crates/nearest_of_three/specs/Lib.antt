@@ -1,4 +1,5 @@
 -- The search for the nearest vector among at most three reduced ones.
+pub mod Meant
 pub mod Numbers
 pub mod Fits
 pub mod Signs
