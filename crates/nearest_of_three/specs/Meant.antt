@@ -17,7 +17,7 @@ pub record Products (F : ℤ) (vs : List Vec) (v : Vec) (r : List ℤ) : Type 0 
 pub record Gram (F : ℤ) (vs : List Vec) (g : List (List ℤ)) : Type 0 where
   pub row : (i : ℕ) → Products F vs (getD vs i []) (getD g i [])
 
--- the first k of the vectors vs are reduced, t is the target; r holds the inner products with all of them
+-- the first k of the vectors vs are reduced, t is the target; r holds the inner products with all of them, and no row of g is longer than r
 pub record Meant (F : ℤ) (k : ℕ) (vs : List Vec) (t : Vec) (g : List (List ℤ)) (r : List ℤ) : Type 0 where
   pub positive : pos 0 <ℤ F
   pub enough : k ≤ length vs
@@ -26,6 +26,7 @@ pub record Meant (F : ℤ) (k : ℕ) (vs : List Vec) (t : Vec) (g : List (List �
   pub target : N t ≤ℤ (F *ℤ pos 3600000000)
   pub gram : Gram F vs g
   pub products : Products F vs t r
+  pub wide : (i : ℕ) → length (getD g i []) ≤ length r
 
 -- the numbers mean something
 pub record Known (k : ℕ) (g : List (List ℤ)) (r : List ℤ) : Type 0 where
