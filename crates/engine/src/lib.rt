@@ -2,12 +2,7 @@
 ghost use mathlib.Core.Path.{_≡_};
 ghost use Prim.Native.Nat.{ℕ, _+_, _-_, _≤_, _<_};
 ghost use mathlib.Core.List.{[]};
-ghost use lib.IntN.{natAbs};
-ghost use lib.ListN.{length, getD, take};
-ghost use lib.Signed.{ltZ};
-ghost use Rattle.integers.specs.Size.{load};
-ghost use Rattle.lattices.specs.Vector.{nth, N, comb, _⊖_};
-ghost use Rattle.row_operations.specs.Minus.{room};
+ghost use lib.ListN.{take};
 ghost use Rattle.gram_matrix.specs.Tied.{Held, Tied};
 ghost use Rattle.engine.specs.Laws.Tables.{Passable};
 ghost use Rattle.engine.specs.Laws.Repeat.{Reducible, Outcome};
@@ -28,19 +23,8 @@ use gram_matrix::Work;
 use row_operations::Basis;
 use row_operations::TableRow;
 
-// What is left of row k of the Gram matrix when the rows before it are taken away x times.
-fn left(g: &Table, k: usize, x: [i64; 3]) -> [i64; 4]
-    requires { ⌜ k ≤ 3 ⌝ }
-    requires { ⌜ length (now g) ≡ 4 ⌝ }
-    requires { ⌜ ((i : ℕ) → natAbs (nth (getD (now g) k []) i) + load (take k x) (take k (now g)) i ≤ room) ⌝ }
-    ensures { λ r. ⌜ r ≡ getD (now (g .entry)) k [] ⊖ comb (take k x) (take k (now (g .entry))) ⌝ }
-{
-    let mut t = *g;
-    row_operations::minus_rows(&mut t, k, x);
-    t[k]
-}
-
 // Steps 4 and 5 for row k, the rows before it being reduced: the vector nearest to it in their lattice is subtracted from it.
+// The search leaves the inner products of what is left, which are the new row of the Gram matrix.
 fn pass(g: &mut Table, b: &mut Basis, u: &mut Table, v: &mut Table, k: usize)
     requires { ⌜ k ≤ 3 ⌝ }
     requires { ⌜ Held (now g) (now b) (now u) (now v) ⌝ }
@@ -48,9 +32,9 @@ fn pass(g: &mut Table, b: &mut Basis, u: &mut Table, v: &mut Table, k: usize)
     ensures { λ _. ⌜ Held (now (g .exit)) (now (b .exit)) (now (u .exit)) (now (v .exit)) ⌝ }
     ensures { λ _. ⌜ ((p : Passable k (now (g .entry)) (now (b .entry)) (now (u .entry)) (now (v .entry))) → Tied (p .factor) (passRows k (p .rows)) (now (g .exit)) (now (b .exit)) (now (u .exit)) (now (v .exit))) ⌝ }
 {
-    let last = b[k];
-    let x = nearest_of_three::search(b, k, last);
-    let r = left(g, k, x);
+    let mut r = g[k];
+    let mut x = [0; 3];
+    nearest_of_three::among(g, k, &mut r, &mut x);
     gram_matrix::lose_combination(b, u, v, k, &x);
     gram_matrix::cross(g, k, &r, &x);
 }

@@ -15,7 +15,7 @@ use Rattle.lattices.specs.Laws.Vector.{dot-⊙ʳ, dot-comm, dot-nil, against}
 use Rattle.lattices.specs.Greedy.{Row, vectors}
 use Rattle.row_operations.specs.Rows.{gained, transposed}
 use Rattle.gram_matrix.specs.Gram.{gramOf, gram-losing, losing, losingEntry, map-set, nth-against}
-use Rattle.gram_matrix.specs.Tied.{Tied, scaled-row}
+use Rattle.gram_matrix.specs.Tied.{Tied, scaled-row, tied-length-gram}
 use Rattle.gram_matrix.specs.Columns.{gainedColumns, transposed-gained}
 use Rattle.gram_matrix.specs.Cross.{crossed, crossed-is}
 
@@ -100,4 +100,4 @@ tied-passed {F} {rows} {g} {b} {u} {v} t k h x after p q r = record {
 }
   where
     long : k < length g
-    long = omega (arith, length-map g (λ r. F ⊙ r), ap length (t .gram), length-map (vectors rows) (against (vectors rows)), length-map rows (λ r. r .vector))
+    long = omega (arith, tied-length-gram t)

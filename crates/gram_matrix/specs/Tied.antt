@@ -17,7 +17,7 @@ use Rattle.lattices.specs.Greedy.{Row, vectors}
 use Rattle.greedy_reduction.specs.Start.{Coordinates}
 use Rattle.row_operations.specs.Rows.{transposed}
 use Rattle.gram_matrix.specs.Order.{exchanged, swapped, map-swapped, insertAt, insertAt-suc, longer, blank}
-use Rattle.gram_matrix.specs.Gram.{gramOf, gram-exchanged, gram-diagonal, map-exchanged, coordinates-against}
+use Rattle.gram_matrix.specs.Gram.{gramOf, gram-length, gram-exchanged, gram-diagonal, map-exchanged, coordinates-against}
 
 -- four tables of four rows
 pub record Held (g b u v : List (List ℤ)) : Type 0 where
@@ -50,6 +50,9 @@ transposed-exchanged j t = λ k. column 0 k ∷ column 1 k ∷ column 2 k ∷ co
 
 pub tied-length : {F : ℤ} {rows : List Row} {g b u v : List (List ℤ)} → Tied F rows g b u v → length rows ≡ length u
 tied-length {rows = rows} t = sym (length-map rows (λ r. r .u)) ∙ ap length (t .us)
+
+pub tied-length-gram : {F : ℤ} {rows : List Row} {g b u v : List (List ℤ)} → Tied F rows g b u v → length g ≡ length rows
+tied-length-gram {F} {rows} {g} t = sym (length-map g (λ r. F ⊙ r)) ∙ ap length (sym (t .gram)) ∙ gram-length (vectors rows) ∙ length-map rows (λ r. r .vector)
 
 -- every row of the Gram matrix has a number for each row, and so has every row of V
 coordinates-⊙ : (F : ℤ) (n : ℕ) (g : List (List ℤ)) → Coordinates n (map (λ r. F ⊙ r) g) → Coordinates n g

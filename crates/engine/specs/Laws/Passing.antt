@@ -25,14 +25,12 @@ use Rattle.successive_minima.specs.Laws.NearestLaws.{nearest-count, nearest-sho
 use Rattle.exterior_algebra.specs.Sizes.{near-le}
 use Rattle.greedy_reduction.specs.Moves.{length-vectors}
 use Rattle.greedy_reduction.specs.Weight.{weighs, cost-most}
-use Rattle.row_operations.specs.Minus.{room}
 use Rattle.gram_matrix.specs.Gram.{gramOf, losing, rows-losing, nth-against}
 use Rattle.gram_matrix.specs.Passed.{gram-row}
-use Rattle.nearest_of_three.specs.Searchable.{inner-within}
 use Rattle.engine.specs.Laws.State.{blank}
 use Rattle.engine.specs.Laws.Room as Room
 use Rattle.engine.specs.Laws.Room.{PassReady, short-rows}
-use Rattle.engine.specs.Laws.Products.{product-size}
+use Rattle.engine.specs.Laws.Products.{product-size, product-within}
 
 -- the coefficients of the vector nearest to row k
 abbrev pub coefficients : ℕ → List Row → List ℤ
@@ -106,13 +104,6 @@ module _ (k : ℕ) (rows : List Row) (r : PassReady k rows) (three : k ≤ 3) wh
   nth-x : (j : ℕ) → nth (padded 3 x) j ≡ nth x j
   nth-x j = nth-padded 3 x (omega (arith, x-count)) j
 
-  -- room for row k of the Gram matrix
-  pub gram-room : (i : ℕ) → natAbs (nth (getD (gramOf bs) k []) i) + load (take k (padded 3 x)) (take k (gramOf bs)) i ≤ room
-  gram-room i = subst (λ n. n ≤ room)
-      (sym (ap₂ (λ a l. natAbs a + l) (gram-row bs bs k i)
-      (ap₂ (λ y g. load y g i) taken (take-map (against bs) k bs ∙ ap (map (against bs)) front-is ∙ map-map (against bs) (λ s. s .vector) (take k rows)))))
-      (omega (arith, inner-within {A = 400000000} {B = 400000000} {C = 400000000} (getD bs i []) (getD bs k []) refl (short i) (short k) .within, products-room bs short i))
-
   -- what is left of the last vector is no longer
   rest : Vec
   rest = getD bs k [] ⊖ comb x (take k bs)
@@ -149,4 +140,4 @@ module _ (k : ℕ) (rows : List Row) (r : PassReady k rows) (three : k ≤ 3) wh
 
   pub square-room : Within 1000000000000000000 (nth left k)
   square-room = record { within = subst (λ n. natAbs n ≤ 1000000000000000000) (sym (entry-is k))
-      (omega (arith, inner-within {A = 400000000} {B = 400000000} {C = 400000000} (getD bs k []) rest refl (short k) rest-short .within)) }
+      (omega (arith, product-within (getD bs k []) rest (short k) rest-short)) }

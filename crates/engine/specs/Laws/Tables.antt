@@ -9,8 +9,8 @@ use lib.Signed.{leZ-yes}
 use lib.ListN.{length, getD, take, length-map, length-set, List·getD-eq-default}
 use Rattle.integers.specs.Identity.{by-ring, reads}
 use Rattle.integers.specs.Order.{≤ℤ-trans}
-use Rattle.integers.specs.Size.{Within, load}
-use Rattle.lattices.specs.Vector.{Vec, nth, comb, _⊙_, _⊖_}
+use Rattle.integers.specs.Size.{Within}
+use Rattle.lattices.specs.Vector.{Vec, nth, dot, comb, _⊙_, _⊖_}
 use Rattle.lattices.specs.Nearest.{nearest}
 use Rattle.lattices.specs.Greedy as Greedy
 use Rattle.lattices.specs.Greedy.{Row}
@@ -20,12 +20,12 @@ use Rattle.greedy_reduction.specs.Start.{sized-vectors, sized-us}
 use Rattle.row_operations.specs.Minus.{room}
 use Rattle.row_operations.specs.Rows.{Tables, rowsOf, rowsOf-tables, transposed}
 use Rattle.gram_matrix.specs.Gram.{gramOf}
-use Rattle.gram_matrix.specs.Tied.{Tied}
+use Rattle.gram_matrix.specs.Tied.{Tied, tied-square, tied-length-gram}
 use Rattle.gram_matrix.specs.Columns.{gainedColumns, nth-column}
-use Rattle.gram_matrix.specs.Lose.{Loses, Gains}
+use Rattle.gram_matrix.specs.Lose.{Loses, Gains, row-wide}
 use Rattle.gram_matrix.specs.Cross.{crossed}
-use Rattle.gram_matrix.specs.Passed.{tied-passed}
-use Rattle.nearest_of_three.specs.Searchable.{Searchable}
+use Rattle.gram_matrix.specs.Passed.{tied-passed, tied-entry}
+use Rattle.nearest_of_three.specs.Meant.{Meant, Known}
 use Rattle.engine.specs.Laws.State.{blank, passRows}
 use Rattle.engine.specs.Laws.Room as Room
 use Rattle.engine.specs.Laws.Room.{PassReady}
@@ -84,21 +84,37 @@ module _ {k : ℕ} {g b u v : List (List ℤ)} {rows : List Row} (t : Tied (pos 
   x-is = Passing.taken k rows r three
 
   -- the search may be made, and finds the coefficients
-  pub searchable : Searchable k b (getD b k [])
-  searchable = rw (sym (t .vectors)) (record {
+  square : (i : ℕ) → i < 4 → length (getD g i []) ≡ 4
+  square i h = row-wide (length rows) i g (tied-square t) (omega (arith, tied-length-gram t, rows-four, h)) ∙ rows-four
+
+  pub row-four : length (getD g k []) ≡ 4
+  row-four = square k (omega (arith, three))
+
+  pub meant : Meant (pos 1) k (Greedy.vectors rows) (getD rows k blank .vector) g (getD g k [])
+  meant = record {
+    positive = t .positive;
     enough = omega (arith, length-map rows (λ s. s .vector), rows-four, three);
     reduced = subst Reduced (sym (Passing.front-is k rows r three)) (r .reduced);
-    short = λ i h. Passing.short k rows r three i;
-    target = ≤ℤ-trans (Passing.short k rows r three k) (leZ-yes tt);
-  })
+    short = Passing.short k rows r three;
+    target = ≤ℤ-trans (Passing.short-last k rows r three) (leZ-yes tt);
+    gram = record { row = λ i. record { at = tied-entry t i } };
+    products = record { at = λ j. tied-entry t k j ∙ ap (dot (getD (Greedy.vectors rows) j [])) (Passing.last-is k rows r three) };
+    wide = λ i. pick i (decLt i 4);
+  }
+    where
+      pick : (i : ℕ) → Dec (i < 4) → length (getD g i []) ≤ length (getD g k [])
+      pick i (yes h) = omega (arith, square i h, row-four)
+      pick i (no h) =
+          let m : length g ≤ i = omega (arith, tied-length-gram t, rows-four, h) in
+          rw (List·getD-eq-default g [] m) (omega arith)
 
-  pub found : padded 3 (nearest (take k b) (getD b k [])) ≡ x
-  found = rw (sym (t .vectors)) (ap₂ (λ l w. padded 3 (nearest l w)) (Passing.front-is k rows r three) (Passing.last-is k rows r three))
+  pub known : Known k g (getD g k [])
+  known = record { factor = pos 1; vectors = Greedy.vectors rows; target = getD rows k blank .vector; meant = meant }
+
+  pub found : {y : List ℤ} → ((F : ℤ) (vs : List Vec) (w : Vec) → Meant F k vs w g (getD g k []) → y ≡ padded 3 (nearest (take k vs) w)) → y ≡ x
+  found e = e (pos 1) (Greedy.vectors rows) (getD rows k blank .vector) meant ∙ ap (λ l. padded 3 (nearest l (getD rows k blank .vector))) (Passing.front-is k rows r three)
 
   -- room for the row operations
-  pub gram-room : (i : ℕ) → natAbs (nth (getD g k []) i) + load (take k x) (take k g) i ≤ room
-  gram-room = rw (sym (gram-is t)) at (Passing.gram-room k rows r three)
-
   pub left-room : (j : ℕ) → Within 2000000000000000000 (nth x j *ℤ nth (getD g k [] ⊖ comb (take k x) (take k g)) j)
   unfolding Passing.left
   left-room j = rw (x-is, gram-is t) (Passing.left-room k rows r three j)
