@@ -12,6 +12,6 @@ pub mod Named
 pub mod Membership
 pub mod Members
 pub mod Tables
-pub mod Whole
 pub mod Repeat
-pub mod Loop
+pub mod Products
+pub mod Passing

@@ -23,8 +23,7 @@ use Rattle.successive_minima.specs.Reduced.{Reduced}
 use Rattle.successive_minima.specs.Laws.ReducedLaws.{reduced-last}
 use Rattle.successive_minima.specs.Laws.NearestLaws.{nearest-count, nearest-shorter}
 use Rattle.successive_minima.specs.Laws.Digits.{Bounded}
-use Rattle.nearest_of_three.specs.Searchable.{Searchable, Given, given, width, volume-positive, coordinates as long}
-use Rattle.nearest_of_three.specs.Gram.{behind}
+use Rattle.nearest_of_three.specs.Searchable.{Searchable, Given, given, behind, width, volume-positive, coordinates as long}
 use Rattle.row_operations.specs.Minus.{room}
 
 -- the first d vectors of b are reduced, and neither they nor the target are longer than 20,000

@@ -26,7 +26,8 @@ use Rattle.successive_minima.specs.Laws.ReducedLaws.{reduced-last}
 use Rattle.successive_minima.specs.Laws.Digits.{Bounded, zeros, power, number, falls, power-nonneg}
 use Rattle.successive_minima.specs.Laws.Layers.{Layer, layers}
 use Rattle.successive_minima.specs.Laws.NearestLaws.{ended, nearest-only}
-use Rattle.nearest_of_three.specs.State.{smaller, gain-residual}
+use Rattle.nearest_of_three.specs.State.{smaller}
+use Rattle.nearest_of_three.specs.End.{gain-shifted as gain-residual}
 use Rattle.nearest_of_three.specs.Searchable.{width, volume-positive}
 use Rattle.row_operations.specs.Minus.{room}
 use Rattle.nearest_of_four.specs.declared.Step.{Step}

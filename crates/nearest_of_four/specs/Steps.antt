@@ -24,11 +24,14 @@ use Rattle.successive_minima.specs.Laws.NearestLaws.{nearest-least, nearest-cou
 use Rattle.successive_minima.specs.Laws.Digits.{Bounded, zeros, not-below-nonneg}
 use Rattle.successive_minima.specs.Laws.Layers.{Layer, layer-by-search}
 use Rattle.nearest_of_three.specs.Numbers.{negative}
-use Rattle.nearest_of_three.specs.State.{gain-residual}
-use Rattle.nearest_of_three.specs.Found.{no-such}
+use Rattle.nearest_of_three.specs.End.{gain-shifted as gain-residual}
+use lib.Dec.{T}
 use Rattle.nearest_of_three.specs.Searchable.{Given}
 use Rattle.nearest_of_four.specs.declared.Step.{Step}
 use Rattle.nearest_of_four.specs.Near.{nearest-small}
+
+no-such {ℓ} : {X : Type ℓ} → true ≡ false → X
+no-such e = absurd (subst T e tt)
 
 -- the best of layer j, and the test of its value
 pub record Solved (vs : List Vec) (b r : Vec) (j : ℤ) (s : Step) : Type 0 where

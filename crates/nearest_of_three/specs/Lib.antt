@@ -1,11 +1,20 @@
 -- The search for the nearest vector among at most three reduced ones.
+pub mod Meant
 pub mod Numbers
-pub mod Fits
+pub mod Link
+pub mod Steps
+pub mod Coefficients
+pub mod Moves
+pub mod Positive
+pub mod State
+pub mod End
+pub mod Multiples
+pub mod Pairs
+pub mod Places
+pub mod Sweep
+pub mod PairFits
+pub mod Stepped
 pub mod Signs
 pub mod Filled
-pub mod Steps
-pub mod Found
-pub mod Multiples
-pub mod Gram
 pub mod Searchable
-pub mod State
+pub mod Formed

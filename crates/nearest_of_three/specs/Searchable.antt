@@ -1,26 +1,28 @@
 -- What the search asks of its vectors and its target, and the sizes that follow.
-use mathlib.Core.Path.{_≡_, ap, subst}
-use mathlib.Core.List.{List, [], _∷_, _++_, reverse, reverse-cons}
+use mathlib.Core.Path.{_≡_}
+use mathlib.Core.List.{List, [], _∷_}
 use Prim.Native.Nat.{ℕ, zero, suc, _+_, _*_, _≤_, _<_}
+use native.Mathlib.Nat.{le-trans}
 use native.Mathlib.Omega.{arith}
 use native.Mathlib.Decide.{decLt}
-use lib.IntN.{ℤ, pos, negsuc, negℤ, _+ℤ_, _-ℤ_, _*ℤ_}
-use lib.ListN.{length, getD, take, length-take}
+use lib.IntN.{ℤ, pos}
+use lib.ListN.{length, getD, take, length-take, List·getD-eq-default}
 use lib.Seq.{getD-take}
-use lib.Signed.{_≤ℤ_, _<ℤ_, leZ-yes, ltZ-yes}
-use Rattle.integers.specs.Identity.{by-ring, reads}
+use lib.Signed.{_≤ℤ_, _<ℤ_, leZ-yes}
 use Rattle.integers.specs.Order.{≤ℤ-trans, leZ-false}
-use Rattle.integers.specs.Certificate.{NN, _⊞_, le, eq, nn-pos, nn-cancel, nn-ring, by-nn, le-of-nn}
-use Rattle.integers.specs.Size.{Within, within-le, within-of-bounds, root-within}
-use Rattle.lattices.specs.Vector.{Vec, N, dot, _⊕_, _⊖_}
-use Rattle.lattices.specs.Laws.Vector.{bilinear, dot-comm, nil-dot, N-nonneg, square-≤}
+use Rattle.integers.specs.Certificate.{nn-pos}
+use Rattle.integers.specs.Size.{within-le, root-within}
+use Rattle.lattices.specs.Vector.{Vec, N}
+use Rattle.lattices.specs.Laws.Vector.{nil-dot, square-≤}
 use Rattle.lattices.specs.Volume.{squaredVolume, isDependent}
 use Rattle.exterior_algebra.specs.Dependence.{Fit, independent-exactly}
 use Rattle.exterior_algebra.specs.Sizes.{Short}
-use Rattle.successive_minima.specs.Reduced.{Descending, Reduced}
+use Rattle.successive_minima.specs.Reduced.{Reduced}
 use Rattle.successive_minima.specs.Laws.ReducedLaws.{reduced-independent}
 use Rattle.successive_minima.specs.Laws.Digits.{Bounded}
-use Rattle.nearest_of_three.specs.Gram.{behind}
+
+pub behind : (k j : ℕ) (b : List Vec) → k ≤ j → getD (take k b) j [] ≡ []
+behind k j b h = List·getD-eq-default (take k b) [] (le-trans (omega (arith, length-take k b)) h)
 
 -- the first k vectors of b are reduced and no longer than 20,000, the target no longer than three times that
 pub record Searchable (k : ℕ) (b : List Vec) (t : Vec) : Type 0 where
@@ -52,57 +54,7 @@ coordinates v h i = within-le (omega arith) (root-within {B = 60000} (≤ℤ-tra
 pub rows-bounded : {k : ℕ} {b : List Vec} {t : Vec} → Searchable k b t → (i : ℕ) → i < k → Bounded 100000 (getD b i [])
 rows-bounded {b} s i h = coordinates (getD b i []) (≤ℤ-trans (s .short i h) (leZ-yes tt))
 
--- ---- inner products: 2|<u, v>| ≤ N u + N v
-
-pub inner-within : {A B C : ℕ} (u v : Vec) → A + B ≡ 2 * C → N u ≤ℤ pos A → N v ≤ℤ pos B → Within C (dot u v)
-inner-within {A} {B} {C} u v e h k = within-of-bounds (lower (upper (negℤ (dot u v)) (N-nonneg (u ⊕ v)) plus)) (upper (dot u v) (N-nonneg (u ⊖ v)) minus)
-  where
-    minus : N (u ⊖ v) ≡ N u +ℤ N v -ℤ pos 2 *ℤ dot u v
-    minus = simp (bilinear, dot-comm v u) (by-ring (N u ∷ N v ∷ dot u v ∷ []) (search reads depth 20) (search reads depth 20) tt)
-
-    plus : N (u ⊕ v) ≡ N u +ℤ N v -ℤ pos 2 *ℤ negℤ (dot u v)
-    plus = simp (bilinear, dot-comm v u) (by-ring (N u ∷ N v ∷ dot u v ∷ []) (search reads depth 20) (search reads depth 20) tt)
-
-    law : (a b c d n m s : ℤ) → a +ℤ b ≡ pos 2 *ℤ c → n ≤ℤ a → m ≤ℤ b → NN s → s ≡ n +ℤ m -ℤ pos 2 *ℤ d → d ≤ℤ c
-    law a b c d n m s e h k p q = le-of-nn d c (nn-cancel {n = pos 2} (ltZ-yes tt) (nn-ring (a ∷ b ∷ c ∷ d ∷ n ∷ m ∷ s ∷ [])
-        (le h ⊞ le k ⊞ p ⊞ eq (negsuc 0) e ⊞ eq (negsuc 0) q) (search reads depth 20) (search reads depth 20) tt))
-
-    upper : (d : ℤ) {s : ℤ} → NN s → s ≡ N u +ℤ N v -ℤ pos 2 *ℤ d → d ≤ℤ pos C
-    upper d {s} p q = law (pos A) (pos B) (pos C) d (N u) (N v) s (ap pos e) h k p q
-
-    lower : negℤ (dot u v) ≤ℤ pos C → negℤ (pos C) ≤ℤ dot u v
-    lower l = turned (pos C) (dot u v) l
-      where
-        turned : (c d : ℤ) → negℤ d ≤ℤ c → negℤ c ≤ℤ d
-        turned c d l = by-nn (c ∷ d ∷ []) (le l) (search reads) (search reads) tt
-
--- ---- no vector of a reduced list is zero
-
-abbrev Positive : List Vec → Type 0
-Positive [] = Unit {0}
-Positive (b ∷ bs) = (pos 0 <ℤ N b) × Positive bs
-
-positive-descending : (bs : List Vec) → Descending bs → Positive bs
-positive-descending [] d = tt
-positive-descending (b ∷ bs) d = (d .0 .positive, positive-descending bs (d .1))
-
-positive-last : (bs : List Vec) (b : Vec) → Positive (bs ++ (b ∷ [])) → (pos 0 <ℤ N b) × Positive bs
-positive-last [] b p = (p .0, tt)
-positive-last (c ∷ bs) b p = let q = positive-last bs b (p .1) in (q .0, (p .0, q .1))
-
-positive-reverse : (bs : List Vec) → Positive (reverse bs) → Positive bs
-positive-reverse [] p = tt
-positive-reverse (b ∷ bs) p = let q = positive-last (reverse bs) b (subst Positive (reverse-cons b bs) p) in (q .0, positive-reverse bs (q .1))
-
-positive-at : (bs : List Vec) → Positive bs → (i : ℕ) → i < length bs → pos 0 <ℤ N (getD bs i [])
-positive-at [] p i h = absurd (omega arith)
-positive-at (b ∷ bs) p zero h = p .0
-positive-at (b ∷ bs) p (suc i) h = positive-at bs (p .1) i (omega arith)
-
-pub reduced-positive : (bs : List Vec) → Reduced bs → (i : ℕ) → i < length bs → pos 0 <ℤ N (getD bs i [])
-reduced-positive bs d = positive-at bs (positive-reverse bs (positive-descending (reverse bs) d))
-
--- ---- nor is their volume; the width is any number that no vector exceeds
+-- ---- the volume of a reduced list; the width is any number that no vector exceeds
 
 pub width : List Vec → ℕ
 width [] = 0

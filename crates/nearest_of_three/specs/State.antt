@@ -1,76 +1,142 @@
--- The state of the search: coefficients x so far, and the inner products c of the vectors with what x leaves of the target. It starts at 0,
--- a step that improves leads to the next state and lowers a measure, and where none of the table does, x is the nearest.
+-- The search on its way: r and x were reached from r₀ and zeros by steps that did not raise the value. Then the numbers mean the same vectors
+-- with what is left of the target, sizes are bounded, a step to a smaller value lowers a measure, and where no list of the table improves,
+-- x is the nearest.
 use mathlib.Core.Path.{_≡_, refl, sym, ap, ap₂, _∙_, subst}
-use mathlib.Core.Logic.{_⊎_, inl, inr}
-use mathlib.Core.Bool.{true, false}
+use mathlib.Core.Logic.{_⊎_, inl, inr, ⊎-elim}
+use mathlib.Core.Bool.{Bool, true, false}
 use mathlib.Core.List.{List, [], _∷_}
 use Prim.Native.Nat.{ℕ, zero, suc, _+_, _*_, _≤_, _<_}
 use native.Mathlib.Nat.{le-refl}
 use native.Mathlib.Omega.{arith}
 use native.Mathlib.Decide.{decLt}
 use lib.Dec.{T, ltb→lt}
-use lib.IntN.{ℤ, pos, negsuc, negℤ, natAbs, _+ℤ_, _-ℤ_, _*ℤ_}
+use lib.IntN.{ℤ, pos, negsuc, negℤ, natAbs, _+ℤ_, _-ℤ_, _*ℤ_, *ℤ-zero}
 use lib.ListN.{length, getD, take, replicate, length-take, List·getD-eq-default}
 use lib.Seq.{getD-take}
-use lib.Signed.{_≤ℤ_, _<ℤ_}
+use lib.Signed.{_≤ℤ_, _<ℤ_, ltZ-yes}
 use Rattle.integers.specs.Identity.{by-ring, reads}
-use Rattle.integers.specs.Order.{≤ℤ-trans, ≤ℤ-of-≡, ≤ℤ-or-<ℤ}
-use Rattle.integers.specs.Certificate.{NN, _⊞_, _⊠_, le, lt, eq, nn-pos, nn-ring, by-nn, by-lt}
-use Rattle.integers.specs.Size.{Within, within-add, within-mul, within-lower}
+use Rattle.integers.specs.Order.{≤ℤ-trans, ≤ℤ-of-≡, ≤ℤ-or-<ℤ, *ℤ-cancel-≤}
+use Rattle.integers.specs.Certificate.{NN, _⊞_, _⊠_, le, lt, eq, nn-pos, nn-ring, nn-false, by-nn, by-lt}
+use Rattle.integers.specs.Size.{Within, within-add, within-mul, within-lower, within-of-bounds}
 use Rattle.integers.specs.ListLaws.{same, nth-replicate, nth-⊕, length-⊕-same}
-use Rattle.integers.specs.Lex.{below->, nonneg-ext}
-use Rattle.lattices.specs.Vector.{Vec, N, nth, comb, _⊕_, _⊖_}
-use Rattle.lattices.specs.Laws.Vector.{_≈_, ≈-refl, ≈-sym, ≈-dot, ≈-N, ≈-⊕, ≈-⊙, nth-≈, comb-≈, comb-zero, ⊖-zero, N-nonneg}
-use Rattle.lattices.specs.Nearest.{nearest, value}
-use Rattle.lattices.specs.Laws.Answer.{length-padded, nth-padded}
-use Rattle.lattices.specs.Answer.{padded}
-use Rattle.exterior_algebra.specs.Sizes.{coefficient-≤, near-le}
-use Rattle.successive_minima.specs.Laws.Values.{Least, gain, change}
-use Rattle.successive_minima.specs.Laws.ValueLaws.{gain-≈, gain-is, residual-⊕}
-use Rattle.successive_minima.specs.Laws.Digits.{Bounded, zeros, power, number, falls, nonneg-not-below, not-below-nonneg}
-use Rattle.successive_minima.specs.Laws.Grid.{lists, lists-are}
-use Rattle.successive_minima.specs.Laws.Pairs.{pairs-reduced}
-use Rattle.successive_minima.specs.Laws.Table.{improves, table-least}
-use Rattle.successive_minima.specs.Laws.NearestLaws.{nearest-only}
+use Rattle.lattices.specs.Vector.{Vec, N, nth, dot, comb, _⊕_, _⊙_, _⊖_}
+use Rattle.lattices.specs.Laws.Vector.{_≈_, ≈-refl, ≈-sym, ≈-trans, ≈-of-≡, ≈-N, ≈-⊕, ≈-⊙, nth-≈, bilinear, dot-comm, nil-dot, zero-dot, against, comb-≈, comb-dot, N-nonneg}
+use Rattle.exterior_algebra.specs.Sizes.{near-le}
+use Rattle.successive_minima.specs.Laws.Values.{gain}
+use Rattle.successive_minima.specs.Laws.ValueLaws.{gain-is}
+use Rattle.successive_minima.specs.Laws.Digits.{Bounded, power, number}
+use Rattle.nearest_of_three.specs.Meant.{Products, Gram, Meant, Known}
 use Rattle.nearest_of_three.specs.Numbers.{moved, gainOf, improvesOf, Sized}
-use Rattle.nearest_of_three.specs.Steps.{count, steps-cover}
-use Rattle.nearest_of_three.specs.Found.{Better, None}
-use Rattle.nearest_of_three.specs.Gram.{Products, Gram, products-moved, gain-of, improves-is}
-use Rattle.nearest_of_three.specs.Searchable.{Given, inner-within, reduced-positive, width, volume-positive}
+use Rattle.nearest_of_three.specs.Link.{products-≈, products-moved, gain-of}
+use Rattle.nearest_of_three.specs.Steps.{steps}
+use Rattle.nearest_of_three.specs.Coefficients.{coefficient-square, coefficient-within}
+use Rattle.nearest_of_three.specs.Moves.{base, fall, Moved, fall-sum, fall-residual, moved-then}
+use Rattle.nearest_of_three.specs.Positive.{reduced-positive}
 
-pub record SearchState (k : ℕ) (bs : List Vec) (t : Vec) (g : List (List ℤ)) (c x : List ℤ) : Type 0 where
-  pub gram : Gram bs g
-  pub products : Products bs (t ⊖ comb x bs) c
-  pub count : length x ≡ 3
-  pub behind : (j : ℕ) → k ≤ j → nth x j ≡ pos 0
-  pub closer : N (t ⊖ comb x bs) ≤ℤ N t
+-- none of the first n lists of the table improves
+abbrev pub None : ℕ → List (List ℤ) → List ℤ → Type 0
+None n g r = (i : ℕ) → i < n → improvesOf g r (getD steps i []) ≡ false
 
-products-≈ : {bs : List Vec} {r s : Vec} {c : List ℤ} → r ≈ s → Products bs r c → Products bs s c
-products-≈ {bs} e p = record { at = λ i. p .at i ∙ ≈-dot (≈-refl {u = getD bs i []}) e }
+-- ---- the vectors in front
 
-pub start : (k : ℕ) (bs : List Vec) (t : Vec) (g : List (List ℤ)) (c : List ℤ) → Gram bs g → Products bs t c → SearchState k bs t g c (replicate 3 (pos 0))
-start k bs t g c q p = record { gram = q; products = products-≈ {r = t} (≈-sym still) p; count = refl; behind = λ j h. nth-replicate 3 j; closer = ≤ℤ-of-≡ (≈-N still) }
+-- coefficients that are zero from place k on take the first k vectors only
+pub comb-front : (k : ℕ) (x : List ℤ) (vs : List Vec) → ((j : ℕ) → k ≤ j → nth x j ≡ pos 0) → comb x vs ≈ comb (take k x) (take k vs)
+unfolding comb
+comb-front zero x vs z = record { on = λ w. comb-dot x vs w ∙ zero-dot x (λ j. z j (omega arith)) (against vs w) ∙ sym (nil-dot w) }
+comb-front (suc k) [] vs z = ≈-refl
+comb-front (suc k) (q ∷ x) [] z = ≈-refl
+comb-front (suc k) (q ∷ x) (v ∷ vs) z = ≈-⊕ ≈-refl (comb-front k x vs (λ j h. z (suc j) (omega arith)))
+
+-- ---- inner products, up to the factor: 2|<u, v>| ≤ N u + N v
+
+scaled-within : (A B : ℕ) {C : ℕ} (F z : ℤ) (u v : Vec) → pos 0 <ℤ F → A + B ≡ 2 * C → N u ≤ℤ (F *ℤ pos A) → N v ≤ℤ (F *ℤ pos B) → F *ℤ z ≡ dot u v → Within C z
+scaled-within A B {C} F z u v f s h k e = within-of-bounds lower upper
   where
-    still : t ⊖ comb (replicate 3 (pos 0)) bs ≈ t
-    still = ⊖-zero t (comb-zero (replicate 3 (pos 0)) (nth-replicate 3) bs)
+    minus : N (u ⊖ v) ≡ N u +ℤ N v -ℤ pos 2 *ℤ dot u v
+    minus = simp (bilinear, dot-comm v u) (by-ring (N u ∷ N v ∷ dot u v ∷ []) (search reads depth 20) (search reads depth 20) tt)
 
--- ---- the measure: the value as a number in a base above the entries of every step, but for the constant N t, and lifted above 0
+    plus : N (u ⊕ v) ≡ N u +ℤ N v +ℤ pos 2 *ℤ dot u v
+    plus = simp (bilinear, dot-comm v u) (by-ring (N u ∷ N v ∷ dot u v ∷ []) (search reads depth 20) (search reads depth 20) tt)
 
-abbrev base : ℤ
-base = pos 4400000001
+    law : (a b c d n m y : ℤ) → a +ℤ b ≡ pos 2 *ℤ c → n ≤ℤ (F *ℤ a) → m ≤ℤ (F *ℤ b) → NN (n +ℤ m -ℤ pos 2 *ℤ d) → F *ℤ y ≡ d → y ≤ℤ c
+    law a b c d n m y s h k p e = *ℤ-cancel-≤ {c = pos 2 *ℤ F} (by-lt (F ∷ []) (lt f ⊞ lt f ⊞ nn-pos 1) (search reads depth 8) (search reads depth 8) tt)
+        (by-nn (a ∷ b ∷ c ∷ d ∷ n ∷ m ∷ y ∷ F ∷ []) (le h ⊞ le k ⊞ p ⊞ eq (negℤ F) s ⊞ eq (negsuc 1) e) (search reads depth 20 fits 5000) (search reads depth 20 fits 5000) tt)
 
--- the size of a number of three coefficients, by the size of these
+    upper : z ≤ℤ pos C
+    upper = law (pos A) (pos B) (pos C) (dot u v) (N u) (N v) z (ap pos s) h k (subst NN minus (N-nonneg (u ⊖ v))) e
+
+    lower : negℤ (pos C) ≤ℤ z
+    lower = flip (pos C) z (law (pos A) (pos B) (pos C) (negℤ (dot u v)) (N u) (N v) (negℤ z) (ap pos s) h k
+        (nn-ring (N u ∷ N v ∷ dot u v ∷ N (u ⊕ v) ∷ []) (N-nonneg (u ⊕ v) ⊞ eq (negsuc 0) plus) (search reads depth 20) (search reads depth 20) tt) (opposite ∙ ap negℤ e))
+      where
+        opposite : F *ℤ negℤ z ≡ negℤ (F *ℤ z)
+        opposite = by-ring (F ∷ z ∷ []) (search reads) (search reads) tt
+
+        flip : (c d : ℤ) → negℤ d ≤ℤ c → negℤ c ≤ℤ d
+        flip c d l = by-nn (c ∷ d ∷ []) (le l) (search reads) (search reads) tt
+
+-- ---- what the numbers mean
+
+module _ {F : ℤ} {k : ℕ} {vs : List Vec} {t : Vec} {g : List (List ℤ)} {r : List ℤ} (m : Meant F k vs t g r) where
+  pub sized : Sized g r
+  sized = record {
+    gram = λ i j. scaled-within 400000000 400000000 F (nth (getD g i []) j) (getD vs j []) (getD vs i []) (m .positive) refl (m .short j) (m .short i) (m .gram .row i .at j);
+    products = λ j. scaled-within 400000000 3600000000 F (nth r j) (getD vs j []) t (m .positive) refl (m .short j) (m .target) (m .products .at j);
+  }
+
+  count-front : length (take k vs) ≡ k
+  count-front = omega (arith, length-take k vs, m .enough)
+
+  pub diagonal : (i : ℕ) → i < k → pos 0 <ℤ nth (getD g i []) i
+  diagonal i h = ⊎-elim (λ (l : nth (getD g i []) i ≤ℤ pos 0). absurd (law F (nth (getD g i []) i) (N (getD vs i [])) (m .positive) l (m .gram .row i .at i) own)) (λ l. l) (≤ℤ-or-<ℤ (nth (getD g i []) i) (pos 0))
+    where
+      own : pos 0 <ℤ N (getD vs i [])
+      own = subst (λ v. pos 0 <ℤ N v) (getD-take k vs i [] h) (reduced-positive (take k vs) (m .reduced) i (omega (arith, count-front)))
+
+      law : (F n s : ℤ) → pos 0 <ℤ F → n ≤ℤ pos 0 → F *ℤ n ≡ s → pos 0 <ℤ s → ⊥
+      law F n s h l e p = nn-false (F ∷ n ∷ s ∷ []) ((lt h ⊞ nn-pos 1) ⊠ le l ⊞ eq (pos 1) e ⊞ lt p) (search reads depth 8) tt
+
+  -- a step that does not lengthen leaves numbers that mean the rest of the target
+  pub meant-moved : {x r′ x′ : List ℤ} {b : Bool} (p : Moved k g r x r′ x′ b) → Meant F k vs (t ⊖ comb (p .step) vs) g r′
+  meant-moved p = record {
+    positive = m .positive;
+    enough = m .enough;
+    reduced = m .reduced;
+    short = m .short;
+    target = ≤ℤ-trans closer (m .target);
+    gram = m .gram;
+    products = products-≈ F vs ≈-refl (≈-sym (p .left)) (products-moved F vs g (m .gram) t r (m .products) (p .step));
+    wide = λ i. subst (λ n. length (getD g i []) ≤ n) (sym (p .width)) (m .wide i);
+  }
+    where
+      law : (n d z : ℤ) → pos 0 <ℤ F → z ≤ℤ pos 0 → F *ℤ z ≡ d → (n +ℤ d) ≤ℤ n
+      law n d z h l e = by-nn (F ∷ n ∷ d ∷ z ∷ []) ((lt h ⊞ nn-pos 1) ⊠ le l ⊞ eq (pos 1) e) (search reads depth 8) (search reads depth 8) tt
+
+      closer : N (t ⊖ comb (p .step) vs) ≤ℤ N t
+      closer = rw (gain-is t (comb (p .step) vs)) (law (N t) (gain t (comb (p .step) vs)) (gainOf g r (p .step)) (m .positive) (p .shorter) (gain-of F vs g (m .gram) t r (m .products) (p .step)))
+
+pub known-moved : {k : ℕ} {g : List (List ℤ)} {r x r′ x′ : List ℤ} {b : Bool} → Known k g r → Moved k g r x r′ x′ b → Known k g r′
+known-moved w p = record { factor = w .factor; vectors = w .vectors; target = w .target ⊖ comb (p .step) (w .vectors); meant = meant-moved (w .meant) p }
+
+-- ---- from zeros on, the step is the coefficients
+
+pub from-zeros : {k : ℕ} {g : List (List ℤ)} {r r′ x : List ℤ} {b : Bool} (p : Moved k g r (replicate 3 (pos 0)) r′ x b) → p .step ≡ x
+from-zeros p = sym (p .coefficients ∙ same (length-⊕-same (replicate 3 (pos 0)) (p .step) (sym (p .count)) ∙ sym (p .count))
+    (λ i. nth-⊕ (replicate 3 (pos 0)) (p .step) i ∙ ap (λ z. z +ℤ nth (p .step) i) (nth-replicate 3 i) ∙ by-ring (nth (p .step) i ∷ []) (search reads) (search reads) tt))
+
+-- ---- the measure: the fall so far, lifted above 0
+
 abbrev most : ℕ
-most = 960000000000000000 * (4400000001 * (4400000001 * 1)) + (960000000000000000 * (4400000001 * 1) + (960000000000000000 * 1 + 0))
+most = 10000000 * (5000000001 * (5000000001 * 1)) + (10000000 * (5000000001 * 1) + (10000000 * 1 + 0))
 
 abbrev lift : ℤ
 lift = pos 3600000000 *ℤ power base 3 +ℤ pos most
 
 pub measure : List (List ℤ) → List ℤ → List ℤ → ℕ
-measure g c₀ x = natAbs (number base (gainOf g (c₀ ⊕ c₀) x ∷ x) +ℤ lift)
+measure g r₀ x = natAbs (fall g r₀ x +ℤ lift)
 
-number-lower : (x : List ℤ) → length x ≡ 3 → Bounded 960000000000000000 x → negℤ (pos most) ≤ℤ number base x
-number-lower (a ∷ b ∷ c ∷ []) e h = within-lower (within-add (term (4400000001 * (4400000001 * 1)) (h 0)) (within-add (term (4400000001 * 1) (h 1)) (within-add (term 1 (h 2)) (record { within = le-refl 0 }))))
+number-lower : (x : List ℤ) → length x ≡ 3 → Bounded 10000000 x → negℤ (pos most) ≤ℤ number base x
+number-lower (a ∷ b ∷ c ∷ []) e h = within-lower (within-add (term (5000000001 * (5000000001 * 1)) (h 0)) (within-add (term (5000000001 * 1) (h 1)) (within-add (term 1 (h 2)) (record { within = le-refl 0 }))))
   where
     term : {A : ℕ} (B : ℕ) {z : ℤ} → Within A z → Within (A * B) (z *ℤ pos B)
     term B h = within-mul h (record { within = le-refl B })
@@ -84,149 +150,81 @@ smaller {a = pos m} {b = pos n} h l = ltb→lt m n (l .lt)
 smaller {a = pos m} {b = negsuc n} h l = absurd (l .lt)
 smaller {a = negsuc m} h l = absurd (h .le)
 
-pub gain-residual : {r s : Vec} (u : Vec) → r ≈ s → gain r u ≡ gain s u
-unfolding gain
-gain-residual u e = ap (λ p. N u -ℤ pos 2 *ℤ p) (≈-dot (≈-refl {u = u}) e)
+module _ {F : ℤ} {k : ℕ} {vs : List Vec} {t : Vec} {g : List (List ℤ)} {r₀ r x : List ℤ} {b : Bool} (few : k ≤ 3) (m : Meant F k vs t g r₀) (p : Moved k g r₀ (replicate 3 (pos 0)) r x b) where
+  same-step : p .step ≡ x
+  same-step = from-zeros p
 
-module _ (k : ℕ) (bs : List Vec) (t : Vec) (v : Given k bs t) (g : List (List ℤ)) where
-  -- ---- sizes
-  pub sized : (c x : List ℤ) → SearchState k bs t g c x → Sized 2000000000 g c
-  sized c x s = record {
-    gram = λ i j. subst (Within 400000000) (sym (s .gram .row i .at j)) (inner-within (getD bs j []) (getD bs i []) refl (v .short j) (v .short i));
-    products = λ i. subst (Within 2000000000) (sym (s .products .at i)) (inner-within (getD bs i []) (t ⊖ comb x bs) refl (v .short i) (≤ℤ-trans (s .closer) (v .target)));
-  }
+  pub zero-behind : (j : ℕ) → k ≤ j → nth x j ≡ pos 0
+  zero-behind = subst (λ z. (j : ℕ) → k ≤ j → nth z j ≡ pos 0) same-step (p .behind)
 
-  pub diagonal : Gram bs g → (i : ℕ) → i < k → pos 0 <ℤ nth (getD g i []) i
-  diagonal q i h = subst (λ n. pos 0 <ℤ n) (sym (q .row i .at i)) (reduced-positive bs (v .reduced) i (omega (arith, v .count)))
+  pub long : length x ≡ 3
+  long = subst (λ z. length z ≡ 3) same-step (p .count)
 
-  pub small : (c x : List ℤ) → SearchState k bs t g c x → Bounded 960000000000000000 x
-  small c x s j = pick (decLt j k)
+  gained : F *ℤ gainOf g r₀ x ≡ gain t (comb x vs)
+  gained = gain-of F vs g (m .gram) t r₀ (m .products) x
+
+  closer : N (t ⊖ comb x vs) ≤ℤ N t
+  closer = rw (gain-is t (comb x vs)) (law (N t) (gain t (comb x vs)) (gainOf g r₀ x) (m .positive) (subst (λ z. gainOf g r₀ z ≤ℤ pos 0) same-step (p .shorter)) gained)
     where
-      near : N (comb x bs) ≤ℤ pos 14400000000
-      near = law (N (comb x bs)) (N t) (near-le t (comb x bs) (s .closer)) (v .target)
+      law : (n d z : ℤ) → pos 0 <ℤ F → z ≤ℤ pos 0 → F *ℤ z ≡ d → (n +ℤ d) ≤ℤ n
+      law n d z h l e = by-nn (F ∷ n ∷ d ∷ z ∷ []) ((lt h ⊞ nn-pos 1) ⊠ le l ⊞ eq (pos 1) e) (search reads depth 8) (search reads depth 8) tt
+
+  pub small : Bounded 10000000 x
+  small j = pick (decLt j k)
+    where
+      near : N (comb (take k x) (take k vs)) ≤ℤ (F *ℤ pos 14400000000)
+      near = subst (λ n. n ≤ℤ (F *ℤ pos 14400000000)) (≈-N (comb-front k x vs zero-behind)) (law (N (comb x vs)) (N t) (near-le t (comb x vs) closer) (m .target))
         where
-          law : (n m : ℤ) → n ≤ℤ (pos 4 *ℤ m) → m ≤ℤ pos 3600000000 → n ≤ℤ pos 14400000000
-          law n m h l = by-nn (n ∷ m ∷ []) (le h ⊞ nn-pos 4 ⊠ le l) (search reads depth 8) (search reads depth 8) tt
+          law : (n s : ℤ) → n ≤ℤ (pos 4 *ℤ s) → s ≤ℤ (F *ℤ pos 3600000000) → n ≤ℤ (F *ℤ pos 14400000000)
+          law n s h l = by-nn (F ∷ n ∷ s ∷ []) (le h ⊞ nn-pos 4 ⊠ le l) (search reads depth 8) (search reads depth 8) tt
 
-      pick : Dec (j < k) → Within 960000000000000000 (nth x j)
-      pick (yes h) = record {
-        within = coefficient-≤ 6 (width bs) j x bs (omega (arith, v .count, v .few)) (v .short)
-            (volume-positive bs (v .reduced) (omega (arith, v .count, v .few))) (omega (arith, v .count)) near;
-      }
-      pick (no h) = subst (Within 960000000000000000) (sym (s .behind j (omega (arith, h)))) (record { within = omega arith })
+      pick : Dec (j < k) → Within 10000000 (nth x j)
+      pick (yes h) = coefficient-within F (nth (getD g j []) j) (nth x j) k (m .positive) (diagonal m j h) few
+          (subst (λ n. (nth x j *ℤ nth x j *ℤ n) ≤ℤ (pos 4 *ℤ power (pos 10) k *ℤ (F *ℤ pos 14400000000))) (sym (m .gram .row j .at j))
+          (coefficient-square k vs x (F *ℤ pos 14400000000) (m .enough) (omega (arith, long)) (omega arith) (m .reduced) near j h))
+      pick (no h) = subst (Within 10000000) (sym (zero-behind j (omega (arith, h)))) (record { within = omega arith })
 
-  -- ---- a step
-  module _ (c x e : List ℤ) (s : SearchState k bs t g c x) (l : length e ≡ 3) (b : Better k g (c ⊕ c) e) where
-    lower : improves (t ⊖ comb x bs) bs e ≡ true
-    lower = sym (improves-is bs g (s .gram) (t ⊖ comb x bs) c e (s .products)) ∙ b .improves
+  -- the measure stays above 0
+  high : negℤ lift ≤ℤ fall g r₀ x
+  unfolding fall
+  high = subst (λ n. negℤ lift ≤ℤ (gainOf g r₀ x *ℤ power base n +ℤ number base x)) (sym long)
+      (law (gainOf g r₀ x) (power base 3) (number base x) (N t) (N (t ⊖ comb x vs)) (pos 3600000000) (pos most)
+      (gained ∙ back) (N-nonneg (t ⊖ comb x vs)) (nn-pos 125000000075000000015000000001) (number-lower x long small) (m .target))
+    where
+      back : gain t (comb x vs) ≡ N (t ⊖ comb x vs) -ℤ N t
+      back = sym (ap (λ n. n -ℤ N t) (gain-is t (comb x vs)) ∙ by-ring (N t ∷ gain t (comb x vs) ∷ []) (search reads) (search reads) tt)
 
-    shorter : N ((t ⊖ comb x bs) ⊖ comb e bs) ≤ℤ N (t ⊖ comb x bs)
-    shorter = rw (gain-is (t ⊖ comb x bs) (comb e bs)) (pick (≤ℤ-or-<ℤ (gain (t ⊖ comb x bs) (comb e bs)) (pos 0)))
+      -- F·d = s − n ≥ −F·u, so d ≥ −u
+      above : (d n s u : ℤ) → F *ℤ d ≡ s -ℤ n → NN s → n ≤ℤ (F *ℤ u) → negℤ u ≤ℤ d
+      above d n s u e h l = *ℤ-cancel-≤ (m .positive) (by-nn (F ∷ d ∷ n ∷ s ∷ u ∷ []) (eq (pos 1) e ⊞ h ⊞ le l) (search reads depth 8) (search reads depth 8) tt)
+
+      sum : (d q a u w : ℤ) → negℤ u ≤ℤ d → NN q → negℤ w ≤ℤ a → negℤ (u *ℤ q +ℤ w) ≤ℤ (d *ℤ q +ℤ a)
+      sum d q a u w h n l = by-nn (d ∷ q ∷ a ∷ u ∷ w ∷ []) (le h ⊠ n ⊞ le l) (search reads depth 20) (search reads depth 20) tt
+
+      law : (d q a n s u w : ℤ) → F *ℤ d ≡ s -ℤ n → NN s → NN q → negℤ w ≤ℤ a → n ≤ℤ (F *ℤ u) → negℤ (u *ℤ q +ℤ w) ≤ℤ (d *ℤ q +ℤ a)
+      law d q a n s u w e h f l i = sum d q a u w (above d n s u e h i) f l
+
+-- a step to a smaller value lowers it
+pub descends : {k : ℕ} {g : List (List ℤ)} {r₀ r x r′ x′ : List ℤ} {b : Bool} → k ≤ 3 → Known k g r₀ → Moved k g r₀ (replicate 3 (pos 0)) r x b → Moved k g r x r′ x′ true
+    → measure g r₀ x′ < measure g r₀ x
+unfolding measure
+descends {k} {g} {r₀} {r} {x} {r′} {x′} few w p q = smaller (above (fall g r₀ x′) lift (high few (w .meant) whole)) (raised (fall g r₀ x′) (fall g r₀ x) lift lesser)
+  where
+    whole : Moved k g r₀ (replicate 3 (pos 0)) r′ x′ true
+    whole = moved-then k g r₀ w true (λ t. inr t) refl p q
+
+    lesser : fall g r₀ x′ <ℤ fall g r₀ x
+    lesser = subst (λ z. fall g r₀ z <ℤ fall g r₀ x) (sym (q .coefficients)) (subst (λ n. n <ℤ fall g r₀ x)
+        (sym (fall-sum k g r₀ w x (q .step) (long few (w .meant) p ∙ sym (q .count)))) (law (fall g r₀ x) (fall g (moved g r₀ x) (q .step)) own))
       where
-        law : (n d : ℤ) → d ≤ℤ pos 0 → (n +ℤ d) ≤ℤ n
-        law n d h = by-nn (n ∷ d ∷ []) (le h) (search reads) (search reads) tt
+        law : (a d : ℤ) → d <ℤ pos 0 → (a +ℤ d) <ℤ a
+        law a d h = by-lt (a ∷ d ∷ []) (lt h) (search reads) (search reads) tt
 
-        pick : (gain (t ⊖ comb x bs) (comb e bs) ≤ℤ pos 0) ⊎ (pos 0 <ℤ gain (t ⊖ comb x bs) (comb e bs)) → (N (t ⊖ comb x bs) +ℤ gain (t ⊖ comb x bs) (comb e bs)) ≤ℤ N (t ⊖ comb x bs)
-        pick (inl h) = law (N (t ⊖ comb x bs)) (gain (t ⊖ comb x bs) (comb e bs)) h
-        pick (inr h) = absurd (subst T (sym lower ∙ below-> e (zeros e) h) tt)
+        own : fall g (moved g r₀ x) (q .step) <ℤ pos 0
+        own = subst (λ n. n <ℤ pos 0) (fall-residual g (q .step) (subst (λ z. r ≈ moved g r₀ z) (from-zeros p) (p .left))) (q .falls refl)
 
-    pub next : SearchState k bs t g (moved g c e) (x ⊕ e)
-    next = record {
-      gram = s .gram;
-      products = products-≈ (≈-sym (residual-⊕ bs t x e)) (products-moved bs g (s .gram) (t ⊖ comb x bs) c e (s .products));
-      count = length-⊕-same x e (s .count ∙ sym l) ∙ s .count;
-      behind = λ j h. nth-⊕ x e j ∙ ap₂ _+ℤ_ (s .behind j h) (b .behind j h);
-      closer = ≤ℤ-trans (≤ℤ-of-≡ (≈-N (residual-⊕ bs t x e))) (≤ℤ-trans shorter (s .closer));
-    }
+    above : (a z : ℤ) → negℤ z ≤ℤ a → NN (a +ℤ z)
+    above a z h = nn-ring (a ∷ z ∷ []) (le h) (search reads) (search reads) tt
 
-    pub descends : (c₀ : List ℤ) → Products bs t c₀ → measure g c₀ (x ⊕ e) < measure g c₀ x
-    unfolding measure
-    descends c₀ p = smaller (above (number base (gainOf g (c₀ ⊕ c₀) (x ⊕ e) ∷ (x ⊕ e))) lift high) (raised (number base (gainOf g (c₀ ⊕ c₀) (x ⊕ e) ∷ (x ⊕ e))) (number base (gainOf g (c₀ ⊕ c₀) x ∷ x)) lift lesser)
-      where
-        -- the value is N t more
-        value-is : (z : List ℤ) → length z ≡ 3 → number base (value bs t z) ≡ N t *ℤ power base 3 +ℤ number base (gainOf g (c₀ ⊕ c₀) z ∷ z)
-        value-is z h = ap (λ n. n *ℤ power base (length z) +ℤ number base z) (gain-is t (comb z bs) ∙ ap (λ d. N t +ℤ d) (sym (gain-of bs g (s .gram) t c₀ z p)))
-            ∙ subst (λ m. (N t +ℤ gainOf g (c₀ ⊕ c₀) z) *ℤ power base m +ℤ number base z ≡ N t *ℤ power base 3 +ℤ (gainOf g (c₀ ⊕ c₀) z *ℤ power base m +ℤ number base z)) (sym h)
-            (law (N t) (gainOf g (c₀ ⊕ c₀) z) (power base 3) (number base z))
-          where
-            law : (n d q m : ℤ) → (n +ℤ d) *ℤ q +ℤ m ≡ n *ℤ q +ℤ (d *ℤ q +ℤ m)
-            law n d q m = by-ring (n ∷ d ∷ q ∷ m ∷ []) (search reads depth 8) (search reads depth 8) tt
-
-        fewer : number base (value bs t (x ⊕ e)) <ℤ number base (value bs t x)
-        fewer = subst (λ n. number base (n ∷ (x ⊕ e)) <ℤ number base (value bs t x)) (sym (≈-N (residual-⊕ bs t x e)))
-            (falls 4400000000 (t ⊖ comb x bs) bs x e (s .count ∙ sym l) (b .bounded) lower)
-
-        lesser : number base (gainOf g (c₀ ⊕ c₀) (x ⊕ e) ∷ (x ⊕ e)) <ℤ number base (gainOf g (c₀ ⊕ c₀) x ∷ x)
-        lesser = law (N t *ℤ power base 3) (number base (gainOf g (c₀ ⊕ c₀) (x ⊕ e) ∷ (x ⊕ e))) (number base (gainOf g (c₀ ⊕ c₀) x ∷ x))
-            (rw (value-is (x ⊕ e) (next .count), value-is x (s .count)) at fewer)
-          where
-            law : (n a d : ℤ) → (n +ℤ a) <ℤ (n +ℤ d) → a <ℤ d
-            law n a d h = by-lt (n ∷ a ∷ d ∷ []) (lt h) (search reads depth 8) (search reads depth 8) tt
-
-        high : negℤ lift ≤ℤ number base (gainOf g (c₀ ⊕ c₀) (x ⊕ e) ∷ (x ⊕ e))
-        high = law (N t) (power base 3) (number base (gainOf g (c₀ ⊕ c₀) (x ⊕ e) ∷ (x ⊕ e))) (N (t ⊖ comb (x ⊕ e) bs)) (number base (x ⊕ e)) (pos 3600000000) (pos most)
-            (sym (value-is (x ⊕ e) (next .count)) ∙ ap (λ m. N (t ⊖ comb (x ⊕ e) bs) *ℤ power base m +ℤ number base (x ⊕ e)) (next .count))
-            (N-nonneg (t ⊖ comb (x ⊕ e) bs)) (nn-pos 85184000058080000013200000001) (number-lower (x ⊕ e) (next .count) (small (moved g c e) (x ⊕ e) next)) (v .target)
-          where
-            law : (n q a d m u w : ℤ) → n *ℤ q +ℤ a ≡ d *ℤ q +ℤ m → NN d → NN q → negℤ w ≤ℤ m → n ≤ℤ u → negℤ (u *ℤ q +ℤ w) ≤ℤ a
-            law n q a d m u w e h f k i = by-nn (n ∷ q ∷ a ∷ d ∷ m ∷ u ∷ w ∷ []) (eq (pos 1) e ⊞ h ⊠ f ⊞ le k ⊞ le i ⊠ f)
-                (search reads depth 20) (search reads depth 20) tt
-
-        above : (a z : ℤ) → negℤ z ≤ℤ a → NN (a +ℤ z)
-        above a z h = nn-ring (a ∷ z ∷ []) (le h) (search reads) (search reads) tt
-
-        raised : (a b z : ℤ) → a <ℤ b → (a +ℤ z) <ℤ (b +ℤ z)
-        raised a b z h = by-lt (a ∷ b ∷ z ∷ []) (lt h) (search reads depth 8) (search reads depth 8) tt
-
-  -- ---- the end
-  module _ (c x : List ℤ) (s : SearchState k bs t g c x) (n : None (count k) g (c ⊕ c)) where
-    y : List ℤ
-    y = take k x
-
-    nth-y : (i : ℕ) → nth y i ≡ nth x i
-    unfolding y
-    nth-y i = pick (decLt i k)
-      where
-        pick : Dec (i < k) → nth (take k x) i ≡ nth x i
-        pick (yes h) = getD-take k x i (pos 0) h
-        pick (no h) = List·getD-eq-default (take k x) (pos 0) (omega (arith, length-take k x, h)) ∙ sym (s .behind i (omega (arith, h)))
-
-    length-y : length y ≡ length bs
-    unfolding y
-    length-y = omega (arith, length-take k x, s .count, v .few, v .count)
-
-    -- what is left of the target, by either list
-    residual : t ⊖ comb x bs ≈ t ⊖ comb y bs
-    residual = ≈-⊕ ≈-refl (≈-⊙ (negsuc 0) (comb-≈ {x = x} bs (nth-≈ x y (λ i. sym (nth-y i)))))
-
-    -- a list of the table and the same list with zeros behind lead to the same change
-    same-change : (l : List ℤ) → length l ≤ 3 → (i : ℕ) → nth (change (t ⊖ comb x bs) bs (padded 3 l)) i ≡ nth (change (t ⊖ comb y bs) bs l) i
-    same-change l h zero = gain-≈ (t ⊖ comb x bs) (comb-≈ {x = padded 3 l} bs (nth-≈ (padded 3 l) l (nth-padded 3 l h))) ∙ gain-residual (comb l bs) residual
-    same-change l h (suc i) = nth-padded 3 l h i
-
-    none : (i : ℕ) → i < length (lists k) → improves (t ⊖ comb y bs) bs (getD (lists k) i []) ≡ false
-    none i h =
-        let l = getD (lists k) i [] in
-        nonneg-not-below (change (t ⊖ comb y bs) bs l)
-        (nonneg-ext (change (t ⊖ comb x bs) bs (padded 3 l)) (change (t ⊖ comb y bs) bs l) (same-change l (omega (arith, lists-are k i h .count, v .few)))
-        (not-below-nonneg (change (t ⊖ comb x bs) bs (padded 3 l))
-        (sym (improves-is bs g (s .gram) (t ⊖ comb x bs) c (padded 3 l) (s .products)) ∙ steps-cover (λ e. improvesOf g (c ⊕ c) e ≡ false) k (v .few) n i h)))
-
-    least : Least bs t y
-    least = table-least bs t y (omega (arith, v .count, v .few)) (pairs-reduced bs (v .reduced)) length-y
-        (subst (λ m. (i : ℕ) → i < length (lists m) → improves (t ⊖ comb y bs) bs (getD (lists m) i []) ≡ false) (sym (v .count)) none)
-
-    pub nearest-is : x ≡ padded 3 (nearest bs t)
-    nearest-is = same (s .count ∙ sym (length-padded 3 y)) (λ i. sym (nth-padded 3 y (omega (arith, length-y, v .count, v .few)) i ∙ nth-y i))
-        ∙ ap (padded 3) (nearest-only bs (v .reduced) (omega (arith, v .count, v .few)) t y least)
-
--- ---- the same from the numbers at the start alone: whatever vectors and target they come from
-
-pub record Kept (k : ℕ) (g : List (List ℤ)) (c₀ c x : List ℤ) : Type 0 where
-  pub state : (bs : List Vec) (t : Vec) → Given k bs t → Gram bs g → Products bs t c₀ → SearchState k bs t g c x
-
-pub kept-start : (k : ℕ) (g : List (List ℤ)) (c : List ℤ) → Kept k g c c (replicate 3 (pos 0))
-kept-start k g c = record { state = λ bs t v q p. start k bs t g c q p }
-
-pub kept-next : (k : ℕ) (g : List (List ℤ)) (c₀ c x e : List ℤ) → Kept k g c₀ c x → length e ≡ 3 → Better k g (c ⊕ c) e → Kept k g c₀ (moved g c e) (x ⊕ e)
-kept-next k g c₀ c x e s l b = record { state = λ bs t v q p. next k bs t v g c x e (s .state bs t v q p) l b }
+    raised : (a b z : ℤ) → a <ℤ b → (a +ℤ z) <ℤ (b +ℤ z)
+    raised a b z h = by-lt (a ∷ b ∷ z ∷ []) (lt h) (search reads depth 8) (search reads depth 8) tt

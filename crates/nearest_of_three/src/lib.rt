@@ -1,99 +1,129 @@
-// The nearest vector in the lattice of at most three reduced vectors. The loop works on numbers: g is the Gram matrix of the vectors,
-// c holds their inner products with what is left of the target.
+// The nearest vector in the lattice of at most three reduced vectors, on numbers: g is the Gram matrix of four vectors, of which the first k are
+// searched, r holds the inner products of the four with what is left of the target, and x the coefficients taken so far.
 ghost use mathlib.Core.Path.{_≡_};
-ghost use mathlib.Core.List.{[], _∷_};
-ghost use mathlib.Core.Bool.{false};
-ghost use Prim.Native.Nat.{ℕ, _≤_, _<_};
-ghost use lib.IntN.{pos, _*ℤ_};
-ghost use lib.ListN.{getD, take, replicate};
+ghost use mathlib.Core.List.{List, []};
+ghost use mathlib.Core.Bool.{Bool, true, false, _||_};
+ghost use Prim.Native.Nat.{ℕ, _+_, _≤_, _<_};
+ghost use lib.IntN.{ℤ, pos, natAbs, _+ℤ_, _-ℤ_, _*ℤ_};
+ghost use lib.ListN.{length, getD, set, take, replicate};
 ghost use lib.Signed.{_<ℤ_};
 ghost use Rattle.integers.specs.Size.{Within};
-ghost use Rattle.lattices.specs.Vector.{nth, dot, _⊕_};
+ghost use Rattle.lattices.specs.Vector.{Vec, nth, comb, _⊕_, _⊖_, _⊙_};
+ghost use Rattle.lattices.specs.Laws.Vector.{_≈_};
 ghost use Rattle.lattices.specs.Nearest.{nearest};
 ghost use Rattle.lattices.specs.Answer.{padded};
 ghost use Rattle.successive_minima.specs.Laws.Digits.{Bounded};
-ghost use Rattle.nearest_of_three.specs.Numbers.{moved, gainOf, negative, Sized};
-ghost use Rattle.nearest_of_three.specs.Found.{Found, Decided, None};
-ghost use Rattle.nearest_of_three.specs.Multiples.{Lowers, Multiple, SettledAlong};
-ghost use Rattle.nearest_of_three.specs.Gram.{Products, Gram};
+ghost use Rattle.row_operations.specs.Minus.{room};
+ghost use Rattle.nearest_of_three.specs.Meant.{Meant, Known};
+ghost use Rattle.nearest_of_three.specs.Numbers.{moved, Sized};
+ghost use Rattle.nearest_of_three.specs.Steps.{count};
+ghost use Rattle.nearest_of_three.specs.Moves.{Moved};
+ghost use Rattle.nearest_of_three.specs.State.{None};
+ghost use Rattle.nearest_of_three.specs.Multiples.{Still, Along, SettledAlong};
+ghost use Rattle.nearest_of_three.specs.Pairs.{squaresOf, sumsOf};
+ghost use Rattle.nearest_of_three.specs.Places.{Walked, Placed};
+ghost use Rattle.nearest_of_three.specs.Sweep.{Swept};
+ghost use Rattle.nearest_of_three.specs.Stepped.{Stepped};
 ghost use Rattle.nearest_of_three.specs.Searchable.{Searchable};
+ghost use Rattle.nearest_of_three.specs.Formed.{ProductsOf, GramOf};
 
-// The inner product of two lists of three numbers.
-fn dot3(a: [i64; 3], b: [i64; 3]) -> i64
-    requires { ⌜ ((i : ℕ) → Within 3000000000000000000 (nth a i *ℤ nth b i)) ⌝ }
-    ensures { λ r. ⌜ r ≡ dot a b ⌝ }
+// The multiple of a vector nearest to what is left, of two equally near the smaller: n is the vector's squared length, p its inner product with
+// what is left.
+fn multiple(n: i64, p: i64) -> i64
+    requires { ⌜ Within 400000000 n ⌝ }
+    requires { ⌜ pos 0 <ℤ n ⌝ }
+    requires { ⌜ Within 2000000000 p ⌝ }
+    ensures { λ q. ⌜ Within 5000000000 q ⌝ }
+    ensures { λ q. ⌜ Still n (p -ℤ q *ℤ n) ⌝ }
 {
-    let mut sum = 0;
-    for i in 0..3 {
-        sum += a[i] * b[i];
+    let twice = 2 * p;
+    if n < twice {
+        return (twice + n - 1) / (2 * n);
     }
-    sum
+    if twice <= -n {
+        return (twice - n) / (2 * n);
+    }
+    0
 }
 
-// The sum of two lists of three numbers.
-fn added(x: [i64; 3], e: [i64; 3]) -> [i64; 3]
-    requires { ⌜ Bounded 960000000000000000 x ⌝ }
-    requires { ⌜ Bounded 4400000000 e ⌝ }
-    ensures { λ r. ⌜ r ≡ x ⊕ e ⌝ }
+// r loses q times a row.
+fn lose(r: &mut [i64; 4], q: i64, row: [i64; 4])
+    requires { ⌜ length (now r) ≡ 4 ⌝ }
+    requires { ⌜ ((i : ℕ) → natAbs (nth (now r) i) + natAbs (q *ℤ nth row i) ≤ room) ⌝ }
+    ensures { λ _. ⌜ now (r .exit) ≡ now (r .entry) ⊖ q ⊙ row ⌝ }
+    ensures { λ _. ⌜ length (now (r .exit)) ≡ 4 ⌝ }
 {
-    let mut r = [0; 3];
-    for i in 0..3 {
-        r[i] = x[i] + e[i];
+    for i in 0..4 {
+        r[i] -= q * row[i];
     }
-    r
 }
 
-// The inner products after the step e.
-fn moved(g: [[i64; 3]; 3], c: [i64; 3], e: [i64; 3]) -> [i64; 3]
-    requires { ⌜ Sized 4000000000 g c ⌝ }
-    requires { ⌜ Bounded 4400000000 e ⌝ }
-    ensures { λ r. ⌜ r ≡ moved g c e ⌝ }
+// q times vector i is taken away.
+fn take_multiple(g: &[[i64; 4]; 4], i: usize, q: i64, r: &mut [i64; 4], x: &mut [i64; 3])
+    requires { ⌜ i < 3 ⌝ }
+    requires { ⌜ length (now g) ≡ 4 ⌝ }
+    requires { ⌜ length (now r) ≡ 4 ⌝ }
+    requires { ⌜ length (now x) ≡ 3 ⌝ }
+    requires { ⌜ natAbs (nth (now x) i) + natAbs q ≤ room ⌝ }
+    requires { ⌜ ((j : ℕ) → natAbs (nth (now r) j) + natAbs (q *ℤ nth (getD (now g) i []) j) ≤ room) ⌝ }
+    ensures { λ _. ⌜ now (r .exit) ≡ now (r .entry) ⊖ q ⊙ getD (now (g .entry)) i [] ⌝ }
+    ensures { λ _. ⌜ length (now (r .exit)) ≡ 4 ⌝ }
+    ensures { λ _. ⌜ now (x .exit) ≡ set (now (x .entry)) i (nth (now (x .entry)) i +ℤ q) ⌝ }
 {
-    let mut r = [0; 3];
-    for i in 0..3 {
-        r[i] = c[i] - dot3(g[i], e);
-    }
-    r
+    x[i] += q;
+    lose(r, q, g[i]);
 }
 
-// What the step e changes the squared length by. h holds the inner products twice.
-fn gain(g: [[i64; 3]; 3], h: [i64; 3], e: [i64; 3]) -> i64
-    requires { ⌜ Sized 4000000000 g h ⌝ }
-    requires { ⌜ Bounded 1 e ⌝ }
-    ensures { λ r. ⌜ r ≡ gainOf g h e ⌝ }
+// The nearest multiple of vector i is taken away, if it is not 0.
+fn along(g: &[[i64; 4]; 4], i: usize, r: &mut [i64; 4], x: &mut [i64; 3]) -> bool
+    requires { ⌜ i < 3 ⌝ }
+    requires { ⌜ length (now g) ≡ 4 ⌝ }
+    requires { ⌜ length (now r) ≡ 4 ⌝ }
+    requires { ⌜ length (now x) ≡ 3 ⌝ }
+    requires { ⌜ Sized (now g) (now r) ⌝ }
+    requires { ⌜ pos 0 <ℤ nth (getD (now g) i []) i ⌝ }
+    requires { ⌜ Bounded 20000000000 (now x) ⌝ }
+    ensures { λ b. ⌜ Along i (now (g .entry)) (now (r .entry)) (now (x .entry)) (now (r .exit)) (now (x .exit)) b ⌝ }
 {
-    -dot3(e, moved(g, h, e))
-}
-
-// Is e below the list of zeros?
-fn negative(e: [i64; 3]) -> bool
-    ensures { λ r. ⌜ r ≡ negative e ⌝ }
-{
-    for i in 0..3 {
-        if e[i] < 0 {
-            return true;
-        }
-        if 0 < e[i] {
-            return false;
-        }
-    }
-    false
-}
-
-// Does the step e lead to a smaller value? It changes the squared length by v.
-fn improves(v: i64, e: [i64; 3]) -> bool
-    ensures { λ r. ⌜ r ≡ negative (v ∷ e) ⌝ }
-{
-    if v < 0 {
-        return true;
-    }
-    if 0 < v {
+    let row = g[i];
+    let q = multiple(row[i], r[i]);
+    if q == 0 {
         return false;
     }
-    negative(e)
+    take_multiple(g, i, q, r, x);
+    true
 }
 
-// The lists with entries −1, 0, 1, not all 0, each before its opposite: the first PAIRS[k] pairs are those of k vectors.
+fn either(a: bool, b: bool) -> bool
+    ensures { λ r. ⌜ r ≡ (a || b) ⌝ }
+{
+    if a {
+        return true;
+    }
+    b
+}
+
+// From the last vector on the nearest multiple of each is taken away. Whether any of them was not 0.
+fn sweep(g: &[[i64; 4]; 4], k: usize, r: &mut [i64; 4], x: &mut [i64; 3]) -> bool
+    requires { ⌜ k ≤ 3 ⌝ }
+    requires { ⌜ length (now g) ≡ 4 ⌝ }
+    requires { ⌜ length (now r) ≡ 4 ⌝ }
+    requires { ⌜ length (now x) ≡ 3 ⌝ }
+    requires { ⌜ Known k (now g) (now r) ⌝ }
+    requires { ⌜ Bounded 10000000 (now x) ⌝ }
+    ensures { λ b. ⌜ Swept k (now (g .entry)) (now (r .entry)) (now (x .entry)) (now (r .exit)) (now (x .exit)) b ⌝ }
+{
+    let mut moved = false;
+    let mut i = k;
+    while 0 < i {
+        i -= 1;
+        let more = along(g, i, r, x);
+        moved = either(more, moved);
+    }
+    moved
+}
+
+// The lists with entries −1, 0, 1, not all 0, each before its opposite: the first 1, 4 and 13 pairs are those of 1, 2 and 3 vectors.
 const LISTS: [[i64; 3]; 26] = [
     [1, 0, 0],
     [-1, 0, 0],
@@ -123,155 +153,194 @@ const LISTS: [[i64; 3]; 26] = [
     [-1, 1, 1],
 ];
 
-const PAIRS: [usize; 4] = [0, 1, 4, 13];
-
-// The coefficients to add, if there is a step to a smaller value.
-struct Step {
-    list: [i64; 3],
-    better: bool,
+// a·x + b·y + c·z for the first list of each pair.
+fn sums(a: i64, b: i64, c: i64) -> [i64; 13]
+    requires { ⌜ Within 4000000000 a ⌝ }
+    requires { ⌜ Within 4000000000 b ⌝ }
+    requires { ⌜ Within 4000000000 c ⌝ }
+    ensures { λ r. ⌜ r ≡ sumsOf a b c ⌝ }
+{
+    let s = a + b;
+    let t = a - b;
+    [
+        a,
+        b,
+        s,
+        t,
+        c,
+        a + c,
+        a - c,
+        b + c,
+        b - c,
+        s + c,
+        s - c,
+        t + c,
+        t - c,
+    ]
 }
 
-// The first list of the table that improves, where those of the first two pairs, of one vector each, do not. What the opposite of a list
-// changes is had from the list by one inner product more.
-fn walk(g: [[i64; 3]; 3], h: [i64; 3], k: usize) -> Step
-    requires { ⌜ k ≤ 3 ⌝ }
-    requires { ⌜ Sized 4000000000 g h ⌝ }
-    requires { ⌜ 2 ≤ k ⌝ }
-    requires { ⌜ None 4 g h ⌝ }
-    ensures { λ r. ⌜ Decided k g h r ⌝ }
+// a·x² + b·xy + c·xz + d·y² + e·yz + f·z² for the first list of each pair.
+fn squares(a: i64, b: i64, c: i64, d: i64, e: i64, f: i64) -> [i64; 13]
+    requires { ⌜ Within 400000000 a ⌝ }
+    requires { ⌜ Within 800000000 b ⌝ }
+    requires { ⌜ Within 800000000 c ⌝ }
+    requires { ⌜ Within 400000000 d ⌝ }
+    requires { ⌜ Within 800000000 e ⌝ }
+    requires { ⌜ Within 400000000 f ⌝ }
+    ensures { λ r. ⌜ r ≡ squaresOf a b c d e f ⌝ }
 {
-    let n = PAIRS[k];
-    // once before the loop: a constant is built wherever it is named
-    let lists = LISTS;
+    let ad = a + d;
+    let af = a + f;
+    let df = d + f;
+    let all = ad + f;
+    let p = all + b;
+    let q = all - b;
+    let s = c + e;
+    let t = c - e;
+    [
+        a,
+        d,
+        ad + b,
+        ad - b,
+        f,
+        af + c,
+        af - c,
+        df + e,
+        df - e,
+        p + s,
+        p - s,
+        q + t,
+        q - t,
+    ]
+}
+
+// The place of the first list that improves, by the squares q and the sums l of the first n pairs, 26 for none. Those of the first two pairs, of
+// one vector each, do not.
+fn walk(q: [i64; 13], l: [i64; 13], n: usize) -> usize
+    requires { ⌜ n ≤ 13 ⌝ }
+    requires { ⌜ 2 ≤ n ⌝ }
+    requires { ⌜ Bounded 20000000000 q ⌝ }
+    ensures { λ r. ⌜ Walked n q l r ⌝ }
+{
     for i in 2..n {
-        let e = lists[2 * i];
-        let v = gain(g, h, e);
-        if improves(v, e) {
-            return Step {
-                list: e,
-                better: true,
-            };
+        let a = q[i];
+        let b = l[i];
+        if a < b {
+            return 2 * i;
         }
-        let f = lists[2 * i + 1];
-        if improves(v + 2 * dot3(h, e), f) {
-            return Step {
-                list: f,
-                better: true,
-            };
+        if b <= -a {
+            return 2 * i + 1;
         }
     }
-    Step {
-        list: [0; 3],
-        better: false,
-    }
+    26
 }
 
-// The quotient p / n, rounded to the nearest whole number.
-fn rounded(p: i64, n: i64) -> i64
-    requires { ⌜ Within 2000000000 p ⌝ }
-    requires { ⌜ Within 400000000 n ⌝ }
-    requires { ⌜ pos 0 <ℤ n ⌝ }
-    ensures { λ r. ⌜ Within 4400000000 r ⌝ }
-{
-    let half = if p < 0 { -n } else { n };
-    (2 * p + half) / (2 * n)
-}
-
-// The rounded multiple of a vector, if taking it away leads to a smaller value, and else the one given, which does: n is the vector's
-// squared length, p its inner product with what is left.
-fn rounded_or(n: i64, p: i64, one: i64) -> i64
-    requires { ⌜ Within 400000000 n ⌝ }
-    requires { ⌜ pos 0 <ℤ n ⌝ }
-    requires { ⌜ Within 2000000000 p ⌝ }
-    requires { ⌜ Lowers n p one ⌝ }
-    requires { ⌜ Within 4400000000 one ⌝ }
-    ensures { λ r. ⌜ Lowers n p r ⌝ }
-    ensures { λ r. ⌜ Within 4400000000 r ⌝ }
-{
-    let q = rounded(p, n);
-    let d = q * n - 2 * p;
-    if q < 0 {
-        if 0 <= d {
-            return q;
-        }
-        return one;
-    }
-    if 0 < q {
-        if d < 0 {
-            return q;
-        }
-    }
-    one
-}
-
-// The multiple of a vector to take away; 0 if no multiple leads to a smaller value.
-fn multiple(n: i64, p: i64) -> i64
-    requires { ⌜ Within 400000000 n ⌝ }
-    requires { ⌜ pos 0 <ℤ n ⌝ }
-    requires { ⌜ Within 2000000000 p ⌝ }
-    ensures { λ r. ⌜ Multiple n p r ⌝ }
-{
-    let twice = 2 * p;
-    if n < twice {
-        return rounded_or(n, p, 1);
-    }
-    if twice <= -n {
-        return rounded_or(n, p, -1);
-    }
-    0
-}
-
-// A step along one vector, from the last on.
-fn along(g: [[i64; 3]; 3], c: [i64; 3], k: usize) -> Step
+// The place of the first list of the table that improves, 26 for none.
+fn place(g: &[[i64; 4]; 4], k: usize, r: &[i64; 4]) -> usize
     requires { ⌜ k ≤ 3 ⌝ }
-    requires { ⌜ Sized 2000000000 g c ⌝ }
-    requires { ⌜ ((i : ℕ) → i < k → pos 0 <ℤ nth (getD g i []) i) ⌝ }
-    ensures { λ r. ⌜ Found k g (c ⊕ c) r ⌝ }
-    ensures { λ r. ⌜ (r .better ≡ false → SettledAlong k g c) ⌝ }
+    requires { ⌜ 2 ≤ k ⌝ }
+    requires { ⌜ length (now g) ≡ 4 ⌝ }
+    requires { ⌜ length (now r) ≡ 4 ⌝ }
+    requires { ⌜ Known k (now g) (now r) ⌝ }
+    requires { ⌜ SettledAlong k (now g) (now r) ⌝ }
+    ensures { λ p. ⌜ Placed k (now (g .entry)) (now (r .entry)) p ⌝ }
 {
-    let mut i = k;
-    while 0 < i {
-        i -= 1;
-        let q = multiple(g[i][i], c[i]);
-        if q != 0 {
-            let mut e = [0; 3];
-            e[i] = q;
-            return Step {
-                list: e,
-                better: true,
-            };
-        }
+    let l = sums(2 * r[0], 2 * r[1], 2 * r[2]);
+    let u = g[0];
+    let v = g[1];
+    let w = g[2];
+    let q = squares(u[0], 2 * u[1], 2 * u[2], v[1], 2 * v[2], w[2]);
+    // a number of pairs that the compiler sees
+    if k == 2 {
+        return walk(q, l, 4);
     }
-    Step {
-        list: [0; 3],
-        better: false,
+    walk(q, l, 13)
+}
+
+// The combination e of the first three vectors is taken away.
+fn take_list(g: &[[i64; 4]; 4], e: [i64; 3], r: &mut [i64; 4], x: &mut [i64; 3])
+    requires { ⌜ length (now g) ≡ 4 ⌝ }
+    requires { ⌜ length (now r) ≡ 4 ⌝ }
+    requires { ⌜ length (now x) ≡ 3 ⌝ }
+    requires { ⌜ Sized (now g) (now r) ⌝ }
+    requires { ⌜ Bounded 20000000000 (now x) ⌝ }
+    requires { ⌜ Bounded 1 e ⌝ }
+    ensures { λ _. ⌜ now (x .exit) ≡ now (x .entry) ⊕ e ⌝ }
+    ensures { λ _. ⌜ now (r .exit) ≈ moved (now (g .entry)) (now (r .entry)) e ⌝ }
+    ensures { λ _. ⌜ length (now (r .exit)) ≡ 4 ⌝ }
+{
+    for j in 0..3 {
+        take_multiple(g, j, e[j], r, x);
     }
 }
 
-// A step to a smaller value, along one vector if that does it. For one vector that is all there is.
-fn next_step(g: [[i64; 3]; 3], c: [i64; 3], k: usize) -> Step
+// A step of the table, where no multiple of one vector is left to take. Whether there was one.
+fn step(g: &[[i64; 4]; 4], k: usize, r: &mut [i64; 4], x: &mut [i64; 3]) -> bool
     requires { ⌜ k ≤ 3 ⌝ }
-    requires { ⌜ Sized 2000000000 g c ⌝ }
-    requires { ⌜ ((i : ℕ) → i < k → pos 0 <ℤ nth (getD g i []) i) ⌝ }
-    ensures { λ r. ⌜ Decided k g (c ⊕ c) r ⌝ }
+    requires { ⌜ 2 ≤ k ⌝ }
+    requires { ⌜ length (now g) ≡ 4 ⌝ }
+    requires { ⌜ length (now r) ≡ 4 ⌝ }
+    requires { ⌜ length (now x) ≡ 3 ⌝ }
+    requires { ⌜ Known k (now g) (now r) ⌝ }
+    requires { ⌜ Bounded 20000000000 (now x) ⌝ }
+    requires { ⌜ SettledAlong k (now g) (now r) ⌝ }
+    ensures { λ b. ⌜ Stepped k (now (g .entry)) (now (r .entry)) (now (x .entry)) (now (r .exit)) (now (x .exit)) b ⌝ }
 {
-    let s = along(g, c, k);
-    if s.better {
-        return s;
+    let at = place(g, k, r);
+    if at == 26 {
+        return false;
     }
+    let lists = LISTS;
+    take_list(g, lists[at], r, x);
+    true
+}
+
+// A step to a smaller value, along one vector at a time if that does it. Whether there was one.
+fn improve(g: &[[i64; 4]; 4], k: usize, r: &mut [i64; 4], x: &mut [i64; 3]) -> bool
+    requires { ⌜ k ≤ 3 ⌝ }
+    requires { ⌜ 2 ≤ k ⌝ }
+    requires { ⌜ length (now g) ≡ 4 ⌝ }
+    requires { ⌜ length (now r) ≡ 4 ⌝ }
+    requires { ⌜ length (now x) ≡ 3 ⌝ }
+    requires { ⌜ Known k (now g) (now r) ⌝ }
+    requires { ⌜ Bounded 10000000 (now x) ⌝ }
+    ensures { λ b. ⌜ Stepped k (now (g .entry)) (now (r .entry)) (now (x .entry)) (now (r .exit)) (now (x .exit)) b ⌝ }
+{
+    if sweep(g, k, r, x) {
+        return true;
+    }
+    step(g, k, r, x)
+}
+
+// The vector nearest to a target in the lattice of the first k of four vectors, from numbers alone: g is the Gram matrix of the four, r holds
+// their inner products with the target. Afterwards x holds the coefficients, and r the inner products with what is left of the target.
+pub fn among(g: &[[i64; 4]; 4], k: usize, r: &mut [i64; 4], x: &mut [i64; 3])
+    requires { ⌜ k ≤ 3 ⌝ }
+    requires { ⌜ length (now g) ≡ 4 ⌝ }
+    requires { ⌜ length (now r) ≡ 4 ⌝ }
+    requires { ⌜ now x ≡ replicate 3 (pos 0) ⌝ }
+    requires { ⌜ Known k (now g) (now r) ⌝ }
+    ensures { λ _. ⌜ now (r .exit) ≡ now (r .entry) ⊖ comb (take k (now (x .exit))) (take k (now (g .entry))) ⌝ }
+    ensures { λ _. ⌜ ((F : ℤ) (vs : List Vec) (t : Vec) → Meant F k vs t (now (g .entry)) (now (r .entry)) → now (x .exit) ≡ padded 3 (nearest (take k vs) t)) ⌝ }
+{
     if k < 2 {
-        return s;
+        sweep(g, k, r, x);
+        return;
     }
-    walk(g, added(c, c), k)
+    loop {
+        if !improve(g, k, r, x) {
+            return;
+        }
+    }
 }
 
 // The inner products of the first k vectors with v, zeros behind, to where they are kept.
-fn products(b: &[[i64; 4]; 4], k: usize, v: [i64; 4], r: &mut [i64; 3])
-    requires { ⌜ k ≤ 3 ⌝ }
+fn products(b: &[[i64; 4]; 4], k: usize, v: [i64; 4], r: &mut [i64; 4])
+    requires { ⌜ k ≤ 4 ⌝ }
     requires { ⌜ ((i : ℕ) → i < k → Bounded 100000 (getD (now b) i [])) ⌝ }
     requires { ⌜ Bounded 100000 v ⌝ }
-    requires { ⌜ now r ≡ replicate 3 (pos 0) ⌝ }
-    ensures { λ _. ⌜ Products (take k (now (b .entry))) v (now (r .exit)) ⌝ }
+    requires { ⌜ now r ≡ replicate 4 (pos 0) ⌝ }
+    ensures { λ _. ⌜ ProductsOf (take k (now (b .entry))) v (now (r .exit)) ⌝ }
 {
     for i in 0..k {
         r[i] = row_operations::dot(b[i], v);
@@ -279,37 +348,28 @@ fn products(b: &[[i64; 4]; 4], k: usize, v: [i64; 4], r: &mut [i64; 3])
 }
 
 // The Gram matrix of the first k vectors, zeros behind.
-fn gram(b: &[[i64; 4]; 4], k: usize) -> [[i64; 3]; 3]
-    requires { ⌜ k ≤ 3 ⌝ }
+fn gram(b: &[[i64; 4]; 4], k: usize) -> [[i64; 4]; 4]
+    requires { ⌜ k ≤ 4 ⌝ }
     requires { ⌜ ((i : ℕ) → i < k → Bounded 100000 (getD (now b) i [])) ⌝ }
-    ensures { λ r. ⌜ Gram (take k (now (b .entry))) r ⌝ }
+    ensures { λ r. ⌜ GramOf (take k (now (b .entry))) r ⌝ }
 {
-    let mut g = [[0; 3]; 3];
+    let mut g = [[0; 4]; 4];
     for i in 0..k {
         products(b, k, b[i], &mut g[i]);
     }
     g
 }
 
-// The coefficients of the vector nearest to t in the lattice of the first k vectors: steps to a smaller value until there is none.
+// The coefficients of the vector nearest to t in the lattice of the first k vectors.
 pub fn search(b: &[[i64; 4]; 4], k: usize, t: [i64; 4]) -> [i64; 3]
     requires { ⌜ k ≤ 3 ⌝ }
     requires { ⌜ Searchable k (now b) t ⌝ }
     ensures { λ r. ⌜ r ≡ padded 3 (nearest (take k (now (b .entry))) t) ⌝ }
 {
     let g = gram(b, k);
-    let mut c = [0; 3];
-    products(b, k, t, &mut c);
+    let mut r = [0; 4];
+    products(b, k, t, &mut r);
     let mut x = [0; 3];
-    loop {
-        let s = next_step(g, c, k);
-        if !s.better {
-            break x;
-        }
-        let e = s.list;
-        let y = added(x, e);
-        let d = moved(g, c, e);
-        x = y;
-        c = d;
-    }
+    among(&g, k, &mut r, &mut x);
+    x
 }

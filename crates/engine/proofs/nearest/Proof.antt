@@ -13,7 +13,7 @@ use Rattle.lattices.specs.Refusal.{Input, firstOf, vectorChecks, targetChecks}
 use Rattle.greedy_reduction.specs.Accepted.{accepted, targeted}
 use Rattle.greedy_reduction.specs.Demand.{accepted-reduction, first-refused, first-passed}
 use Rattle.nearest_of_four.specs.Near.{Near, coordinates, left-bounded}
-use Rattle.engine.specs.Laws.Answer.{vectors-back}
+use Rattle.gram_matrix.specs.Work.{vectors-back}
 use Rattle.engine.specs.Laws.Named.{named, array, target, target-read, near, nearest-answer, refused-nearest-with, refusal-is}
 use Rattle.engine.proofs.nearest.Statement.{statement}
 use Rattle.engine.proofs.nearest.Tie as tie

@@ -1,126 +1,106 @@
--- `along` takes the first multiple of a vector that shortens, from the last vector on.
+-- `along` takes the nearest multiple of one vector away.
 use mathlib.Core.Path.{_≡_, sym, ap, _∙_}
-use mathlib.Core.Logic.{⊎-elim}
 use mathlib.Core.List.{[]}
-use Prim.Native.Nat.{ℕ, _≤_, _<_, _-_}
 use native.Mathlib.Omega.{arith}
-use borrow.Author.Needs.{needs}
-use lib.ListN.{getD}
-use lib.IntN.{pos}
+use native.Mathlib.Nat.{le-trans}
+use lib.IntN.{pos, _*ℤ_, _-ℤ_}
+use lib.ListN.{length, getD}
 use mir.Syntax.{w64}
 use mir.Val.{SFits, ofZ, toZ}
 use mir.Facts.{toZ-ofZ}
-use Rattle.lattices.specs.Vector.{nth, _⊕_}
-use Rattle.nearest_of_three.specs.Found.{found-not, no-such}
-use Rattle.nearest_of_three.specs.Multiples.{Multiple, Still, still-next, lowers-not, single-better}
+use denote.Ref.{now}
+use Rattle.integers.specs.Size.{Within, within-mul}
+use Rattle.lattices.specs.Vector.{nth}
+use Rattle.row_operations.specs.Minus.{nth-minus}
+use Rattle.nearest_of_three.specs.Multiples.{Still, along-none, along-some}
+use borrow.Author.Needs.{needs}
 use Rattle.nearest_of_three.proofs.along.Statement.{statement}
 use Rattle.nearest_of_three.proofs.along.Tie as tie
+use Rattle.nearest_of_three.proofs.multiple.Reads as multiple-reads
+use Rattle.nearest_of_three.proofs.take_multiple.Reads as take-multiple-reads
 
-abbrev Inv-loop : tie.InvT-loop
-Inv-loop k g c i₀ i = (i ≤ k) × ((j : ℕ) → i ≤ j → j < k → Still (nth (getD g j []) j) (nth c j))
+-- the square and the inner product that the call reads
+square : (c : tie.After-multiple-arg) → SFits w64 (nth (getD (now (c .before .before .args .g)) (c .before .before .args .i) []) (c .before .before .args .i))
+square c = record { sfits = c .multiple-arg .given }
 
-abbrev μ-loop : tie.MeasureT-loop
-μ-loop k g c i₀ i = i
+inner : (c : tie.After-multiple-arg2) → SFits w64 (nth (now (c .before .before .before .args .r)) (c .before .before .before .args .i))
+inner c = record { sfits = c .multiple-arg2 .given }
 
-loop-holds : tie.Need-loop-holds Inv-loop μ-loop
-loop-holds c = (search needs, λ j h l. absurd (omega arith))
+factor : (c : tie.After-multiple) → SFits w64 (c .multiple .result)
+factor c = record { sfits = c .multiple .ok }
 
-sub-i : tie.Need-sub-i Inv-loop μ-loop
-sub-i c = search needs
+-- the multiple that was found
+found : (c : tie.After-multiple) → let s = c .before .before .before .before in
+    let n = nth (getD (now (s .args .g)) (s .args .i) []) (s .args .i) in Within 5000000000 (c .multiple .result) × Still n (nth (now (s .args .r)) (s .args .i) -ℤ c .multiple .result *ℤ n)
+found c = simp (toZ-ofZ, square (c .before .before), inner (c .before)) at (c .multiple .ensures)
 
-mul-multiple : tie.Need-mul-multiple Inv-loop μ-loop
+mul-row : tie.Need-mul-row
+mul-row c = search needs
+
+element-copy-out-row : tie.Need-element-copy-out-row
+element-copy-out-row c = search needs
+
+mul-multiple : tie.Need-mul-multiple
 mul-multiple c = search needs
 
-mul-multiple-2 : tie.Need-mul-multiple-2 Inv-loop μ-loop
-mul-multiple-2 c = search needs
-
-index-1-multiple : tie.Need-index-1-multiple Inv-loop μ-loop
-index-1-multiple c = search needs
-
-index-2-multiple : tie.Need-index-2-multiple Inv-loop μ-loop
-index-2-multiple c = search needs
-
-mul-multiple-3 : tie.Need-mul-multiple-3 Inv-loop μ-loop
-mul-multiple-3 c = search needs
-
-array-copy-out-multiple : tie.Need-array-copy-out-multiple Inv-loop μ-loop
+array-copy-out-multiple : tie.Need-array-copy-out-multiple
 array-copy-out-multiple c = search needs
 
-multiple-requires : tie.Need-multiple-requires Inv-loop μ-loop
+mul-multiple-2 : tie.Need-mul-multiple-2
+mul-multiple-2 c = search needs
+
+element-copy-out-multiple : tie.Need-element-copy-out-multiple
+element-copy-out-multiple c = search needs
+
+multiple-requires : tie.Need-multiple-requires
 multiple-requires c κs =
-    let b = c .before .before .before in
-    let i = b .loop .i - 1 in
-    let f : SFits w64 (nth (getD (b .before .args .t1) i []) i) = record { sfits = c .before .multiple-arg .given } in
-    let h : SFits w64 (nth (b .before .args .t2) i) = record { sfits = c .multiple-arg2 .given } in
-    simp (toZ-ofZ, f, h) (b .before .pre .1 .0 .gram i i, (b .before .pre .1 .1 i (search needs), b .before .pre .1 .0 .products i))
+    let s = c .before .before .before in
+    let i = s .args .i in
+    simp (toZ-ofZ, square (c .before), inner c) (s .pre .1 .1 .1 .1 .0 .gram i i, (s .pre .1 .1 .1 .1 .1 .0, s .pre .1 .1 .1 .1 .0 .products i))
 
-mul-e : tie.Need-mul-e Inv-loop μ-loop
-mul-e c = search needs
-
-array-set-from-e : tie.Need-array-set-from-e Inv-loop μ-loop
-array-set-from-e c = search needs
-
--- what was found for vector i
-found : (c : tie.After-multiple Inv-loop μ-loop) →
-    let b = c .before .before .before .before in
-    let i = b .loop .i - 1 in Multiple (nth (getD (b .before .args .t1) i []) i) (nth (b .before .args .t2) i) (c .multiple .result)
-found c =
-    let b = c .before .before .before .before in
-    let i = b .loop .i - 1 in
-    let f : SFits w64 (nth (getD (b .before .args .t1) i []) i) = record { sfits = c .before .before .multiple-arg .given } in
-    let h : SFits w64 (nth (b .before .args .t2) i) = record { sfits = c .before .multiple-arg2 .given } in
-    simp (toZ-ofZ, f, h) at (c .multiple .ensures)
-
-returns : tie.Need-returns Inv-loop μ-loop
+returns : tie.Need-returns
 returns c =
-    let b = c .before .before .before .before .before in
-    let i = b .loop .i - 1 in
-    let m = found (c .before) in
-    let q : SFits w64 (c .before .multiple .result) = record { sfits = c .before .multiple .ok } in
-    simp (toZ-ofZ, q) (
-      record {
-        found = λ e. single-better (b .before .args .t1) (b .before .args .t2) i (search needs) (c .before .multiple .result) (b .before .args .k) (search needs) (m .bounded)
-            (⊎-elim (λ z. absurd (c .if1 .taken (ap (ofZ w64) (z .0)))) (λ l. l) (m .decided));
-      },
-      λ e. no-such e,
+    let m = c .before in
+    let s = m .before .before .before .before in
+    let z : m .multiple .result ≡ pos 0 = sym (toZ-ofZ (factor m)) ∙ ap (toZ w64) (c .if1 .taken) in
+    along-none (s .args .i) (s .pre .0) _ _ _ (s .pre .1 .1 .1 .0) (m .multiple .result) (found m .1) z
+
+take-multiple-requires : tie.Need-take-multiple-requires
+take-multiple-requires c κs =
+    let m = c .before .before .before in
+    let s = m .before .before .before .before in
+    let i = s .args .i in
+    let f = found m in
+    let sized = s .pre .1 .1 .1 .1 .0 in
+    simp (toZ-ofZ, factor m) (
+      s .pre .0,
+      (
+        s .pre .1 .0,
+        (s .pre .1 .1 .0, (s .pre .1 .1 .1 .0, (omega (arith, f .0 .within, s .pre .1 .1 .1 .1 .1 .1 i .within), λ j. omega (arith, within-mul (f .0) (sized .gram i j) .within, sized .products j .within)))),
+      ),
     )
 
-loop-less : tie.Need-loop-less Inv-loop μ-loop
-loop-less c = search needs
-
-loop-again : tie.Need-loop-again Inv-loop μ-loop
-loop-again c =
-    let b = c .before .before .before .before .before in
-    let i = b .loop .i - 1 in
-    let q : SFits w64 (c .before .multiple .result) = record { sfits = c .before .multiple .ok } in
-    let z : c .before .multiple .result ≡ pos 0 = sym (toZ-ofZ q) ∙ ap (toZ w64) (c .if1 .left) in
-    let s : Still (nth (getD (b .before .args .t1) i []) i) (nth (b .before .args .t2) i) =
-    ⊎-elim (λ h. h .1) (λ l. absurd (lowers-not (nth (getD (b .before .args .t1) i []) i) (nth (b .before .args .t2) i) (c .before .multiple .result) z l)) (found (c .before) .decided) in
-    (search needs, still-next (b .loop .i) (b .before .args .t1) (b .before .args .t2) (search needs) (b .loop .inv .1) s)
-
-returns-2 : tie.Need-returns-2 Inv-loop μ-loop
+returns-2 : tie.Need-returns-2
 returns-2 c =
-    let s = c .before .before .args in
-    (found-not (s .k) (s .t1) (s .t2 ⊕ s .t2) _, λ e. record { still = λ j l. c .before .loop .inv .1 j (omega arith) l })
+    let m = c .before .before .before .before in
+    let s = m .before .before .before .before in
+    let i = s .args .i in
+    let f = found m in
+    let t = simp (toZ-ofZ, factor m) at (c .take-multiple .ensures) in
+    rw (t .0, t .1 .1) (along-some i (s .pre .0) _ _ _ (s .pre .1 .1 .1 .0) (m .multiple .result) (f .1) (s .pre .1 .1 .1 .1 .1 .0) (λ z. c .before .before .before .if1 .left (ap (ofZ w64) z)) (f .0) (nth-minus _ _ _ _)
+    (sym (ap length (t .0)) ∙ t .1 .0 ∙ sym (s .pre .1 .1 .0)))
 
 pub along-spec : {M : Type 1} → statement M
 along-spec =
     tie.close
     (tie.spec
-    Inv-loop
-    μ-loop
-    loop-holds
-    sub-i
+    mul-row
+    element-copy-out-row
     mul-multiple
-    mul-multiple-2
-    index-1-multiple
-    index-2-multiple
-    mul-multiple-3
     array-copy-out-multiple
+    mul-multiple-2
+    element-copy-out-multiple
     multiple-requires
-    mul-e
-    array-set-from-e
     returns
-    loop-less
-    loop-again
+    take-multiple-requires
     returns-2)

@@ -8,18 +8,18 @@ use native.Mathlib.Omega.{arith}
 use lib.IntN.{pos}
 use lib.ListN.{getD, take, replicate}
 use Rattle.nearest_of_three.specs.Filled.{Filled, filled-none, filled-put}
-use Rattle.nearest_of_three.specs.Gram.{Products, gram-filled}
+use Rattle.nearest_of_three.specs.Formed.{ProductsOf, gram-filled}
 use Rattle.nearest_of_three.proofs.gram.Statement.{statement}
 use Rattle.nearest_of_three.proofs.gram.Tie as tie
 
 abbrev Inv-loop : tie.InvT-loop
-Inv-loop b k g₀ i₀ g i = (i ≤ k) × Filled [] (replicate 3 (pos 0)) (λ j r. Products (take k b) (getD b j []) r) 3 i g
+Inv-loop b k g₀ i₀ g i = (i ≤ k) × Filled [] (replicate 4 (pos 0)) (λ j r. ProductsOf (take k b) (getD b j []) r) 4 i g
 
 abbrev μ-loop : tie.MeasureT-loop
 μ-loop b k g₀ i₀ g i = k - i
 
 loop-holds : tie.Need-loop-holds Inv-loop μ-loop
-loop-holds c = (search needs, filled-none [] (replicate 3 (pos 0)) _ 3)
+loop-holds c = (search needs, filled-none [] (replicate 4 (pos 0)) _ 4)
 
 mul-products : tie.Need-mul-products Inv-loop μ-loop
 mul-products c = search needs

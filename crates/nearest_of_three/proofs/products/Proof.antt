@@ -12,12 +12,12 @@ use mir.Val.{SFits}
 use mir.Facts.{toZ-ofZ}
 use Rattle.lattices.specs.Vector.{dot}
 use Rattle.nearest_of_three.specs.Filled.{Filled, filled-none, filled-put}
-use Rattle.nearest_of_three.specs.Gram.{products-filled}
+use Rattle.nearest_of_three.specs.Formed.{products-filled}
 use Rattle.nearest_of_three.proofs.products.Statement.{statement}
 use Rattle.nearest_of_three.proofs.products.Tie as tie
 
 abbrev Inv-loop : tie.InvT-loop
-Inv-loop b k v r₀ i₀ r i = (i ≤ k) × Filled (pos 0) (pos 0) (λ j x. x ≡ dot (getD b j []) v) 3 i r
+Inv-loop b k v r₀ i₀ r i = (i ≤ k) × Filled (pos 0) (pos 0) (λ j x. x ≡ dot (getD b j []) v) 4 i r
 
 abbrev μ-loop : tie.MeasureT-loop
 μ-loop b k v r₀ i₀ r i = k - i
@@ -25,7 +25,7 @@ abbrev μ-loop : tie.MeasureT-loop
 loop-holds : tie.Need-loop-holds Inv-loop μ-loop
 loop-holds c =
     let P : ℕ → ℤ → Type 0 = λ j x. x ≡ dot (getD (now (c .args .b)) j []) (c .args .v) in
-    (search needs, subst (Filled (pos 0) (pos 0) P 3 0) (sym (c .pre .1 .1 .1)) (filled-none (pos 0) (pos 0) P 3))
+    (search needs, subst (Filled (pos 0) (pos 0) P 4 0) (sym (c .pre .1 .1 .1)) (filled-none (pos 0) (pos 0) P 4))
 
 mul-dot : tie.Need-mul-dot Inv-loop μ-loop
 mul-dot c = search needs

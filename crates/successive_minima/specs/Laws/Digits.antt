@@ -146,9 +146,9 @@ module _ (B : ℕ) where
       lead : (p s : ℤ) → x *ℤ p +ℤ s ≡ s
       lead p s = rw (k .0) (by-ring (p ∷ s ∷ []) (search reads) (search reads) tt)
 
-  negative : (x : ℤ) (l : List ℤ) → below (x ∷ l) (zeros (x ∷ l)) ≡ true → Bounded B l → number W (x ∷ l) <ℤ pos 0
+  pub number-negative : (x : ℤ) (l : List ℤ) → below (x ∷ l) (zeros (x ∷ l)) ≡ true → Bounded B l → number W (x ∷ l) <ℤ pos 0
   unfolding _⊙_
-  negative x l e h = ⊎-elim turned flat (positive-or-zeros (negsuc 0 *ℤ x) (negsuc 0 ⊙ l) (below-opposite (x ∷ l) e) opposite)
+  number-negative x l e h = ⊎-elim turned flat (positive-or-zeros (negsuc 0 *ℤ x) (negsuc 0 ⊙ l) (below-opposite (x ∷ l) e) opposite)
     where
       opposite : Bounded B (negsuc 0 ⊙ l)
       opposite i = subst (Within B) (sym (nth-⊙ (negsuc 0) l i ∙ negsuc-zero-*ℤ (nth l i))) (within-neg (h i))
@@ -168,7 +168,7 @@ module _ (B : ℕ) where
       → number W (N (r ⊖ comb e bs) ∷ (y ⊕ e)) <ℤ number W (N r ∷ y)
   falls r bs y e l h d = subst (λ s. s <ℤ number W (N r ∷ y))
       (sym (ap (number W) (residual-change r bs y e) ∙ number-⊕ W (N r ∷ y) (change r bs e) (ap suc l)))
-      (law (number W (N r ∷ y)) (number W (change r bs e)) (negative (gain r (comb e bs)) e d h))
+      (law (number W (N r ∷ y)) (number W (change r bs e)) (number-negative (gain r (comb e bs)) e d h))
     where
       law : (s t : ℤ) → t <ℤ pos 0 → (s +ℤ t) <ℤ s
       law s t k = by-lt (s ∷ t ∷ []) (lt k) (search reads) (search reads) tt

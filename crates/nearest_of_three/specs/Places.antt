@@ -1,0 +1,88 @@
+-- The place of the first list of the table that improves, as the walk finds it by squares and sums.
+use mathlib.Core.Path.{_≡_, refl, sym, ap, _∙_, subst}
+use mathlib.Core.Logic.{_⊎_, inl, inr, ⊎-elim}
+use mathlib.Core.Bool.{true, false}
+use mathlib.Core.List.{List, []}
+use Prim.Native.Nat.{ℕ, zero, suc, _+_, _*_, _≤_, _<_}
+use native.Mathlib.Omega.{arith}
+use native.Mathlib.Decide.{decLt}
+use lib.IntN.{ℤ, negℤ}
+use lib.ListN.{getD}
+use lib.Signed.{_≤ℤ_, _<ℤ_}
+use Rattle.lattices.specs.Vector.{nth}
+use Rattle.nearest_of_three.specs.Meant.{Known}
+use Rattle.nearest_of_three.specs.Numbers.{improvesOf}
+use Rattle.nearest_of_three.specs.Link.{mirrored}
+use Rattle.nearest_of_three.specs.Steps.{steps, pairs, pairs-≤, count}
+use Rattle.nearest_of_three.specs.State.{None}
+use Rattle.nearest_of_three.specs.Multiples.{SettledAlong, singles-none, fewer-settled}
+use Rattle.nearest_of_three.specs.Pairs.{squaresIn, sumsIn, first-improves, first-not, opposite-improves, opposite-not}
+
+-- the square q and the sum l show the list of a pair, or its opposite
+abbrev pub First : ℤ → ℤ → Type 0
+First q l = q <ℤ l
+
+abbrev pub Opposite : ℤ → ℤ → Type 0
+Opposite q l = l ≤ℤ negℤ q
+
+abbrev pub Neither : ℤ → ℤ → Type 0
+Neither q l = (l ≤ℤ q) × (negℤ q <ℤ l)
+
+-- p is the place of a list among the first n pairs that is shown, or 26 where none from the third pair on is
+pub record Walked (n : ℕ) (q l : List ℤ) (p : ℕ) : Type 0 where
+  pub most : p ≤ 26
+  pub hit : p < 26 → (i : ℕ) × ((i < n) × (((p ≡ 2 * i) × First (nth q i) (nth l i)) ⊎ ((p ≡ 2 * i + 1) × Opposite (nth q i) (nth l i))))
+  pub miss : 26 ≤ p → (i : ℕ) → 2 ≤ i → i < n → Neither (nth q i) (nth l i)
+
+pub walked-first : (n : ℕ) (q l : List ℤ) (i : ℕ) → n ≤ 13 → i < n → First (nth q i) (nth l i) → Walked n q l (2 * i)
+walked-first n q l i m h f = record { most = omega arith; hit = λ s. (i, (h, inl (refl, f))); miss = λ s. absurd (omega arith) }
+
+pub walked-opposite : (n : ℕ) (q l : List ℤ) (i : ℕ) → n ≤ 13 → i < n → Opposite (nth q i) (nth l i) → Walked n q l (2 * i + 1)
+walked-opposite n q l i m h f = record { most = omega arith; hit = λ s. (i, (h, inr (refl, f))); miss = λ s. absurd (omega arith) }
+
+pub walked-none : (n : ℕ) (q l : List ℤ) → ((i : ℕ) → 2 ≤ i → i < n → Neither (nth q i) (nth l i)) → Walked n q l 26
+walked-none n q l f = record { most = omega arith; hit = λ s. absurd (omega arith); miss = λ s. f }
+
+-- one pair more
+pub neither-next : (n : ℕ) (q l : List ℤ) → ((i : ℕ) → 2 ≤ i → i < n → Neither (nth q i) (nth l i)) → Neither (nth q n) (nth l n) → (i : ℕ) → 2 ≤ i → i < n + 1 → Neither (nth q i) (nth l i)
+neither-next n q l f s i h m = pick (decLt i n)
+  where
+    pick : Dec (i < n) → Neither (nth q i) (nth l i)
+    pick (yes o) = f i h o
+    pick (no o) = let e : n ≡ i = omega (arith, o) in subst (λ j. Neither (nth q j) (nth l j)) e s
+
+-- ---- the same of the lists
+
+-- none of the pairs from the third on, and none before
+none-pairs : (n : ℕ) (g : List (List ℤ)) (r : List ℤ) → None 4 g r
+    → ((i : ℕ) → 2 ≤ i → i < n → (improvesOf g r (getD steps (2 * i) []) ≡ false) × (improvesOf g r (getD steps (2 * i + 1) []) ≡ false)) → None (2 * n) g r
+none-pairs zero g r s f j h = absurd (omega arith)
+none-pairs (suc n) g r s f j h = pick (none-pairs n g r s (λ i l m. f i l (omega arith)) j) (decLt j 4) (decLt j (2 * n)) (decLt j (2 * n + 1))
+  where
+    pick : (j < 2 * n → improvesOf g r (getD steps j []) ≡ false) → Dec (j < 4) → Dec (j < 2 * n) → Dec (j < 2 * n + 1) → improvesOf g r (getD steps j []) ≡ false
+    pick t (yes a) b c = s j a
+    pick t (no a) (yes b) c = t b
+    pick t (no a) (no b) (yes c) = let e : 2 * n ≡ j = omega (arith, b) in subst (λ i. improvesOf g r (getD steps i []) ≡ false) e (f n (omega (arith, a)) (omega arith) .0)
+    pick t (no a) (no b) (no c) = let e : 2 * n + 1 ≡ j = omega (arith, c) in subst (λ i. improvesOf g r (getD steps i []) ≡ false) e (f n (omega (arith, a)) (omega arith) .1)
+
+pub record Placed (k : ℕ) (g : List (List ℤ)) (r : List ℤ) (p : ℕ) : Type 0 where
+  pub most : p ≤ 26
+  pub hit : p < 26 → (p < count k) × (improvesOf g r (getD steps p []) ≡ true)
+  pub miss : 26 ≤ p → None (count k) g r
+
+module _ (k : ℕ) (few : k ≤ 3) (more : 2 ≤ k) (g : List (List ℤ)) (r : List ℤ) (w : Known k g r) (s : SettledAlong k g r) where
+  mirror : (i j : ℕ) → nth (getD g i []) j ≡ nth (getD g j []) i
+  mirror = mirrored (w .factor) (w .vectors) g (w .meant .gram) (w .meant .positive)
+
+  pub placed : (p : ℕ) → Walked (pairs k) (squaresIn g) (sumsIn r) p → Placed k g r p
+  placed p h = record {
+    most = h .most;
+    hit = λ l. found (h .hit l .0) (h .hit l .1 .0) (h .hit l .1 .1);
+    miss = λ l. none-pairs (pairs k) g r (singles-none 2 (omega arith) g r (fewer-settled 2 more s))
+        (λ i a b. let n = h .miss l i a b in let m : i < 13 = omega (arith, pairs-≤ k few) in (first-not g r mirror i m (n .0), opposite-not g r mirror i m (n .1)));
+  }
+    where
+      found : (i : ℕ) → i < pairs k → ((p ≡ 2 * i) × First (nth (squaresIn g) i) (nth (sumsIn r) i)) ⊎ ((p ≡ 2 * i + 1) × Opposite (nth (squaresIn g) i) (nth (sumsIn r) i))
+          → (p < count k) × (improvesOf g r (getD steps p []) ≡ true)
+      found i l (inl e) = (omega (arith, e .0), subst (λ j. improvesOf g r (getD steps j []) ≡ true) (sym (e .0)) (first-improves g r mirror i (omega (arith, pairs-≤ k few)) (e .1)))
+      found i l (inr e) = (omega (arith, e .0), subst (λ j. improvesOf g r (getD steps j []) ≡ true) (sym (e .0)) (opposite-improves g r mirror i (omega (arith, pairs-≤ k few)) (e .1)))
