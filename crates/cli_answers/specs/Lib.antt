@@ -1,3 +1,4 @@
 -- The text of each answer.
 pub mod Answers
 pub mod Cases
+pub mod Room

@@ -3,8 +3,12 @@
 // contract in the catalogue.
 ghost use mathlib.Core.Path.{_≡_};
 ghost use Rattle.cli_catalogues.specs.Asked.{askedNumber};
+use catalogue_records::Catalogue;
 
 mod mistakes;
+
+// Room for a word more than a catalogue can have, so that too many words are seen.
+const MOST_TOLD: usize = Catalogue::MOST_BYTES + 4;
 
 // Says the refusal of a catalogue.
 fn refused(number: u64, place: usize) {
@@ -20,13 +24,13 @@ fn write_first(bytes: &[u8], n: usize) {
 
 // Writes the folded catalogue.
 pub fn fold(fd: i32) {
-    let mut bytes = [0u8; 18443];
+    let mut bytes = [0u8; cli_input::MOST_KEPT];
     let f = cli_input::read_catalogue(fd, &mut bytes);
     if !f.is_open {
         return;
     }
     let n = f.end;
-    let mut out = [0u8; 18436];
+    let mut out = [0u8; Catalogue::MOST_BYTES];
     let w = catalogue::fold(&bytes[..n], &mut out);
     if w.refusal != 0 {
         refused(w.refusal, w.place);
@@ -48,7 +52,7 @@ fn asked(n: i64) -> u32
 
 // Writes the standing number of the entry with this number.
 fn look_up(fd: i32, number: u32) {
-    let mut bytes = [0u8; 18443];
+    let mut bytes = [0u8; cli_input::MOST_KEPT];
     let r = cli_input::read_catalogue(fd, &mut bytes);
     if !r.is_open {
         return;
@@ -82,13 +86,13 @@ pub fn lookup(fd: i32, word: &[u8]) {
 
 // Writes the listing.
 pub fn list(fd: i32) {
-    let mut bytes = [0u8; 18443];
+    let mut bytes = [0u8; cli_input::MOST_KEPT];
     let f = cli_input::read_catalogue(fd, &mut bytes);
     if !f.is_open {
         return;
     }
     let n = f.end;
-    let mut text = [0u8; 40000];
+    let mut text = [0u8; catalogue_listing::MOST_BYTES];
     let w = catalogue_listing::list(&bytes[..n], &mut text);
     if w.refusal != 0 {
         let end = cli_answers::put_refused(&mut text, 0, w.refusal, w.place as u64);
@@ -101,7 +105,7 @@ pub fn list(fd: i32) {
 
 // Writes the entries of a catalogue as text, a line each.
 pub fn decode(fd: i32) {
-    let mut bytes = [0u8; 18443];
+    let mut bytes = [0u8; cli_input::MOST_KEPT];
     let f = cli_input::read_catalogue(fd, &mut bytes);
     if !f.is_open {
         return;
@@ -112,7 +116,7 @@ pub fn decode(fd: i32) {
         refused(c.refusal, c.place);
         return;
     }
-    let mut text = [0u8; 40000];
+    let mut text = [0u8; catalogue_listing::MOST_BYTES];
     let length = text_decoding::put_entries(c, &mut text);
     write_first(&text, length);
 }
@@ -142,7 +146,7 @@ pub fn encode(fd: i32) {
         );
         return;
     }
-    let mut out = [0u8; 18440];
+    let mut out = [0u8; MOST_TOLD];
     let e = text_encoding::tell(&text[..n], &mut out);
     if e.wrong {
         mistakes::report_all(&text[..n]);

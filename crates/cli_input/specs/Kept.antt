@@ -9,39 +9,44 @@ use lib.Dec.{ltb}
 use lib.ListN.{length, take}
 use lib.Seq.{take-all, length-take-le}
 use borrow.Author.Tests.{lt-ltb, le-ltb}
+use Rattle.catalogue_rules.specs.Catalogue.{mostBytes}
 use Rattle.catalogue_rules.specs.Read.{read}
 use Rattle.catalogue_rules.specs.Laws.TooLong.{long-alike}
 
+-- a buffer for the largest catalogue and so much more that any length modulo 4 can be kept over the limit
+abbrev pub mostKept : ℕ
+mostKept = mostBytes + 7
+
 -- of so many bytes, and so many more behind them: all that came, or over the limit so many that they are as many modulo 4
 abbrev pub keptLength : (got more : ℕ) → ℕ
-keptLength got more = cond (ltb got 18443) got (18440 + (got + more) % 4)
+keptLength got more = cond (ltb got mostKept) got (mostBytes + 4 + (got + more) % 4)
 
-pub kept-short : (got more : ℕ) → got < 18443 → got ≡ keptLength got more
-kept-short got more h = sym (ap (λ b. cond b got (18440 + (got + more) % 4)) (lt-ltb _ _ h))
+pub kept-short : (got more : ℕ) → got < mostKept → got ≡ keptLength got more
+kept-short got more h = sym (ap (λ b. cond b got (mostBytes + 4 + (got + more) % 4)) (lt-ltb _ _ h))
 
-pub kept-long : (got more : ℕ) → 18443 ≤ got → 18440 + (got + more) % 4 ≡ keptLength got more
-kept-long got more h = sym (ap (λ b. cond b got (18440 + (got + more) % 4)) (le-ltb _ _ h))
+pub kept-long : (got more : ℕ) → mostKept ≤ got → mostBytes + 4 + (got + more) % 4 ≡ keptLength got more
+kept-long got more h = sym (ap (λ b. cond b got (mostBytes + 4 + (got + more) % 4)) (le-ltb _ _ h))
 
-pub kept-small : (got more : ℕ) → got ≤ 18443 → keptLength got more ≤ 18443
-kept-small got more h = go (decLt got 18443)
+pub kept-small : (got more : ℕ) → got ≤ mostKept → keptLength got more ≤ mostKept
+kept-small got more h = go (decLt got mostKept)
   where
-    go : Dec (got < 18443) → keptLength got more ≤ 18443
+    go : Dec (got < mostKept) → keptLength got more ≤ mostKept
     go (yes p) = omega (arith, kept-short got more p)
     go (no p) = omega (arith, kept-long got more (omega arith))
 
-over : (k : ℕ) → k < 4 → (18440 + k) % 4 ≡ k
+over : (k : ℕ) → k < 4 → (mostBytes + 4 + k) % 4 ≡ k
 over k q = omega arith
 
 -- the first bytes of a file, got of which came into the buffer: all of them, or the buffer is full and more came behind them
-pub kept-refused : (file : List ℕ) (got more : ℕ) → got ≤ 18443 → length file % 4 ≡ (got + more) % 4 → (got < 18443 → length file ≡ got) → (got ≡ 18443 → 18443 ≤ length file)
+pub kept-refused : (file : List ℕ) (got more : ℕ) → got ≤ mostKept → length file % 4 ≡ (got + more) % 4 → (got < mostKept → length file ≡ got) → (got ≡ mostKept → mostKept ≤ length file)
     → read (take (keptLength got more) file) ≡ read file
-kept-refused file got more h e all long = go (decLt got 18443)
+kept-refused file got more h e all long = go (decLt got mostKept)
   where
-    go : Dec (got < 18443) → read (take (keptLength got more) file) ≡ read file
+    go : Dec (got < mostKept) → read (take (keptLength got more) file) ≡ read file
     go (yes p) = ap (λ n. read (take n file)) (sym (kept-short got more p)) ∙ ap read (take-all got file (omega (arith, all p)))
     go (no p) =
-        let full : got ≡ 18443 = omega (arith, h) in
-        let n = 18440 + (got + more) % 4 in
+        let full : got ≡ mostKept = omega (arith, h) in
+        let n = mostBytes + 4 + (got + more) % 4 in
         let some : length (take n file) ≡ n = length-take-le n file (omega (arith, long full)) in
         ap (λ n. read (take n file)) (sym (kept-long got more (omega arith)))
         ∙ long-alike (take n file) file (omega (arith, some)) (omega (arith, long full)) (ap (λ k. k % 4) some ∙ over ((got + more) % 4) (omega arith) ∙ sym e)

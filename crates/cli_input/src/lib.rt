@@ -3,7 +3,14 @@ ghost use mathlib.Core.Path.{_≡_};
 ghost use Prim.Native.Nat.{_+_, _%_, _≤_, _<_};
 ghost use lib.ListN.{length};
 ghost use Rattle.io.specs.Counts.{Counts};
-ghost use Rattle.cli_input.specs.Kept.{keptLength};
+ghost use Rattle.cli_input.specs.Kept.{mostKept, keptLength};
+use catalogue_records::Catalogue;
+
+// Room for the largest catalogue, and so much more that any length modulo 4 can be kept over the limit.
+pub const MOST_KEPT: usize = Catalogue::MOST_BYTES + 7;
+
+// The least multiple of 4 over the limit.
+const OVER: usize = Catalogue::MOST_BYTES + 4;
 
 // How many bytes have come, and whether every read went through.
 pub struct Filled {
@@ -94,25 +101,25 @@ fn read_rest(fd: i32) -> Rest
 
 // How many bytes stand for an input of which so many came into the buffer, and behind them so many more.
 fn kept_length(got: usize, more: usize) -> usize
-    requires { ⌜ (got ≤ 18443) × (more < 4) ⌝ }
+    requires { ⌜ (got ≤ mostKept) × (more < 4) ⌝ }
     ensures { λ r. ⌜ r ≡ keptLength got more ⌝ }
 {
-    if got < 18443 {
+    if got < MOST_KEPT {
         return got;
     }
-    18440 + (got + more) % 4
+    OVER + (got + more) % 4
 }
 
-// Reads a catalogue. Of more than 18,442 bytes, which are too many, it keeps so many that the refusal is that of the whole input
+// Reads a catalogue. Of so many bytes that the buffer is full, which are too many, it keeps so many that the refusal is that of the whole input
 // (`kept-refused` of specs/Kept.antt).
-pub fn read_catalogue(fd: i32, bytes: &mut [u8; 18443]) -> Filled
+pub fn read_catalogue(fd: i32, bytes: &mut [u8; MOST_KEPT]) -> Filled
     ensures { λ r. ⌜ Counts (r .end) (now (bytes .exit)) ⌝ }
 {
     let f = read_all(fd, bytes);
     if !f.is_open {
         return f;
     }
-    if f.end < 18443 {
+    if f.end < MOST_KEPT {
         return f;
     }
     let more = read_rest(fd);

@@ -1,4 +1,4 @@
--- A number of 64 bits takes at most 20 bytes, and rows of four are whole from 4 on.
+-- A number of 64 bits takes at most 20 bytes, and a list is whole from its length on.
 use mathlib.Core.Path.{_≡_, refl, sym, ap, _∙_}
 use mathlib.Core.List.{List}
 use Prim.Native.Nat.{ℕ, suc, _+_, _^_, _≤_, _<_, min}
@@ -19,9 +19,9 @@ pub signed-small : (z : ℤ) → SFits w64 z → length (signed z) ≤ 20
 signed-small (pos n) f = decimal-small n (omega (arith, f .sfits))
 signed-small (negsuc n) f = omega (arith, decimal-length 19 (suc n) (omega arith) (omega (arith, f .sfits)))
 
-pub take-four : {A : Type 0} (n : ℕ) (l : List A) → length l ≡ 4 → take (min n 4) l ≡ take n l
-take-four n l h = go (decLt n 4)
+pub take-lesser : {A : Type 0} (n m : ℕ) (l : List A) → length l ≡ m → take (min n m) l ≡ take n l
+take-lesser n m l h = go (decLt n m)
   where
-    go : Dec (n < 4) → take (min n 4) l ≡ take n l
-    go (yes p) = let e : min n 4 ≡ n = omega arith in ap (λ k. take k l) e
-    go (no p) = let e : min n 4 ≡ 4 = omega arith in ap (λ k. take k l) e ∙ take-all 4 l (omega arith) ∙ sym (take-all n l (omega arith))
+    go : Dec (n < m) → take (min n m) l ≡ take n l
+    go (yes p) = let e : min n m ≡ n = omega arith in ap (λ k. take k l) e
+    go (no p) = let e : min n m ≡ m = omega arith in ap (λ k. take k l) e ∙ take-all m l (omega arith) ∙ sym (take-all n l (omega arith))

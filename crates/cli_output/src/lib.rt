@@ -8,7 +8,9 @@ ghost use Rattle.text_layout.specs.Fields.{after};
 ghost use Rattle.text_output.specs.Puts.{Puts};
 ghost use Rattle.text_output.specs.Joined.{joined};
 ghost use Rattle.text_fields.specs.Blank.{blank};
+ghost use Rattle.lattices.specs.Refusal.{mostCoordinates};
 ghost use Rattle.cli_output.specs.Rows.{rowLine};
+ghost use Rattle.cli_output.specs.Room.{numberRoom, fieldRoom, rowRoom, lineRoom, linesRoom};
 use libc::STDOUT_FILENO;
 
 // Writes all bytes. A write that fails is said on standard error, and false is the answer: the caller leaves then.
@@ -42,75 +44,117 @@ pub fn newline() -> bool {
     write(b"\n")
 }
 
-// n, or 4 where it is more.
-fn at_most_four(n: usize) -> usize
-    ensures { λ r. ⌜ r ≡ min n 4 ⌝ }
+// The lesser of two.
+fn lesser(a: usize, b: usize) -> usize
+    ensures { λ r. ⌜ r ≡ min a b ⌝ }
 {
-    if n < 4 {
-        return n;
+    if a < b {
+        return a;
     }
-    4
+    b
 }
 
 // A number in decimal.
 pub fn put_number(out: &mut [u8], at: usize, n: u64) -> usize
-    requires { ⌜ at + 20 ≤ length (now out) ⌝ }
+    requires { ⌜ at + numberRoom ≤ length (now out) ⌝ }
     ensures { λ r. ⌜ Puts (decimal n) (now (out .entry)) at (now (out .exit)) r ⌝ }
-    ensures { λ r. ⌜ r ≤ at + 20 ⌝ }
+    ensures { λ r. ⌜ r ≤ at + numberRoom ⌝ }
 {
     text_output::put_decimal(out, at, n)
 }
 
 // A blank and a number.
 pub fn put_field(out: &mut [u8], at: usize, z: i64) -> usize
-    requires { ⌜ at + 21 ≤ length (now out) ⌝ }
+    requires { ⌜ at + fieldRoom ≤ length (now out) ⌝ }
     ensures { λ r. ⌜ Puts (blank signed z) (now (out .entry)) at (now (out .exit)) r ⌝ }
-    ensures { λ r. ⌜ r ≤ at + 21 ⌝ }
+    ensures { λ r. ⌜ r ≤ at + fieldRoom ⌝ }
 {
     let k = text_output::put_byte(out, at, b' ');
     text_output::put_signed(out, k, z)
 }
 
 // The first n numbers of a row, each behind a blank, and the end of the line.
-pub fn put_row(out: &mut [u8], at: usize, row: [i64; 4], n: usize) -> usize
-    requires { ⌜ at + 85 ≤ length (now out) ⌝ }
-    ensures { λ r. ⌜ Puts (after (map signed (take n row))) (now (out .entry)) at (now (out .exit)) r ⌝ }
-    ensures { λ r. ⌜ r ≤ at + 85 ⌝ }
+fn put_row(out: &mut [u8], at: usize, row: &[i64], n: usize) -> usize
+    requires { ⌜ length (now row) ≤ mostCoordinates ⌝ }
+    requires { ⌜ at + rowRoom ≤ length (now out) ⌝ }
+    ensures { λ r. ⌜ Puts (after (map signed (take n (now (row .entry))))) (now (out .entry)) at (now (out .exit)) r ⌝ }
+    ensures { λ r. ⌜ r ≤ at + rowRoom ⌝ }
 {
     let mut k = at;
-    for i in 0..at_most_four(n) {
+    for i in 0..lesser(n, row.len()) {
         k = put_field(out, k, row[i]);
     }
     text_output::put_byte(out, k, b'\n')
 }
 
+// The same of a number for each vector.
+pub fn put_numbers(out: &mut [u8], at: usize, row: [i64; 4], n: usize) -> usize
+    requires { ⌜ at + rowRoom ≤ length (now out) ⌝ }
+    ensures { λ r. ⌜ Puts (after (map signed (take n row))) (now (out .entry)) at (now (out .exit)) r ⌝ }
+    ensures { λ r. ⌜ r ≤ at + rowRoom ⌝ }
+{
+    put_row(out, at, &row, n)
+}
+
 // A line: its letter and the first n numbers of a row.
-pub fn put_line(out: &mut [u8], at: usize, letter: u8, row: [i64; 4], n: usize) -> usize
-    requires { ⌜ at + 86 ≤ length (now out) ⌝ }
-    ensures { λ r. ⌜ Puts (rowLine letter n row) (now (out .entry)) at (now (out .exit)) r ⌝ }
-    ensures { λ r. ⌜ r ≤ at + 86 ⌝ }
+fn put_line(out: &mut [u8], at: usize, letter: u8, row: &[i64], n: usize) -> usize
+    requires { ⌜ length (now row) ≤ mostCoordinates ⌝ }
+    requires { ⌜ at + lineRoom ≤ length (now out) ⌝ }
+    ensures { λ r. ⌜ Puts (rowLine letter n (now (row .entry))) (now (out .entry)) at (now (out .exit)) r ⌝ }
+    ensures { λ r. ⌜ r ≤ at + lineRoom ⌝ }
 {
     let k = text_output::put_byte(out, at, letter);
     put_row(out, k, row, n)
 }
 
-// A line for each of the first d rows, of n numbers each.
-pub fn put_lines(
+// A vector's line.
+pub fn put_vector(out: &mut [u8], at: usize, v: row_operations::Vector, m: usize) -> usize
+    requires { ⌜ at + lineRoom ≤ length (now out) ⌝ }
+    ensures { λ r. ⌜ Puts (rowLine 118 m v) (now (out .entry)) at (now (out .exit)) r ⌝ }
+    ensures { λ r. ⌜ r ≤ at + lineRoom ⌝ }
+{
+    put_line(out, at, b'v', &v, m)
+}
+
+// The line of a table's row, or of a list of coefficients.
+pub fn put_table_row(out: &mut [u8], at: usize, letter: u8, row: [i64; 4], n: usize) -> usize
+    requires { ⌜ at + lineRoom ≤ length (now out) ⌝ }
+    ensures { λ r. ⌜ Puts (rowLine letter n row) (now (out .entry)) at (now (out .exit)) r ⌝ }
+    ensures { λ r. ⌜ r ≤ at + lineRoom ⌝ }
+{
+    put_line(out, at, letter, &row, n)
+}
+
+// A line for each of the first d vectors, of m coordinates each.
+pub fn put_vectors(
     out: &mut [u8],
     at: usize,
-    letter: u8,
-    rows: [[i64; 4]; 4],
+    rows: row_operations::Basis,
     d: usize,
-    n: usize,
+    m: usize,
 ) -> usize
-    requires { ⌜ at + 344 ≤ length (now out) ⌝ }
-    ensures { λ r. ⌜ Puts (joined (rowLine letter n) (take d rows)) (now (out .entry)) at (now (out .exit)) r ⌝ }
-    ensures { λ r. ⌜ r ≤ at + 344 ⌝ }
+    requires { ⌜ at + linesRoom ≤ length (now out) ⌝ }
+    ensures { λ r. ⌜ Puts (joined (rowLine 118 m) (take d rows)) (now (out .entry)) at (now (out .exit)) r ⌝ }
+    ensures { λ r. ⌜ r ≤ at + linesRoom ⌝ }
 {
     let mut k = at;
-    for i in 0..at_most_four(d) {
+    for i in 0..lesser(d, 4) {
         let row = rows[i];
-        k = put_line(out, k, letter, row, n);
+        k = put_vector(out, k, row, m);
+    }
+    k
+}
+
+// A line for each of the first d rows of a table, of d numbers each.
+pub fn put_table(out: &mut [u8], at: usize, letter: u8, rows: [[i64; 4]; 4], d: usize) -> usize
+    requires { ⌜ at + linesRoom ≤ length (now out) ⌝ }
+    ensures { λ r. ⌜ Puts (joined (rowLine letter d) (take d rows)) (now (out .entry)) at (now (out .exit)) r ⌝ }
+    ensures { λ r. ⌜ r ≤ at + linesRoom ⌝ }
+{
+    let mut k = at;
+    for i in 0..lesser(d, 4) {
+        let row = rows[i];
+        k = put_table_row(out, k, letter, row, d);
     }
     k
 }

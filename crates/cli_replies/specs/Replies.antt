@@ -48,9 +48,12 @@ mistakeText line stop = errorText line (whatIsWrong stop)
 abbrev pub reducedOf : (d m : ℕ) → List ℤ → List ℕ
 reducedOf d m numbers = reductionText d m (packed (reductionOf (record { numbers = numbers; d = d; m = m; target = [] })))
 
--- no line has more than 2048 numbers
+-- no part of a line has more numbers: a number and a blank take two of its 4096 bytes
+abbrev pub mostListed : ℕ
+mostListed = 2048
+
 abbrev pub reduceWith : (line d m : ℕ) → List ℕ → List ℕ
-reduceWith line d m s = let p = takenAt 2048 s in cond (isEnd (p .stop)) (reducedOf d m (p .numbers)) (mistakeText line (p .stop))
+reduceWith line d m s = let p = takenAt mostListed s in cond (isEnd (p .stop)) (reducedOf d m (p .numbers)) (mistakeText line (p .stop))
 
 abbrev pub reduceReply : ℕ → List ℕ → List ℕ
 reduceReply line s = let c = countsAt s in cond (isSemicolon (c .stop)) (reduceWith line (c .d) (c .m) (drop (c .length) s)) (mistakeText line (c .stop))
@@ -76,11 +79,11 @@ wantedOf VectorOnBasis d m numbers target = foundOn true d m numbers target
 wantedOf Membership d m numbers target = memberOn d m numbers target
 
 abbrev pub withTarget : Wanted → (line d m : ℕ) → List ℤ → List ℕ → List ℕ
-withTarget wanted line d m numbers s = let p = takenAt 2048 s in cond (isEnd (p .stop)) (wantedOf wanted d m numbers (p .numbers)) (mistakeText line (p .stop))
+withTarget wanted line d m numbers s = let p = takenAt mostListed s in cond (isEnd (p .stop)) (wantedOf wanted d m numbers (p .numbers)) (mistakeText line (p .stop))
 
 abbrev pub withVectors : Wanted → (line d m : ℕ) → List ℕ → List ℕ
 withVectors wanted line d m s =
-    let p = takenAt 2048 s in cond (isSemicolon (p .stop)) (withTarget wanted line d m (p .numbers) (drop (p .length) s)) (mistakeText line (p .stop))
+    let p = takenAt mostListed s in cond (isSemicolon (p .stop)) (withTarget wanted line d m (p .numbers) (drop (p .length) s)) (mistakeText line (p .stop))
 
 abbrev pub targetReply : Wanted → ℕ → List ℕ → List ℕ
 targetReply wanted line s = let c = countsAt s in cond (isSemicolon (c .stop)) (withVectors wanted line (c .d) (c .m) (drop (c .length) s)) (mistakeText line (c .stop))

@@ -4,7 +4,17 @@ ghost use Prim.Native.Nat.{_+_, _≤_};
 ghost use lib.ListN.{length};
 ghost use Rattle.text_output.specs.Puts.{Puts};
 ghost use Rattle.cli_replies.specs.Replies.{mistakeText, reducedOf, reduceWith, reduceReply, basisOf, foundOn, memberOn, wantedOf, withTarget, withVectors, targetReply, reply, numberText, answer};
+ghost use Rattle.cli_output.specs.Room.{fieldRoom, linesRoom};
+ghost use Rattle.cli_answers.specs.Room.{refusedRoom, reductionRoom};
+ghost use Rattle.cli_replies.specs.Replies.{mostListed};
+ghost use Rattle.cli_replies.specs.Room.{mistakeRoom, targetRoom, answerRoom};
 use text_parts::Kind;
+
+// No answer takes more bytes: the line's number, a blank, and the longest answer.
+pub const MOST_BYTES: usize = 21 + cli_answers::MOST_BYTES;
+
+// No line has more numbers in a part: a number and a blank take two bytes.
+pub const MOST_LISTED: usize = 2048;
 
 // What the lines ask for.
 pub enum Command {
@@ -23,9 +33,9 @@ pub enum Wanted {
 
 // What is wrong where a part stops in a way that it may not.
 fn put_mistake(out: &mut [u8], at: usize, line: u64, stop: Kind) -> usize
-    requires { ⌜ at + 56 ≤ length (now out) ⌝ }
+    requires { ⌜ at + mistakeRoom ≤ length (now out) ⌝ }
     ensures { λ r. ⌜ Puts (mistakeText line stop) (now (out .entry)) at (now (out .exit)) r ⌝ }
-    ensures { λ r. ⌜ r ≤ at + 56 ⌝ }
+    ensures { λ r. ⌜ r ≤ at + mistakeRoom ⌝ }
 {
     match stop {
         Kind::Number => cli_answers::put_error(out, at, line, b"something that is no number"),
@@ -40,9 +50,9 @@ fn put_mistake(out: &mut [u8], at: usize, line: u64, stop: Kind) -> usize
 
 // The reduction of the numbers.
 fn put_reduction(out: &mut [u8], at: usize, d: usize, m: usize, numbers: &[i64]) -> usize
-    requires { ⌜ at + 1145 ≤ length (now out) ⌝ }
+    requires { ⌜ at + reductionRoom ≤ length (now out) ⌝ }
     ensures { λ r. ⌜ Puts (reducedOf d m (now (numbers .entry))) (now (out .entry)) at (now (out .exit)) r ⌝ }
-    ensures { λ r. ⌜ r ≤ at + 1145 ⌝ }
+    ensures { λ r. ⌜ r ≤ at + reductionRoom ⌝ }
 {
     cli_answers::put_reduction(out, at, engine::reduce(numbers, d, m), d, m)
 }
@@ -57,10 +67,10 @@ fn reduce_with(
     s: &[u8],
     numbers: &mut [i64],
 ) -> usize
-    requires { ⌜ at + 1145 ≤ length (now out) ⌝ }
-    requires { ⌜ length (now numbers) ≡ 2048 ⌝ }
+    requires { ⌜ at + reductionRoom ≤ length (now out) ⌝ }
+    requires { ⌜ length (now numbers) ≡ mostListed ⌝ }
     ensures { λ r. ⌜ Puts (reduceWith line d m (now (s .entry))) (now (out .entry)) at (now (out .exit)) r ⌝ }
-    ensures { λ r. ⌜ r ≤ at + 1145 ⌝ }
+    ensures { λ r. ⌜ r ≤ at + reductionRoom ⌝ }
 {
     let part = text_parts::read_part(s, numbers);
     let stop = part.stop;
@@ -73,10 +83,10 @@ fn reduce_with(
 
 // Answers `d m ; numbers`.
 fn reduce(out: &mut [u8], at: usize, line: u64, s: &[u8], numbers: &mut [i64]) -> usize
-    requires { ⌜ at + 1145 ≤ length (now out) ⌝ }
-    requires { ⌜ length (now numbers) ≡ 2048 ⌝ }
+    requires { ⌜ at + reductionRoom ≤ length (now out) ⌝ }
+    requires { ⌜ length (now numbers) ≡ mostListed ⌝ }
     ensures { λ r. ⌜ Puts (reduceReply line (now (s .entry))) (now (out .entry)) at (now (out .exit)) r ⌝ }
-    ensures { λ r. ⌜ r ≤ at + 1145 ⌝ }
+    ensures { λ r. ⌜ r ≤ at + reductionRoom ⌝ }
 {
     let counts = text_parts::first_part::read_counts(s);
     let stop = counts.stop;
@@ -97,9 +107,9 @@ fn put_basis(
     m: usize,
     numbers: &[i64],
 ) -> usize
-    requires { ⌜ at + 344 ≤ length (now out) ⌝ }
+    requires { ⌜ at + linesRoom ≤ length (now out) ⌝ }
     ensures { λ r. ⌜ Puts (basisOf basis refusal d m (now (numbers .entry))) (now (out .entry)) at (now (out .exit)) r ⌝ }
-    ensures { λ r. ⌜ r ≤ at + 344 ⌝ }
+    ensures { λ r. ⌜ r ≤ at + linesRoom ⌝ }
 {
     if !basis {
         return at;
@@ -120,9 +130,9 @@ fn put_nearest(
     numbers: &[i64],
     target: &[i64],
 ) -> usize
-    requires { ⌜ at + 545 ≤ length (now out) ⌝ }
+    requires { ⌜ at + targetRoom ≤ length (now out) ⌝ }
     ensures { λ r. ⌜ Puts (foundOn basis d m (now (numbers .entry)) (now (target .entry))) (now (out .entry)) at (now (out .exit)) r ⌝ }
-    ensures { λ r. ⌜ r ≤ at + 545 ⌝ }
+    ensures { λ r. ⌜ r ≤ at + targetRoom ⌝ }
 {
     let a = engine::nearest(numbers, d, m, target);
     let k = put_basis(out, at, basis, a.refusal, d, m, numbers);
@@ -138,9 +148,9 @@ fn put_member(
     numbers: &[i64],
     target: &[i64],
 ) -> usize
-    requires { ⌜ at + 50 ≤ length (now out) ⌝ }
+    requires { ⌜ at + refusedRoom ≤ length (now out) ⌝ }
     ensures { λ r. ⌜ Puts (memberOn d m (now (numbers .entry)) (now (target .entry))) (now (out .entry)) at (now (out .exit)) r ⌝ }
-    ensures { λ r. ⌜ r ≤ at + 50 ⌝ }
+    ensures { λ r. ⌜ r ≤ at + refusedRoom ⌝ }
 {
     cli_answers::put_membership(out, at, engine::membership(numbers, d, m, target))
 }
@@ -155,9 +165,9 @@ fn put_wanted(
     numbers: &[i64],
     target: &[i64],
 ) -> usize
-    requires { ⌜ at + 545 ≤ length (now out) ⌝ }
+    requires { ⌜ at + targetRoom ≤ length (now out) ⌝ }
     ensures { λ r. ⌜ Puts (wantedOf wanted d m (now (numbers .entry)) (now (target .entry))) (now (out .entry)) at (now (out .exit)) r ⌝ }
-    ensures { λ r. ⌜ r ≤ at + 545 ⌝ }
+    ensures { λ r. ⌜ r ≤ at + targetRoom ⌝ }
 {
     match wanted {
         Wanted::Vector => put_nearest(out, at, false, d, m, numbers, target),
@@ -178,10 +188,10 @@ fn with_target(
     s: &[u8],
     target: &mut [i64],
 ) -> usize
-    requires { ⌜ at + 545 ≤ length (now out) ⌝ }
-    requires { ⌜ length (now target) ≡ 2048 ⌝ }
+    requires { ⌜ at + targetRoom ≤ length (now out) ⌝ }
+    requires { ⌜ length (now target) ≡ mostListed ⌝ }
     ensures { λ r. ⌜ Puts (withTarget wanted line d m (now (numbers .entry)) (now (s .entry))) (now (out .entry)) at (now (out .exit)) r ⌝ }
-    ensures { λ r. ⌜ r ≤ at + 545 ⌝ }
+    ensures { λ r. ⌜ r ≤ at + targetRoom ⌝ }
 {
     let part = text_parts::read_part(s, target);
     let stop = part.stop;
@@ -204,11 +214,11 @@ fn with_vectors(
     numbers: &mut [i64],
     target: &mut [i64],
 ) -> usize
-    requires { ⌜ at + 545 ≤ length (now out) ⌝ }
-    requires { ⌜ length (now numbers) ≡ 2048 ⌝ }
-    requires { ⌜ length (now target) ≡ 2048 ⌝ }
+    requires { ⌜ at + targetRoom ≤ length (now out) ⌝ }
+    requires { ⌜ length (now numbers) ≡ mostListed ⌝ }
+    requires { ⌜ length (now target) ≡ mostListed ⌝ }
     ensures { λ r. ⌜ Puts (withVectors wanted line d m (now (s .entry))) (now (out .entry)) at (now (out .exit)) r ⌝ }
-    ensures { λ r. ⌜ r ≤ at + 545 ⌝ }
+    ensures { λ r. ⌜ r ≤ at + targetRoom ⌝ }
 {
     let part = text_parts::read_part(s, numbers);
     let stop = part.stop;
@@ -240,11 +250,11 @@ fn about_target(
     numbers: &mut [i64],
     target: &mut [i64],
 ) -> usize
-    requires { ⌜ at + 545 ≤ length (now out) ⌝ }
-    requires { ⌜ length (now numbers) ≡ 2048 ⌝ }
-    requires { ⌜ length (now target) ≡ 2048 ⌝ }
+    requires { ⌜ at + targetRoom ≤ length (now out) ⌝ }
+    requires { ⌜ length (now numbers) ≡ mostListed ⌝ }
+    requires { ⌜ length (now target) ≡ mostListed ⌝ }
     ensures { λ r. ⌜ Puts (targetReply wanted line (now (s .entry))) (now (out .entry)) at (now (out .exit)) r ⌝ }
-    ensures { λ r. ⌜ r ≤ at + 545 ⌝ }
+    ensures { λ r. ⌜ r ≤ at + targetRoom ⌝ }
 {
     let counts = text_parts::first_part::read_counts(s);
     let stop = counts.stop;
@@ -275,11 +285,11 @@ fn put_reply(
     numbers: &mut [i64],
     target: &mut [i64],
 ) -> usize
-    requires { ⌜ at + 1145 ≤ length (now out) ⌝ }
-    requires { ⌜ length (now numbers) ≡ 2048 ⌝ }
-    requires { ⌜ length (now target) ≡ 2048 ⌝ }
+    requires { ⌜ at + reductionRoom ≤ length (now out) ⌝ }
+    requires { ⌜ length (now numbers) ≡ mostListed ⌝ }
+    requires { ⌜ length (now target) ≡ mostListed ⌝ }
     ensures { λ r. ⌜ Puts (reply command line (now (s .entry))) (now (out .entry)) at (now (out .exit)) r ⌝ }
-    ensures { λ r. ⌜ r ≤ at + 1145 ⌝ }
+    ensures { λ r. ⌜ r ≤ at + reductionRoom ⌝ }
 {
     match command {
         Command::Reduce => reduce(out, at, line, s, numbers),
@@ -293,9 +303,9 @@ fn put_reply(
 
 // The line's number and a blank, where they are asked for.
 fn put_line_number(out: &mut [u8], at: usize, numbered: bool, line: u64) -> usize
-    requires { ⌜ at + 21 ≤ length (now out) ⌝ }
+    requires { ⌜ at + fieldRoom ≤ length (now out) ⌝ }
     ensures { λ r. ⌜ Puts (numberText numbered line) (now (out .entry)) at (now (out .exit)) r ⌝ }
-    ensures { λ r. ⌜ r ≤ at + 21 ⌝ }
+    ensures { λ r. ⌜ r ≤ at + fieldRoom ⌝ }
 {
     if !numbered {
         return at;
@@ -315,11 +325,11 @@ pub fn answer(
     out: &mut [u8],
     at: usize,
 ) -> usize
-    requires { ⌜ at + 1166 ≤ length (now out) ⌝ }
-    requires { ⌜ length (now numbers) ≡ 2048 ⌝ }
-    requires { ⌜ length (now target) ≡ 2048 ⌝ }
+    requires { ⌜ at + answerRoom ≤ length (now out) ⌝ }
+    requires { ⌜ length (now numbers) ≡ mostListed ⌝ }
+    requires { ⌜ length (now target) ≡ mostListed ⌝ }
     ensures { λ r. ⌜ Puts (answer command numbered line (now (s .entry))) (now (out .entry)) at (now (out .exit)) r ⌝ }
-    ensures { λ r. ⌜ r ≤ at + 1166 ⌝ }
+    ensures { λ r. ⌜ r ≤ at + answerRoom ⌝ }
 {
     if 4096 < s.len() {
         let k = put_line_number(out, at, numbered, line);

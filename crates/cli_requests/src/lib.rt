@@ -4,6 +4,8 @@ ghost use Prim.Native.Nat.{_+_, _≤_};
 ghost use mathlib.Core.Path.{_≡_};
 ghost use lib.ListN.{length};
 use cli_replies::Command;
+ghost use Rattle.cli_replies.specs.Replies.{mostListed};
+ghost use Rattle.cli_replies.specs.Room.{answerRoom};
 use libc::STDIN_FILENO;
 
 mod framing;
@@ -24,11 +26,11 @@ struct Place {
 
 // Writes what stands in the output, unless it has room for an answer.
 fn make_room(out: &[u8], at: usize) -> Room
-    requires { ⌜ 1166 ≤ length (now out) ⌝ }
+    requires { ⌜ answerRoom ≤ length (now out) ⌝ }
     requires { ⌜ at ≤ length (now out) ⌝ }
-    ensures { λ r. ⌜ r .at + 1166 ≤ length (now (out .entry)) ⌝ }
+    ensures { λ r. ⌜ r .at + answerRoom ≤ length (now (out .entry)) ⌝ }
 {
-    if 1166 <= out.len() - at {
+    if cli_replies::MOST_BYTES <= out.len() - at {
         return Room { at, is_open: true };
     }
     Room {
@@ -55,9 +57,9 @@ fn answer_lines(
     target: &mut [i64],
     out: &mut [u8],
 ) -> Place
-    requires { ⌜ 1166 ≤ length (now out) ⌝ }
-    requires { ⌜ length (now numbers) ≡ 2048 ⌝ }
-    requires { ⌜ length (now target) ≡ 2048 ⌝ }
+    requires { ⌜ answerRoom ≤ length (now out) ⌝ }
+    requires { ⌜ length (now numbers) ≡ mostListed ⌝ }
+    requires { ⌜ length (now target) ≡ mostListed ⌝ }
     ensures { λ r. ⌜ r .from ≤ length (now (bytes .entry)) ⌝ }
     ensures { λ r. ⌜ r .at ≤ length (now (out .entry)) ⌝ }
 {
@@ -119,9 +121,9 @@ fn take_turn(
     out: &mut [u8],
 ) -> Turn
     requires { ⌜ 4097 ≤ length (now bytes) ⌝ }
-    requires { ⌜ 1166 ≤ length (now out) ⌝ }
-    requires { ⌜ length (now numbers) ≡ 2048 ⌝ }
-    requires { ⌜ length (now target) ≡ 2048 ⌝ }
+    requires { ⌜ answerRoom ≤ length (now out) ⌝ }
+    requires { ⌜ length (now numbers) ≡ mostListed ⌝ }
+    requires { ⌜ length (now target) ≡ mostListed ⌝ }
     requires { ⌜ have ≤ 4097 ⌝ }
     ensures { λ r. ⌜ r .have ≤ 4097 ⌝ }
 {
@@ -165,9 +167,9 @@ fn finish(
     out: &mut [u8],
 )
     requires { ⌜ 4097 ≤ length (now bytes) ⌝ }
-    requires { ⌜ 1166 ≤ length (now out) ⌝ }
-    requires { ⌜ length (now numbers) ≡ 2048 ⌝ }
-    requires { ⌜ length (now target) ≡ 2048 ⌝ }
+    requires { ⌜ answerRoom ≤ length (now out) ⌝ }
+    requires { ⌜ length (now numbers) ≡ mostListed ⌝ }
+    requires { ⌜ length (now target) ≡ mostListed ⌝ }
     requires { ⌜ t .have ≤ 4097 ⌝ }
 {
     if !t.is_open {
@@ -199,9 +201,9 @@ fn serve_with(
     out: &mut [u8],
 )
     requires { ⌜ 4097 ≤ length (now bytes) ⌝ }
-    requires { ⌜ 1166 ≤ length (now out) ⌝ }
-    requires { ⌜ length (now numbers) ≡ 2048 ⌝ }
-    requires { ⌜ length (now target) ≡ 2048 ⌝ }
+    requires { ⌜ answerRoom ≤ length (now out) ⌝ }
+    requires { ⌜ length (now numbers) ≡ mostListed ⌝ }
+    requires { ⌜ length (now target) ≡ mostListed ⌝ }
 {
     let mut have = 0;
     let mut line = 1;
@@ -222,8 +224,8 @@ fn serve_with(
 fn serve(command: Command, numbered: bool) {
     let mut bytes = [0u8; 32768];
     let mut out = [0u8; 32768];
-    let mut numbers = [0i64; 2048];
-    let mut target = [0i64; 2048];
+    let mut numbers = [0i64; cli_replies::MOST_LISTED];
+    let mut target = [0i64; cli_replies::MOST_LISTED];
     serve_with(
         command,
         numbered,

@@ -12,8 +12,8 @@ use Rattle.cli_answers.proofs.put_basis.Tie as tie
 vectors-of-requires : tie.Need-vectors-of-requires
 vectors-of-requires c κs = search needs
 
-put-lines-requires : tie.Need-put-lines-requires
-put-lines-requires c κs = search needs
+put-vectors-requires : tie.Need-put-vectors-requires
+put-vectors-requires c κs = search needs
 
 same-length : tie.Need-same-length
 same-length c = search needs
@@ -22,7 +22,7 @@ returns : tie.Need-returns
 returns c =
     let p = c .before .before in
     let a = c .before .before .before .before .before .before .before .args in
-    (subst (λ rows. Puts (joined (rowLine 118 (a .m)) (take (a .d) rows)) (a .out .now) (a .at) (p .put-lines .last .0) (p .put-lines .result)) (p .before .vectors-of .ensures) (p .put-lines .ensures .0), p .put-lines .ensures .1)
+    (subst (λ rows. Puts (joined (rowLine 118 (a .m)) (take (a .d) rows)) (a .out .now) (a .at) (p .put-vectors .last .0) (p .put-vectors .result)) (p .before .vectors-of .ensures) (p .put-vectors .ensures .0), p .put-vectors .ensures .1)
 
 pub put-basis-spec : {M : Type 1} → statement M
-put-basis-spec = tie.close (tie.spec vectors-of-requires put-lines-requires same-length returns)
+put-basis-spec = tie.close (tie.spec vectors-of-requires put-vectors-requires same-length returns)

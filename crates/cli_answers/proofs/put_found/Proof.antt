@@ -24,11 +24,11 @@ put-field-requires c κs = search needs
 put-byte-requires : tie.Need-put-byte-requires
 put-byte-requires c κs = search needs
 
-put-line-requires : tie.Need-put-line-requires
-put-line-requires c κs = search needs
+put-table-row-requires : tie.Need-put-table-row-requires
+put-table-row-requires c κs = search needs
 
-put-line-requires-2 : tie.Need-put-line-requires-2
-put-line-requires-2 c κs = search needs
+put-vector-requires : tie.Need-put-vector-requires
+put-vector-requires c κs = search needs
 
 same-length : tie.Need-same-length
 same-length c = search needs
@@ -45,8 +45,8 @@ returns c =
     let e : toZ w64 (ofZ w64 z) ≡ z = toZ-ofZ {w = w64} (record { sfits = n .before .struct-told .given .1 .1 .1 .1 .0 .1 }) in
     let square : Puts (blank signed z) (a .put-bytes .last .0) (a .put-bytes .result) (n .put-field .last .0) (n .put-field .result) =
     subst (λ z. Puts (blank signed z) (a .put-bytes .last .0) (a .put-bytes .result) (n .put-field .last .0) (n .put-field .result)) e (n .put-field .ensures .0) in (
-      puts-then (a .put-bytes .ensures) (puts-then (puts-then square (b .put-byte .ensures)) (puts-then (d .put-line .ensures .0) (l .put-line2 .ensures .0))),
-      omega (arith, a .put-bytes .ensures .place, n .put-field .ensures .1, b .put-byte .ensures .place, d .put-line .ensures .1, l .put-line2 .ensures .1),
+      puts-then (a .put-bytes .ensures) (puts-then (puts-then square (b .put-byte .ensures)) (puts-then (d .put-table-row .ensures .0) (l .put-vector .ensures .0))),
+      omega (arith, a .put-bytes .ensures .place, n .put-field .ensures .1, b .put-byte .ensures .place, d .put-table-row .ensures .1, l .put-vector .ensures .1),
     )
 
 pub put-found-spec : {M : Type 1} → statement M
@@ -57,7 +57,7 @@ put-found-spec =
     put-bytes-requires
     put-field-requires
     put-byte-requires
-    put-line-requires
-    put-line-requires-2
+    put-table-row-requires
+    put-vector-requires
     same-length
     returns)

@@ -1,6 +1,6 @@
 -- The letter, then the row.
-use native.Mathlib.Omega.{arith}
 use borrow.Author.Needs.{needs}
+use native.Mathlib.Omega.{arith}
 use Rattle.text_output.specs.Puts.{puts-then}
 use Rattle.cli_output.proofs.put_line.Statement.{statement}
 use Rattle.cli_output.proofs.put_line.Tie as tie

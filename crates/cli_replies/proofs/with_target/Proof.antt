@@ -9,7 +9,7 @@ use borrow.Author.Tests.{not-true, not-false}
 use Rattle.text_output.specs.Puts.{Puts}
 use Rattle.text_parts.specs.Parts.{isEnd, takenAt, partOf, filled}
 use Rattle.cli_replies.specs.Cases.{behind, numbers-of, first-of, second-of}
-use Rattle.cli_replies.specs.Replies.{mistakeText, wantedOf}
+use Rattle.cli_replies.specs.Replies.{mistakeText, wantedOf, mostListed}
 use Rattle.cli_replies.proofs.with_target.Statement.{statement}
 use Rattle.cli_replies.proofs.with_target.Tie as tie
 
@@ -17,15 +17,15 @@ read-part-requires : tie.Need-read-part-requires
 read-part-requires c κs = search needs
 
 -- what the part is, and its numbers at the start of what was lent
-part : (c : tie.After-read-part) → c .read-part .result ≡ partOf (takenAt 2048 (c .before .before .before .before .args .s .now))
+part : (c : tie.After-read-part) → c .read-part .result ≡ partOf (takenAt mostListed (c .before .before .before .before .args .s .now))
 part c = let s = c .before .before .before .before in c .read-part .ensures .0 ∙ ap (λ n. partOf (takenAt n (s .args .s .now))) (s .pre .1)
 
-cut : (c : tie.After-read-part) → take (c .read-part .result .count) (c .read-part .last .1 .0) ≡ takenAt 2048 (c .before .before .before .before .args .s .now) .numbers
+cut : (c : tie.After-read-part) → take (c .read-part .result .count) (c .read-part .last .1 .0) ≡ takenAt mostListed (c .before .before .before .before .args .s .now) .numbers
 cut c =
     let s = c .before .before .before .before in
-    numbers-of (takenAt 2048 (s .args .s .now)) (s .args .target .now) (part c) (c .read-part .ensures .1 .0 ∙ ap (λ n. filled (takenAt n (s .args .s .now)) (s .args .target .now)) (s .pre .1))
+    numbers-of (takenAt mostListed (s .args .s .now)) (s .args .target .now) (part c) (c .read-part .ensures .1 .0 ∙ ap (λ n. filled (takenAt n (s .args .s .now)) (s .args .target .now)) (s .pre .1))
 
-stops : (c : tie.After-is-end) → c .is-end .result ≡ isEnd (takenAt 2048 (c .before .before .before .before .before .before .args .s .now) .stop)
+stops : (c : tie.After-is-end) → c .is-end .result ≡ isEnd (takenAt mostListed (c .before .before .before .before .before .before .args .s .now) .stop)
 stops c = c .is-end .ensures ∙ ap (λ p. isEnd (p .stop)) (part (c .before .before))
 
 is-end-requires : tie.Need-is-end-requires
@@ -45,7 +45,7 @@ returns c =
     let p = c .before .before in
     let r = c .before .before .before .before .before .before .before in
     let a = c .before .before .before .before .before .before .before .before .before .before .before .args in
-    let q = takenAt 2048 (a .s .now) in
+    let q = takenAt mostListed (a .s .now) in
     let text = ap (λ x. mistakeText (a .line) (x .stop)) (part r) ∙ second-of (wantedOf (a .wanted) (a .d) (a .m) (a .numbers .now) (q .numbers)) (mistakeText (a .line) (q .stop)) (sym (stops (c .before .before .before .before .before)) ∙ not-true _ (c .before .before .before .before .if1 .taken)) in
     (subst (λ t. Puts t (a .out .now) (a .at) (p .put-mistake .last .0) (p .put-mistake .result)) text (p .put-mistake .ensures .0), omega (arith, p .put-mistake .ensures .1))
 
@@ -69,7 +69,7 @@ returns-2 c =
     let p = c .before .before in
     let r = c .before .before .before .before .before .before .before .before in
     let a = c .before .before .before .before .before .before .before .before .before .before .before .before .args in
-    let q = takenAt 2048 (a .s .now) in
+    let q = takenAt mostListed (a .s .now) in
     let text = ap (wantedOf (a .wanted) (a .d) (a .m) (a .numbers .now)) (cut r) ∙ first-of (wantedOf (a .wanted) (a .d) (a .m) (a .numbers .now) (q .numbers)) (mistakeText (a .line) (q .stop)) (sym (stops (c .before .before .before .before .before .before)) ∙ not-false _ (c .before .before .before .before .before .if1 .left)) in
     (subst (λ t. Puts t (a .out .now) (a .at) (p .put-wanted .last .0) (p .put-wanted .result)) text (p .put-wanted .ensures .0), p .put-wanted .ensures .1)
 

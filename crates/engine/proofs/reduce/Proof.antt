@@ -58,7 +58,7 @@ basis-requires : tie.Need-basis-requires
 basis-requires c κs = let a = facts c in (a .most, (a .few, a .count))
 
 formed-requires : tie.Need-formed-requires
-formed-requires c κs =     let a = c .before .before in
+formed-requires c κs = let a = c .before .before in
     let i = input (a .before .before) in
     (facts a .most, (ap length (c .before .basis .ensures) ∙ length-table 4 4 (basis i), λ j k. rw (c .before .basis .ensures) (begun-small i (ok a) j k)))
 
@@ -72,7 +72,7 @@ finished-requires : tie.Need-finished-requires
 finished-requires c κs = search needs
 
 returns-2 : tie.Need-returns-2
-returns-2 c =     let a = c .before .before .before .before .before .before in
+returns-2 c = let a = c .before .before .before .before .before .before in
     c .finished .ensures ∙ accepted-answer (input (a .before .before)) (ok a) (c .before .reduce-first .result) (outcome-of (c .before))
 
 pub reduce-spec : {M : Type 1} → statement M

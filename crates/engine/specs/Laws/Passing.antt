@@ -139,5 +139,7 @@ module _ (k : ℕ) (rows : List Row) (r : PassReady k rows) (three : k ≤ 3) wh
           (sym (ap (λ y. y *ℤ dot (getD bs j []) rest) (List·getD-eq-default x (pos 0) (omega (arith, x-count, h))) ∙ zero-* (dot (getD bs j []) rest))) (omega arith)
 
   pub square-room : Within 1000000000000000000 (nth left k)
-  square-room = record { within = subst (λ n. natAbs n ≤ 1000000000000000000) (sym (entry-is k))
-      (omega (arith, product-within (getD bs k []) rest (short k) rest-short)) }
+  square-room = record {
+    within = subst (λ n. natAbs n ≤ 1000000000000000000) (sym (entry-is k))
+        (omega (arith, product-within (getD bs k []) rest (short k) rest-short));
+  }

@@ -32,7 +32,7 @@ element-copy-out-products : tie.Need-element-copy-out-products Inv-loop μ-loop
 element-copy-out-products c = search needs
 
 products-requires : tie.Need-products-requires Inv-loop μ-loop
-products-requires c κs =     let l = c .before .before in
+products-requires c κs = let l = c .before .before in
     let s = l .before in
     (s .pre .0, (s .pre .1 .0, (s .pre .1 .1, s .pre .1 .1 (l .loop .i))))
 
@@ -49,13 +49,15 @@ loop-less : tie.Need-loop-less Inv-loop μ-loop
 loop-less c = search needs
 
 loop-again : tie.Need-loop-again Inv-loop μ-loop
-loop-again c =     let l = c .before .before .before in
-    let s = l .before in
-    (search needs, ap₂ (λ g r. set g (l .loop .i) r) (l .loop .inv .1) (c .products .ensures)
-    ∙ filled-more (padded 4 []) 4 (products (take (s .args .d) (now (s .args .b)))) (now (s .args .b)) (l .loop .i) [] (omega (arith, s .pre .0)) (omega (arith, s .pre .0, s .pre .1 .0)))
+loop-again c = let l = c .before .before .before in
+    let s = l .before in (
+      search needs,
+      ap₂ (λ g r. set g (l .loop .i) r) (l .loop .inv .1) (c .products .ensures)
+          ∙ filled-more (padded 4 []) 4 (products (take (s .args .d) (now (s .args .b)))) (now (s .args .b)) (l .loop .i) [] (omega (arith, s .pre .0)) (omega (arith, s .pre .0, s .pre .1 .0)),
+    )
 
 returns : tie.Need-returns Inv-loop μ-loop
-returns c =     let s = c .before .before in
+returns c = let s = c .before .before in
     let e : c .before .loop .i ≡ s .args .d = search needs in
     c .before .loop .inv .1 ∙ ap (λ i. filled (padded 4 []) 4 (map (products (take (s .args .d) (now (s .args .b)))) (take i (now (s .args .b))))) e
 

@@ -1,4 +1,4 @@
--- The lines of the first i rows are put, in at most 86 bytes each.
+-- The lines of the first i rows are put, each with no more than its room.
 use mathlib.Core.Path.{_≡_, ap, _∙_, subst}
 use mathlib.Core.List.{[]}
 use Prim.Native.Nat.{_+_, _*_, _-_, _≤_, _<_, min}
@@ -8,25 +8,26 @@ use borrow.Author.Needs.{needs}
 use Rattle.text_output.specs.Puts.{Puts, puts-none, puts-length}
 use Rattle.text_output.specs.Joined.{joined, puts-next}
 use Rattle.cli_output.specs.Rows.{rowLine}
-use Rattle.cli_output.specs.Sizes.{take-four}
-use Rattle.cli_output.proofs.put_lines.Statement.{statement}
-use Rattle.cli_output.proofs.put_lines.Tie as tie
+use Rattle.cli_output.specs.Room.{lineRoom}
+use Rattle.cli_output.specs.Sizes.{take-lesser}
+use Rattle.cli_output.proofs.put_table.Statement.{statement}
+use Rattle.cli_output.proofs.put_table.Tie as tie
 
 abbrev Inv-loop : tie.InvT-loop
-Inv-loop out₀ at letter d n rows k₀ i₀ i-end out k i = (i ≤ i-end) × Puts (joined (rowLine letter n) (take i rows)) out₀ at out k × (k ≤ at + i * 86)
+Inv-loop out₀ at letter d rows k₀ i₀ i-end out k i = (i ≤ i-end) × Puts (joined (rowLine letter d) (take i rows)) out₀ at out k × (k ≤ at + i * lineRoom)
 
 abbrev μ-loop : tie.MeasureT-loop
-μ-loop out₀ at letter d n rows k₀ i₀ i-end out k i = i-end - i
+μ-loop out₀ at letter d rows k₀ i₀ i-end out k i = i-end - i
 
-at-most-four-requires : tie.Need-at-most-four-requires Inv-loop μ-loop
-at-most-four-requires c κs = search needs
+lesser-requires : tie.Need-lesser-requires Inv-loop μ-loop
+lesser-requires c κs = search needs
 
 loop-holds : tie.Need-loop-holds Inv-loop μ-loop
 loop-holds c = (search needs, puts-none _ _, omega arith)
 
 -- place i is one of the table's
 small : (c : tie.In-loop Inv-loop μ-loop) → c .before .loop .i < 4
-small c = omega (arith, c .before .before .at-most-four .ensures, c .loop-test .taken)
+small c = omega (arith, c .before .before .lesser .ensures, c .loop-test .taken)
 
 mul-row : tie.Need-mul-row Inv-loop μ-loop
 mul-row c = omega (arith, small c)
@@ -38,8 +39,8 @@ array-copy-out-row c = small c
 long : (c : tie.At-loop Inv-loop μ-loop) → length (c .loop .out) ≡ length (c .before .before .before .args .out .now)
 long c = puts-length (c .loop .inv .1)
 
-put-line-requires : tie.Need-put-line-requires Inv-loop μ-loop
-put-line-requires c κs =
+put-table-row-requires : tie.Need-put-table-row-requires Inv-loop μ-loop
+put-table-row-requires c κs =
     let l = c .before .before .before in
     omega (arith, long l, l .before .before .before .pre, l .loop .inv .2, small (c .before .before))
 
@@ -56,8 +57,9 @@ loop-again : tie.Need-loop-again Inv-loop μ-loop
 loop-again c =
     let p = c .before .before in
     let l = c .before .before .before .before .before .before in
-    let a = l .before .before .before .args in
-    (search needs, puts-next (rowLine (a .letter) (a .n)) (a .t4) (l .loop .i) [] (omega (arith, small (c .before .before .before .before .before), wide (l .before .before .before))) (l .loop .inv .1) (p .put-line .ensures .0), omega (arith, l .loop .inv .2, p .put-line .ensures .1))
+    let s = l .before .before .before in
+    let a = s .args in
+    (search needs, puts-next (rowLine (a .letter) (a .d)) (a .t4) (l .loop .i) [] (omega (arith, small (c .before .before .before .before .before), wide s)) (l .loop .inv .1) (p .put-table-row .ensures .0), omega (arith, l .loop .inv .2, p .put-table-row .ensures .1))
 
 same-length : tie.Need-same-length Inv-loop μ-loop
 same-length c = long (c .before)
@@ -67,22 +69,22 @@ returns c =
     let l = c .before in
     let s = c .before .before .before .before in
     let a = s .args in
-    let e : l .loop .i ≡ min (a .d) 4 = omega (arith, c .loop-test .left, l .loop .inv .0, l .before .at-most-four .ensures) in (
-      subst (λ t. Puts (joined (rowLine (a .letter) (a .n)) t) (a .out .now) (a .at) (l .loop .out) (l .loop .k)) (ap (λ k. take k (a .t4)) e ∙ take-four (a .d) (a .t4) (wide s)) (l .loop .inv .1),
+    let e : l .loop .i ≡ min (a .d) 4 = omega (arith, c .loop-test .left, l .loop .inv .0, l .before .lesser .ensures) in (
+      subst (λ t. Puts (joined (rowLine (a .letter) (a .d)) t) (a .out .now) (a .at) (l .loop .out) (l .loop .k)) (ap (λ k. take k (a .t4)) e ∙ take-lesser (a .d) 4 (a .t4) (wide s)) (l .loop .inv .1),
       omega (arith, l .loop .inv .2, e),
     )
 
-pub put-lines-spec : {M : Type 1} → statement M
-put-lines-spec =
+pub put-table-spec : {M : Type 1} → statement M
+put-table-spec =
     tie.close
     (tie.spec
     Inv-loop
     μ-loop
-    at-most-four-requires
+    lesser-requires
     loop-holds
     mul-row
     array-copy-out-row
-    put-line-requires
+    put-table-row-requires
     add-i
     loop-less
     loop-again
