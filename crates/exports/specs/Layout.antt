@@ -1,13 +1,22 @@
 -- The answers of the services as runs of numbers, in the order that the header gives.
 use mathlib.Core.Bool.{Bool, cond}
 use mathlib.Core.List.{List, [], _∷_, _++_}
-use Prim.Native.Nat.{ℕ}
+use Prim.Native.Nat.{ℕ, _+_, _*_}
 use lib.IntN.{ℤ, pos}
 use lib.Dec.{leb}
 use lib.ListN.{length, drop}
+use Rattle.lattices.specs.Refusal.{mostVectors, mostCoordinates}
 use Rattle.lattices.specs.Answer.{Reduction, Nearest, Membership}
 use Rattle.catalogue_rules.specs.Output.{Output}
 use Rattle.fold_rules.specs.Services.{Lookup}
+
+-- R16.2: how many numbers a reduction's answer has: a head, the squared lengths, the vectors, and the tables U and V
+abbrev pub reductionCount : ℕ
+reductionCount = 3 + mostVectors + mostVectors * mostCoordinates + 2 * (mostVectors * mostVectors)
+
+-- R16.3: how many the answer with a nearest vector has: a head, the coefficients, the vector
+abbrev pub nearestCount : ℕ
+nearestCount = 3 + mostVectors + mostCoordinates
 
 -- R16.2: the rows of a table one after another
 abbrev pub flat : List (List ℤ) → List ℤ

@@ -2,7 +2,7 @@
 use mathlib.Core.Path.{_≡_, refl, _∙_, subst}
 use mathlib.Core.Bool.{false}
 use mathlib.Core.List.{List, [], _++_}
-use Prim.Native.Nat.{ℕ, zero, suc, _≤_}
+use Prim.Native.Nat.{ℕ, zero, suc, _+_, _≤_}
 use native.Mathlib.Omega.{arith}
 use lib.IntN.{ℤ, pos}
 use lib.Signed.{leZ}
@@ -11,10 +11,10 @@ use lib.Seq.{sets}
 use Rattle.lattices.specs.Vector.{comb}
 use Rattle.lattices.specs.Nearest.{nearest}
 use Rattle.lattices.specs.Greedy.{vectors, reduction}
-use Rattle.lattices.specs.Refusal.{Input, basis, firstOf, vectorChecks, targetChecks}
+use Rattle.lattices.specs.Refusal.{Input, basis, firstOf, vectorChecks, targetChecks, mostVectors, mostCoordinates}
 use Rattle.lattices.specs.Answer.{Nearest, noNearest, nearestGiven, nearestOf, Membership, membershipOf}
 use Rattle.lattices.specs.Laws.Answer.{length-padded}
-use Rattle.exports.specs.Layout.{head, layoutNearest, written}
+use Rattle.exports.specs.Layout.{nearestCount, head, layoutNearest, written}
 use Rattle.exports.specs.Runs.{sets-then, written-long}
 use Rattle.exports.specs.Shape.{first-most}
 
@@ -26,8 +26,8 @@ checks-most i =
 pub record NearestShape (a : Nearest) : Type 0 where
   pub refusal : a .refusal ≤ 7
   pub place : a .place ≡ 0
-  pub coefficients : length (a .coefficients) ≡ 4
-  pub vector : length (a .vector) ≡ 4
+  pub coefficients : length (a .coefficients) ≡ mostVectors
+  pub vector : length (a .vector) ≡ mostCoordinates
 
 pub nearest-shape : (i : Input) → NearestShape (nearestOf i)
 unfolding nearestOf
@@ -37,8 +37,8 @@ nearest-shape i = go (firstOf (vectorChecks ++ targetChecks) i) refl
     go zero e =
         let bs = vectors (reduction (basis i) .rows) in
         let x = nearest bs (i .target) in
-        record { refusal = omega arith; place = refl; coefficients = length-padded 4 x; vector = length-padded 4 (comb x bs) }
-    go (suc n) e = record { refusal = subst (λ k. k ≤ 7) e (checks-most i); place = refl; coefficients = length-padded 4 []; vector = length-padded 4 [] }
+        record { refusal = omega arith; place = refl; coefficients = length-padded mostVectors x; vector = length-padded mostCoordinates (comb x bs) }
+    go (suc n) e = record { refusal = subst (λ k. k ≤ 7) e (checks-most i); place = refl; coefficients = length-padded mostVectors []; vector = length-padded mostCoordinates [] }
 
 -- of a membership too
 pub member-few : (i : Input) → (membershipOf i .refusal ≤ 7) × (membershipOf i .place ≤ 7)
@@ -53,18 +53,18 @@ member-few i = go (firstOf (vectorChecks ++ targetChecks) i) (checks-most i)
 
 -- an answer stored part by part
 module _ {a : Nearest} (s : NearestShape a) where
-  length-layout : length (layoutNearest a) ≡ 11
+  length-layout : length (layoutNearest a) ≡ nearestCount
   unfolding layoutNearest
   length-layout =
       length-append (head (a .refusal) (a .place) (a .square)) (a .coefficients ++ a .vector)
       ∙ omega (arith, length-append (a .coefficients) (a .vector), s .coefficients, s .vector)
 
-  pub nearest-stored : (l : List ℤ) {p q x : List ℤ} → 11 ≤ length l
-      → p ≡ sets l 0 (head (a .refusal) (a .place) (a .square)) → q ≡ sets p 3 (a .coefficients) → x ≡ sets q 7 (a .vector)
-      → x ≡ written l 11 (layoutNearest a)
+  pub nearest-stored : (l : List ℤ) {p q x : List ℤ} → nearestCount ≤ length l
+      → p ≡ sets l 0 (head (a .refusal) (a .place) (a .square)) → q ≡ sets p 3 (a .coefficients) → x ≡ sets q (3 + mostVectors) (a .vector)
+      → x ≡ written l nearestCount (layoutNearest a)
   unfolding layoutNearest
   nearest-stored l {p} {q} {x} h e f g =
       g
-      ∙ sets-then p 3 7 (a .coefficients) (a .vector) f (omega (arith, s .coefficients))
+      ∙ sets-then p 3 (3 + mostVectors) (a .coefficients) (a .vector) f (omega (arith, s .coefficients))
       ∙ sets-then l 0 3 (head (a .refusal) (a .place) (a .square)) (a .coefficients ++ a .vector) e refl
-      ∙ written-long l 11 (layoutNearest a) length-layout h
+      ∙ written-long l nearestCount (layoutNearest a) length-layout h

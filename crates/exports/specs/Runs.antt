@@ -5,9 +5,10 @@ use mathlib.Core.List.{List, [], _∷_, _++_}
 use Prim.Native.Nat.{ℕ, suc, _+_, _≤_, _<_}
 use native.Mathlib.Omega.{arith}
 use lib.IntN.{ℤ, pos}
-use lib.ListN.{length, set, drop, getD}
+use native.Mathlib.Numerals.{add-one}
+use lib.ListN.{length, set, drop, getD, take}
 use borrow.Author.Tests.{le-leb, lt-leb}
-use lib.Seq.{sets, sets-eq}
+use lib.Seq.{sets, sets-eq, take-suc, length-take-le}
 use Rattle.integers.specs.Runs.{sets-append}
 use Rattle.row_operations.specs.Rows.{four}
 use Rattle.exports.specs.Layout.{flat, written}
@@ -26,24 +27,21 @@ written-long l n vs e h =
     let all : 0 + length vs ≡ n = omega arith in
     sets-eq vs l 0 (omega arith) ∙ ap (λ k. vs ++ drop k l) all ∙ sym (ap (λ b. cond b (vs ++ drop n l) l) (le-leb n (length l) h))
 
--- four numbers stored one by one
-pub row-stored : (l : List ℤ) (i : ℕ) (row : List ℤ) {x y z w : ℤ} → length row ≡ 4 → x ≡ getD row 0 (pos 0) → y ≡ getD row 1 (pos 0) → z ≡ getD row 2 (pos 0) → w ≡ getD row 3 (pos 0) → set (set (set (set l i x) (i + 1) y) (i + 2) z) (i + 3) w ≡ sets l i row
-row-stored l i row e p q r s =
-    let one : i + 1 ≡ suc i = omega arith in
-    let two : i + 2 ≡ suc (suc i) = omega arith in
-    let three : i + 3 ≡ suc (suc (suc i)) = omega arith in
-    let whole : getD row 0 (pos 0) ∷ getD row 1 (pos 0) ∷ getD row 2 (pos 0) ∷ getD row 3 (pos 0) ∷ [] ≡ row = four row (pos 0) e in
-    (λ k. set (set (set (set l i (p k)) (one k) (q k)) (two k) (r k)) (three k) (s k)) ∙ ap (sets l i) whole
+-- one number more
+pub sets-more : (l : List ℤ) (at : ℕ) (run : List ℤ) (j : ℕ) → j < length run → set (sets l at (take j run)) (at + j) (getD run j (pos 0)) ≡ sets l at (take (j + 1) run)
+sets-more l at run j h =
+    sets-append l at (at + j) (take j run) (getD run j (pos 0) ∷ []) (omega (arith, length-take-le j run (omega arith)))
+    ∙ ap (sets l at) (sym (take-suc run j (pos 0) h) ∙ ap (λ k. take k run) (sym (add-one j)))
 
 -- four rows stored one after another
-pub rows-stored : (l : List ℤ) (i : ℕ) (t : List (List ℤ)) {a b c d : List ℤ} → length t ≡ 4
-    → length (getD t 0 []) ≡ 4 → length (getD t 1 []) ≡ 4 → length (getD t 2 []) ≡ 4
-    → a ≡ sets l i (getD t 0 []) → b ≡ sets a (i + 4) (getD t 1 []) → c ≡ sets b (i + 8) (getD t 2 []) → d ≡ sets c (i + 12) (getD t 3 [])
+pub rows-stored : (w : ℕ) (l : List ℤ) (i j k n : ℕ) (t : List (List ℤ)) {a b c d : List ℤ} → length t ≡ 4
+    → length (getD t 0 []) ≡ w → length (getD t 1 []) ≡ w → length (getD t 2 []) ≡ w → j ≡ i + w → k ≡ j + w → n ≡ k + w
+    → a ≡ sets l i (getD t 0 []) → b ≡ sets a j (getD t 1 []) → c ≡ sets b k (getD t 2 []) → d ≡ sets c n (getD t 3 [])
     → d ≡ sets l i (flat t)
-rows-stored l i t {a} {b} {c} {d} e p q r f g h k =
+rows-stored w l i j k n t {a} {b} {c} {d} e p q r x y z f g h m =
     let whole : getD t 0 [] ∷ getD t 1 [] ∷ getD t 2 [] ∷ getD t 3 [] ∷ [] ≡ t = four t [] e in
-    sets-then c (i + 12) (i + 12 + length (getD t 3 [])) (getD t 3 []) [] k refl
-    ∙ sets-then b (i + 8) (i + 12) (getD t 2 []) (getD t 3 [] ++ []) h (omega arith)
-    ∙ sets-then a (i + 4) (i + 8) (getD t 1 []) (getD t 2 [] ++ (getD t 3 [] ++ [])) g (omega arith)
-    ∙ sets-then l i (i + 4) (getD t 0 []) (getD t 1 [] ++ (getD t 2 [] ++ (getD t 3 [] ++ []))) f (omega arith)
+    sets-then c n (n + length (getD t 3 [])) (getD t 3 []) [] m refl
+    ∙ sets-then b k n (getD t 2 []) (getD t 3 [] ++ []) h (omega arith)
+    ∙ sets-then a j k (getD t 1 []) (getD t 2 [] ++ (getD t 3 [] ++ [])) g (omega arith)
+    ∙ sets-then l i j (getD t 0 []) (getD t 1 [] ++ (getD t 2 [] ++ (getD t 3 [] ++ []))) f (omega arith)
     ∙ ap (λ rows. sets l i (flat rows)) whole

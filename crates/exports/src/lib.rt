@@ -1,7 +1,7 @@
 // The services for callers in other languages. Answers are written to lent numbers; include/raghymtos.h gives their order.
 ghost use mathlib.Core.Path.{_≡_};
 ghost use mathlib.Core.List.{[]};
-ghost use Prim.Native.Nat.{_+_, _≤_};
+ghost use Prim.Native.Nat.{_+_, _*_, _≤_};
 ghost use lib.Dec.{leb};
 ghost use lib.IntN.{pos};
 ghost use lib.ListN.{length};
@@ -10,13 +10,23 @@ ghost use Rattle.lattices.specs.Answer.{reductionOf, nearestOf, membershipOf};
 ghost use Rattle.catalogue_rules.specs.Read.{read};
 ghost use Rattle.catalogue_rules.specs.Output.{output};
 ghost use Rattle.fold_rules.specs.Services.{foldOf, lookupOf, listOf};
-ghost use Rattle.exports.specs.Layout.{flat, head, layout, layoutNearest, flag, layoutMembership, layoutOutput, layoutLookup, written, beside};
+ghost use Rattle.lattices.specs.Refusal.{mostVectors, mostCoordinates};
+ghost use Rattle.exports.specs.Layout.{reductionCount, nearestCount, flat, head, layout, layoutNearest, flag, layoutMembership, layoutOutput, layoutLookup, written, beside};
+use row_operations::Basis;
+use row_operations::Vector;
+use row_operations::WIDTH;
 
-// How many numbers a reduction's answer takes.
-const REDUCTION: usize = 55;
+// Where the parts of a reduction's answer begin, and how many numbers it takes.
+const VECTORS_AT: usize = 7;
+
+const U_AT: usize = VECTORS_AT + 4 * WIDTH;
+
+const V_AT: usize = U_AT + 16;
+
+const REDUCTION: usize = V_AT + 16;
 
 // How many numbers the answer with a nearest vector takes.
-const NEAREST: usize = 11;
+const NEAREST: usize = 7 + WIDTH;
 
 // How many numbers the answer of a membership takes.
 const MEMBER: usize = 3;
@@ -27,21 +37,48 @@ const WRITING: usize = 3;
 // How many numbers the answer of a lookup takes.
 const LOOKUP: usize = 3;
 
-// Writes a row from `at` on. That it has four numbers tells where the next one goes.
-fn put_row(out: &mut [i64], at: usize, row: [i64; 4])
-    requires { ⌜ at + 4 ≤ length (now out) ⌝ }
-    ensures { λ _. ⌜ now (out .exit) ≡ sets (now (out .entry)) at row ⌝ }
-    ensures { λ _. ⌜ length row ≡ 4 ⌝ }
+// Writes a run of numbers from `at` on.
+fn put_run(out: &mut [i64], at: usize, run: &[i64])
+    requires { ⌜ at + length (now run) ≤ length (now out) ⌝ }
+    ensures { λ _. ⌜ now (out .exit) ≡ sets (now (out .entry)) at (now (run .entry)) ⌝ }
 {
-    out[at] = row[0];
-    out[at + 1] = row[1];
-    out[at + 2] = row[2];
-    out[at + 3] = row[3];
+    for i in 0..run.len() {
+        out[at + i] = run[i];
+    }
+}
+
+// Writes a vector from `at` on. How many numbers it has tells where the next one goes.
+fn put_vector(out: &mut [i64], at: usize, v: Vector)
+    requires { ⌜ at + mostCoordinates ≤ length (now out) ⌝ }
+    ensures { λ _. ⌜ now (out .exit) ≡ sets (now (out .entry)) at v ⌝ }
+    ensures { λ _. ⌜ length v ≡ mostCoordinates ⌝ }
+{
+    put_run(out, at, &v);
+}
+
+// Writes a number for each vector from `at` on.
+fn put_row(out: &mut [i64], at: usize, row: [i64; 4])
+    requires { ⌜ at + mostVectors ≤ length (now out) ⌝ }
+    ensures { λ _. ⌜ now (out .exit) ≡ sets (now (out .entry)) at row ⌝ }
+    ensures { λ _. ⌜ length row ≡ mostVectors ⌝ }
+{
+    put_run(out, at, &row);
+}
+
+// Writes the vectors from `at` on.
+fn put_vectors(out: &mut [i64], at: usize, b: Basis)
+    requires { ⌜ at + mostVectors * mostCoordinates ≤ length (now out) ⌝ }
+    ensures { λ _. ⌜ now (out .exit) ≡ sets (now (out .entry)) at (flat b) ⌝ }
+{
+    put_vector(out, at, b[0]);
+    put_vector(out, at + WIDTH, b[1]);
+    put_vector(out, at + 2 * WIDTH, b[2]);
+    put_vector(out, at + 3 * WIDTH, b[3]);
 }
 
 // Writes the rows of a table from `at` on.
-fn put_rows(out: &mut [i64], at: usize, t: [[i64; 4]; 4])
-    requires { ⌜ at + 16 ≤ length (now out) ⌝ }
+fn put_table(out: &mut [i64], at: usize, t: [[i64; 4]; 4])
+    requires { ⌜ at + mostVectors * mostVectors ≤ length (now out) ⌝ }
     ensures { λ _. ⌜ now (out .exit) ≡ sets (now (out .entry)) at (flat t) ⌝ }
 {
     put_row(out, at, t[0]);
@@ -80,11 +117,11 @@ fn flag(yes: bool) -> i64
     0
 }
 
-// Reduces d vectors of m coordinates each. The answer is written to the first 55 numbers of `out`; a shorter `out` stays as it is.
+// Reduces d vectors of m coordinates each. The answer is written to the first numbers of `out`; one with too few stays as it is.
 #[no_mangle]
 pub extern "C" fn raghymtos_reduce(numbers: &[i64], d: usize, m: usize, out: &mut [i64]) -> bool
-    ensures { λ r. ⌜ r ≡ leb 55 (length (now (out .entry))) ⌝ }
-    ensures { λ _. ⌜ now (out .exit) ≡ written (now (out .entry)) 55 (layout (reductionOf (record { numbers = now (numbers .entry); d = d; m = m; target = [] }))) ⌝ }
+    ensures { λ r. ⌜ r ≡ leb reductionCount (length (now (out .entry))) ⌝ }
+    ensures { λ _. ⌜ now (out .exit) ≡ written (now (out .entry)) reductionCount (layout (reductionOf (record { numbers = now (numbers .entry); d = d; m = m; target = [] }))) ⌝ }
 {
     if out.len() < REDUCTION {
         return false;
@@ -96,14 +133,14 @@ pub extern "C" fn raghymtos_reduce(numbers: &[i64], d: usize, m: usize, out: &mu
     let squares = a.squares;
     put_head(out, a.refusal, a.place, a.passes as i64);
     put_row(out, 3, squares);
-    put_rows(out, 7, row_operations::vectors_of(vectors));
-    put_rows(out, 23, row_operations::tables_of(u));
-    put_rows(out, 39, row_operations::tables_of(v));
+    put_vectors(out, VECTORS_AT, row_operations::vectors_of(vectors));
+    put_table(out, U_AT, row_operations::tables_of(u));
+    put_table(out, V_AT, row_operations::tables_of(v));
     true
 }
 
-// Finds the vector nearest to the target in the lattice of d vectors of m coordinates each. The answer is written to the first 11
-// numbers of `out`; a shorter `out` stays as it is.
+// Finds the vector nearest to the target in the lattice of d vectors of m coordinates each. The answer is written to the first
+// numbers of `out`; one with too few stays as it is.
 #[no_mangle]
 pub extern "C" fn raghymtos_nearest(
     numbers: &[i64],
@@ -112,8 +149,8 @@ pub extern "C" fn raghymtos_nearest(
     target: &[i64],
     out: &mut [i64],
 ) -> bool
-    ensures { λ r. ⌜ r ≡ leb 11 (length (now (out .entry))) ⌝ }
-    ensures { λ _. ⌜ now (out .exit) ≡ written (now (out .entry)) 11 (layoutNearest (nearestOf (record { numbers = now (numbers .entry); d = d; m = m; target = now (target .entry) }))) ⌝ }
+    ensures { λ r. ⌜ r ≡ leb nearestCount (length (now (out .entry))) ⌝ }
+    ensures { λ _. ⌜ now (out .exit) ≡ written (now (out .entry)) nearestCount (layoutNearest (nearestOf (record { numbers = now (numbers .entry); d = d; m = m; target = now (target .entry) }))) ⌝ }
 {
     if out.len() < NEAREST {
         return false;
@@ -123,7 +160,7 @@ pub extern "C" fn raghymtos_nearest(
     let vector = a.vector;
     put_head(out, a.refusal, a.place, a.square);
     put_row(out, 3, coefficients);
-    put_row(out, 7, vector);
+    put_vector(out, 7, vector);
     true
 }
 

@@ -12,7 +12,7 @@ use Rattle.lattices.specs.Refusal.{Input}
 use Rattle.lattices.specs.Answer.{nearestOf}
 use Rattle.engine.specs.declared.NearestVector.{NearestVector}
 use Rattle.engine.specs.Packed.{packedNearest}
-use Rattle.exports.specs.Layout.{head, layoutNearest}
+use Rattle.exports.specs.Layout.{nearestCount, head, layoutNearest}
 use Rattle.exports.specs.Runs.{written-short}
 use Rattle.exports.specs.NearestShape.{nearest-shape, nearest-stored}
 use borrow.Author.Needs.{needs}
@@ -25,8 +25,8 @@ input s = record { numbers = now (s .args .numbers); d = s .args .d; m = s .args
 returns : tie.Need-returns
 returns c =
     let l = now (c .before .args .out) in
-    let h : length l < 11 = c .if1 .taken in
-    (sym (lt-leb 11 (length l) h), written-short l 11 (layoutNearest (nearestOf (input (c .before)))) h)
+    let h : length l < nearestCount = c .if1 .taken in
+    (sym (lt-leb nearestCount (length l) h), written-short l nearestCount (layoutNearest (nearestOf (input (c .before)))) h)
 
 nearest-requires : tie.Need-nearest-requires
 nearest-requires c κs = search needs
@@ -43,8 +43,8 @@ put-head-requires c κs = (search needs, small _ _ (c .before .before .before .b
 put-row-requires : tie.Need-put-row-requires
 put-row-requires c κs = search needs
 
-put-row-requires-2 : tie.Need-put-row-requires-2
-put-row-requires-2 c κs = search needs
+put-vector-requires : tie.Need-put-vector-requires
+put-vector-requires c κs = search needs
 
 same-length : tie.Need-same-length
 same-length c = search needs
@@ -59,15 +59,15 @@ returns-2 c =
     let l = now (s .args .out) in
     let a = r .nearest .result in
     let e = r .nearest .ensures in
-    let h : 11 ≤ length l = search needs in (
-      sym (le-leb 11 (length l) h),
+    let h : nearestCount ≤ length l = search needs in (
+      sym (le-leb nearestCount (length l) h),
       nearest-stored (nearest-shape (input s)) l h
           (p .put-head .ensures ∙ ap (sets l 0) (ap (head (a .refusal) (a .place)) (toZ-ofZ {w = w64} (record { sfits = p .before .struct-told .given .1 .1 .1 .1 .0 .1 }))) ∙ ap (λ a. sets l 0 (head (a .refusal) (a .place) (a .square))) e)
           (q .put-row .ensures .0 ∙ ap (λ a. sets (p .put-head .last .0) 3 (a .coefficients)) e)
-          (v .put-row2 .ensures .0 ∙ ap (λ a. sets (q .put-row .last .0) 7 (a .vector)) e),
+          (v .put-vector .ensures .0 ∙ ap (λ a. sets (q .put-row .last .0) 7 (a .vector)) e),
     )
 
 pub raghymtos-nearest-spec : {M : Type 1} → statement M
 raghymtos-nearest-spec =
     tie.close
-    (tie.spec returns nearest-requires put-head-requires put-row-requires put-row-requires-2 same-length returns-2)
+    (tie.spec returns nearest-requires put-head-requires put-row-requires put-vector-requires same-length returns-2)

@@ -13,7 +13,7 @@ use borrow.Author.Tests.{le-leb, lt-leb}
 use Rattle.lattices.specs.Refusal.{Input}
 use Rattle.lattices.specs.Answer.{reductionOf}
 use Rattle.row_operations.specs.RowStructs.{vectorRow, tableRow}
-use Rattle.exports.specs.Layout.{flat, head, layout}
+use Rattle.exports.specs.Layout.{reductionCount, flat, head, layout}
 use Rattle.exports.specs.Runs.{written-short}
 use Rattle.exports.specs.Shape.{shape, unpacked, answer-stored}
 use borrow.Author.Needs.{needs}
@@ -26,8 +26,8 @@ input s = record { numbers = now (s .args .numbers); d = s .args .d; m = s .args
 returns : tie.Need-returns
 returns c =
     let l = now (c .before .args .out) in
-    let h : length l < 55 = c .if1 .taken in
-    (sym (lt-leb 55 (length l) h), written-short l 55 (layout (reductionOf (input (c .before)))) h)
+    let h : length l < reductionCount = c .if1 .taken in
+    (sym (lt-leb reductionCount (length l) h), written-short l reductionCount (layout (reductionOf (input (c .before)))) h)
 
 reduce-requires : tie.Need-reduce-requires
 reduce-requires c κs = search needs
@@ -51,20 +51,20 @@ put-row-requires c κs = search needs
 vectors-of-requires : tie.Need-vectors-of-requires
 vectors-of-requires c κs = search needs
 
-put-rows-requires : tie.Need-put-rows-requires
-put-rows-requires c κs = search needs
+put-vectors-requires : tie.Need-put-vectors-requires
+put-vectors-requires c κs = search needs
 
 tables-of-requires : tie.Need-tables-of-requires
 tables-of-requires c κs = search needs
 
-put-rows-requires-2 : tie.Need-put-rows-requires-2
-put-rows-requires-2 c κs = search needs
+put-table-requires : tie.Need-put-table-requires
+put-table-requires c κs = search needs
 
 tables-of-requires-2 : tie.Need-tables-of-requires-2
 tables-of-requires-2 c κs = search needs
 
-put-rows-requires-3 : tie.Need-put-rows-requires-3
-put-rows-requires-3 c κs = search needs
+put-table-requires-2 : tie.Need-put-table-requires-2
+put-table-requires-2 c κs = search needs
 
 same-length : tie.Need-same-length
 same-length c = search needs
@@ -81,17 +81,17 @@ returns-2 c =
     let l = now (s .args .out) in
     let a = r .reduce .result in
     let e = r .reduce .ensures in
-    let h : 55 ≤ length l = search needs in
+    let h : reductionCount ≤ length l = search needs in
     let x = v .before .tables-of2 .ensures ∙ ap (λ a. map (λ row. row .at) (a .v)) e ∙ unpacked tableRow (λ row. row .at) (λ t. refl) (reductionOf (input s) .v) in
     let y = u .before .tables-of .ensures ∙ ap (λ a. map (λ row. row .at) (a .u)) e ∙ unpacked tableRow (λ row. row .at) (λ t. refl) (reductionOf (input s) .u) in
     let z = b .before .vectors-of .ensures ∙ ap (λ a. map (λ row. row .at) (a .vectors)) e ∙ unpacked vectorRow (λ row. row .at) (λ t. refl) (reductionOf (input s) .basis) in (
-      sym (le-leb 55 (length l) h),
+      sym (le-leb reductionCount (length l) h),
       answer-stored (shape (input s)) l h
           (p .put-head .ensures ∙ ap (sets l 0) (ap (head (a .refusal) (a .place)) (toZ-pos w64 (omega (arith, few r .2)))) ∙ ap (λ a. sets l 0 (head (a .refusal) (a .place) (pos (a .passes)))) e)
           (q .put-row .ensures .0 ∙ ap (λ a. sets (p .put-head .last .0) 3 (a .squares)) e)
-          (b .put-rows .ensures ∙ ap (λ t. sets (q .put-row .last .0) 7 (flat t)) z)
-          (u .put-rows2 .ensures ∙ ap (λ t. sets (b .put-rows .last .0) 23 (flat t)) y)
-          (v .put-rows3 .ensures ∙ ap (λ t. sets (u .put-rows2 .last .0) 39 (flat t)) x),
+          (b .put-vectors .ensures ∙ ap (λ t. sets (q .put-row .last .0) 7 (flat t)) z)
+          (u .put-table .ensures ∙ ap (λ t. sets (b .put-vectors .last .0) 23 (flat t)) y)
+          (v .put-table2 .ensures ∙ ap (λ t. sets (u .put-table .last .0) 39 (flat t)) x),
     )
 
 pub raghymtos-reduce-spec : {M : Type 1} → statement M
@@ -104,10 +104,10 @@ raghymtos-reduce-spec =
     put-head-requires
     put-row-requires
     vectors-of-requires
-    put-rows-requires
+    put-vectors-requires
     tables-of-requires
-    put-rows-requires-2
+    put-table-requires
     tables-of-requires-2
-    put-rows-requires-3
+    put-table-requires-2
     same-length
     returns-2)

@@ -1,9 +1,11 @@
 -- Four rows are stored one after another.
-use denote.Ref.{now}
-use Rattle.exports.specs.Runs.{rows-stored}
 use borrow.Author.Needs.{needs}
-use Rattle.exports.proofs.put_rows.Statement.{statement}
-use Rattle.exports.proofs.put_rows.Tie as tie
+use native.Mathlib.Omega.{arith}
+use denote.Ref.{now}
+use Rattle.lattices.specs.Refusal.{mostVectors}
+use Rattle.exports.specs.Runs.{rows-stored}
+use Rattle.exports.proofs.put_table.Statement.{statement}
+use Rattle.exports.proofs.put_table.Tie as tie
 
 array-copy-out-put-row : tie.Need-array-copy-out-put-row
 array-copy-out-put-row c = search needs
@@ -48,12 +50,12 @@ returns c =
     let two = three .before .before .before .before in
     let one = two .before .before .before .before in
     let s = one .before .before .before in
-    rows-stored (now (s .args .out)) (s .args .at) (s .args .t3) (search needs)
-    (one .put-row .ensures .1) (two .put-row2 .ensures .1) (three .put-row3 .ensures .1)
+    rows-stored mostVectors (now (s .args .out)) (s .args .at) _ _ _ (s .args .t3) (search needs)
+    (one .put-row .ensures .1) (two .put-row2 .ensures .1) (three .put-row3 .ensures .1) (omega arith) (omega arith) (omega arith)
     (one .put-row .ensures .0) (two .put-row2 .ensures .0) (three .put-row3 .ensures .0) (four .put-row4 .ensures .0)
 
-pub put-rows-spec : {M : Type 1} → statement M
-put-rows-spec =
+pub put-table-spec : {M : Type 1} → statement M
+put-table-spec =
     tie.close
     (tie.spec
     array-copy-out-put-row
