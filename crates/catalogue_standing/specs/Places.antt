@@ -11,7 +11,6 @@ use lib.ListN.{length, getD, set, length-set}
 use lib.Seq.{getD-set-same, getD-set-other}
 use borrow.Author.Tests.{eq-eqb, ne-eqb}
 use Rattle.catalogue_standing.specs.declared.reduced_entry.ReducedEntry.{ReducedEntry}
-use Rattle.lattice_membership.specs.Laws.Minor.{one-more}
 use Rattle.catalogue_standing.specs.ReducedEntry.{noReduced, sameReduced}
 
 -- r is the first place below n of which a test speaks, and n where it speaks of none
@@ -43,7 +42,11 @@ first-like {f} {g} {n} {r} same p = record { within = p .within; before = λ j h
 
 -- one place more is known
 pub before-more : (f : ℕ → Bool) (j : ℕ) → ((i : ℕ) → i < j → f i ≡ false) → f j ≡ false → (i : ℕ) → i < j + 1 → f i ≡ false
-before-more f = one-more (λ i. f i ≡ false)
+before-more f j h e i l = go (decLt i j)
+  where
+    go : Dec (i < j) → f i ≡ false
+    go (yes m) = h i m
+    go (no m) = let same : i ≡ j = omega arith in ap f same ∙ e
 
 pub closed-none : (list : List ReducedEntry) (places : List ℕ) → length places ≡ 256 → Closed list 0 places
 closed-none list places long = record { long = long; first = λ k h. absurd (omega arith) }
