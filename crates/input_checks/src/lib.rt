@@ -19,9 +19,9 @@ use minors::first_minor;
 pub mod minors;
 
 // How many vectors and coordinates an input may have.
-const MOST_VECTORS: usize = 4;
+pub const MOST_VECTORS: usize = 4;
 
-const MOST_COORDINATES: usize = 4;
+pub const MOST_COORDINATES: usize = row_operations::WIDTH;
 
 // No refusal applies.
 const ACCEPTED: u64 = 0;
