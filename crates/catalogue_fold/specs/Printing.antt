@@ -9,7 +9,7 @@ use lib.Dec.{eqb}
 use lib.IntN.{pos}
 use lib.ListN.{length, getD, take}
 use Rattle.catalogue_rules.specs.Catalogue as definition
-use Rattle.catalogue_rules.specs.Catalogue.{See, coordinates, seeNumber}
+use Rattle.catalogue_rules.specs.Catalogue.{See, coordinates, seeNumber, mostNumbers}
 use Rattle.catalogue_rules.specs.Form.{WellFormed}
 use Rattle.fold_rules.specs.Fold.{closedList, lookup, led, followed}
 use Rattle.fold_rules.specs.Laws.Lookup.{led-own, led-other}
@@ -38,7 +38,7 @@ printedAs e k w = record {
   sees = w .sees;
   see = w .number;
   at = w .at;
-  coordinates = filled (pos 0) 16 (coordinates (map (take (k .m)) (basisIn k)));
+  coordinates = filled (pos 0) mostNumbers (coordinates (map (take (k .m)) (basisIn k)));
 }
 
 -- r is the way of e's see word in every list of entries that the numbers and places are of

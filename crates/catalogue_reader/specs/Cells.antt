@@ -12,7 +12,7 @@ use lib.Seq.{take-suc-set}
 use Rattle.lattices.specs.Vector.{Vec}
 use Rattle.catalogue_rules.specs.Word.{Word, head, coordinate, see, end, other}
 use Rattle.catalogue_rules.specs.Catalogue as definition
-use Rattle.catalogue_rules.specs.Catalogue.{Head, coordinates}
+use Rattle.catalogue_rules.specs.Catalogue.{Head, coordinates, mostNumbers}
 use Rattle.catalogue_rules.specs.Read.{State, outside, inside, after, closed, coordinateOf, withVector, withCoordinate}
 use Rattle.catalogue_rules.specs.Laws.Moves.{Moves, by-head, by-coordinate, by-see, by-end}
 use Rattle.catalogue_rules.specs.Laws.RoundTrip.{coordinates-snoc}
@@ -29,7 +29,7 @@ placed l n (other k load) = l
 -- there is room for a coordinate, and its load is within the limit
 abbrev pub Place : ℕ → Word → Type 0
 Place n (head number d m) = Unit {0}
-Place n (coordinate load) = n < 16
+Place n (coordinate load) = n < mostNumbers
 Place n (see number) = Unit {0}
 Place n (end count) = Unit {0}
 Place n (other k load) = Unit {0}
@@ -43,10 +43,10 @@ cellsOf (closed es) = []
 
 -- they stand in the first places of the array
 pub record Cells (s : State) (l : List ℤ) : Type 0 where
-  pub long : length l ≡ 16
+  pub long : length l ≡ mostNumbers
   pub first : take (length (cellsOf s)) l ≡ cellsOf s
 
-pub cells-none : (es : List definition.Entry) (l : List ℤ) → length l ≡ 16 → Cells (outside es) l
+pub cells-none : (es : List definition.Entry) (l : List ℤ) → length l ≡ mostNumbers → Cells (outside es) l
 cells-none es l e = record { long = e; first = refl }
 
 module _ (es : List definition.Entry) (h : Head) (vs : List Vec) (u : Vec) where

@@ -12,7 +12,7 @@ use lib.Seq.{drop-cons}
 use borrow.Author.Tests.{lt-ltb, le-ltb}
 use Rattle.catalogue_rules.specs.Word.{Word, decode}
 use Rattle.catalogue_rules.specs.Laws.Word.{InRange, decode-range}
-use Rattle.catalogue_rules.specs.Catalogue.{Outcome, refused}
+use Rattle.catalogue_rules.specs.Catalogue.{Outcome, refused, mostEntries, mostNumbers}
 use Rattle.catalogue_rules.specs.Read.{State, outside, inside, after, closed, Step, next, stop, step, atLast, readWords}
 use Rattle.catalogue_rules.specs.Laws.Moves.{Moves, by-head, by-coordinate, by-see, by-end, Going, moved}
 use Rattle.catalogue_rules.specs.Laws.WellFormed.{Known, known-moves, nothing-read}
@@ -39,10 +39,10 @@ pub record Reached (words : List ℕ) (i : ℕ) (entries : List Entry) (numbers 
   pub onward : Onward words i state
   pub shown : s ≡ readingOf state
   pub stores : entries ≡ stored (wholeIn state)
-  pub notes : numbers ≡ filled 0 256 (numbersOf state)
+  pub notes : numbers ≡ filled 0 mostEntries (numbersOf state)
   pub cells : Cells state coordinates
 
-pub at-start : (words : List ℕ) (coordinates : List ℤ) → length coordinates ≡ 16 → Reached words 0 (stored []) (filled 0 256 []) coordinates (stopped 0)
+pub at-start : (words : List ℕ) (coordinates : List ℤ) → length coordinates ≡ mostNumbers → Reached words 0 (stored []) (filled 0 mostEntries []) coordinates (stopped 0)
 at-start words coordinates long = record {
   state = outside [];
   onward = record { known = nothing-read; due = tt; rest = refl };
@@ -72,7 +72,7 @@ filled-count (inside es h vs v) = refl
 filled-count (after es h vs) = refl
 filled-count (closed es) = refl
 
-few : (s : State) → Known s → length (wholeIn s) ≤ 256
+few : (s : State) → Known s → length (wholeIn s) ≤ mostEntries
 few (outside es) k = k .few
 few (inside es h vs v) k = k .0 .entered .few
 few (after es h vs) k = k .0 .entered .few
@@ -108,11 +108,11 @@ module _ (words : List ℕ) (i : ℕ) {entries : List Entry} {numbers : List ℕ
   cells-count : s .part .filled ≡ length (cellsOf (r .state))
   cells-count = ap (λ x. x .part .filled) (r .shown) ∙ filled-count (r .state)
 
-  pub cells-room : (s .part .filled ≤ 16) × (length coordinates ≡ 16)
+  pub cells-room : (s .part .filled ≤ mostNumbers) × (length coordinates ≡ mostNumbers)
   cells-room = (omega (arith, cells-count, length-take (length (cellsOf (r .state))) coordinates, ap length (r .cells .first), r .cells .long), r .cells .long)
 
   pub reached-ready : ReadyFor numbers s
-  reached-ready = subst (λ l. ReadyFor l s) (sym (r .notes)) (subst (ReadyFor (filled 0 256 (numbersOf (r .state)))) (sym (r .shown)) (ready (r .state) (r .onward .known) (r .onward .due)))
+  reached-ready = subst (λ l. ReadyFor l s) (sym (r .notes)) (subst (ReadyFor (filled 0 mostEntries (numbersOf (r .state)))) (sym (r .shown)) (ready (r .state) (r .onward .known) (r .onward .due)))
 
   module _ (here : i < length words) {t : Reading} {w : Word} (word : w ≡ decode (getD words i 0)) (read : t ≡ stepRead numbers s i w) where
     turned : t ≡ stepOf (step (r .state) i w)
@@ -164,7 +164,7 @@ module _ (words : List ℕ) (i : ℕ) {entries : List Entry} {numbers : List ℕ
         })
 
     -- there is room for one entry more, and for a head's number
-    pub counted : t .refusal ≡ 0 → t .count ≤ 256
+    pub counted : t .refusal ≡ 0 → t .count ≤ mostEntries
     counted goes =
         let m = moves-on goes in
         omega (arith, ap (λ x. x .count) (m .shown), whole-count (m .state), few (m .state) (m .onward .known))
@@ -182,7 +182,7 @@ module _ (words : List ℕ) (i : ℕ) {entries : List Entry} {numbers : List ℕ
 -- what is stored, as the code decides it
 module _ (l : List Entry) (s t : Reading) (cs : List ℤ) (i : ℕ) (w : Word) where
   abbrev new : Entry
-  new = wholeAt (s .part) (filled (pos 0) 16 (take (s .part .filled) cs)) i w
+  new = wholeAt (s .part) (filled (pos 0) mostNumbers (take (s .part .filled) cs)) i w
 
   pub stores-one : s .count < t .count → set l (s .count) new ≡ put l s t cs i w
   stores-one h = sym (ap (λ b. cond b (set l (s .count) new) l) (lt-ltb _ _ h))

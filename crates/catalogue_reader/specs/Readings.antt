@@ -8,7 +8,7 @@ use lib.IntN.{pos}
 use lib.Signed.{ltZ}
 use Rattle.integers.specs.Every.{any}
 use Rattle.integers.specs.Size.{Within}
-use Rattle.lattices.specs.Refusal.{oneTo, mostSquare}
+use Rattle.lattices.specs.Refusal.{oneTo, mostSquare, mostVectors, mostCoordinates}
 use Rattle.catalogue_rules.specs.Word.{Word, head, coordinate, see, end, other}
 use Rattle.catalogue_rules.specs.Read.{checked, coordinateOf}
 use Rattle.catalogue_reader.specs.declared.reading.Phase.{Phase}
@@ -16,6 +16,7 @@ use Rattle.catalogue_reader.specs.declared.reading.Phase.the-variants.{O
 use Rattle.catalogue_reader.specs.declared.parts.Part.{Part}
 use Rattle.catalogue_reader.specs.declared.reading.Reading.{Reading}
 use Rattle.catalogue_reader.specs.Parts.{noPart, started, putCoordinate, putVector}
+use Rattle.catalogue_rules.specs.Catalogue.{mostEntries, mostNumbers}
 
 abbrev pub isNumber : ℕ → ℕ → Bool
 isNumber n k = eqb k n
@@ -30,9 +31,9 @@ stopped n = record { refusal = n; phase = Outside; count = 0; part = noPart }
 abbrev pub headRead : List ℕ → Reading → ℕ → ℕ → ℕ → ℕ → Reading
 headRead numbers s number d m i =
     checked stopped
-    ((leb 256 (s .count), 15)
-    ∷ (not (oneTo 4 d), 1)
-    ∷ (not (oneTo 4 m), 2)
+    ((leb mostEntries (s .count), 15)
+    ∷ (not (oneTo mostVectors d), 1)
+    ∷ (not (oneTo mostCoordinates m), 2)
     ∷ (eqb number 0 || any (isNumber number) (take (s .count) numbers), 11)
     ∷ [])
     (going Inside (s .count) (started number d m i))
@@ -96,8 +97,8 @@ stepRead numbers s i w = phaseRead (s .phase) numbers s i w
 -- there is room for what may come next
 abbrev pub RoomIn : Phase → List ℕ → Reading → Type 0
 RoomIn Outside numbers s = s .count ≤ length numbers
-RoomIn Inside numbers s = (s .part .row < 4) × ((s .part .column < 4) × ((s .part .filled < 16) × Within 4000000000 (s .part .square)))
-RoomIn After numbers s = (s .count < 256) × (s .count < length numbers)
+RoomIn Inside numbers s = (s .part .row < mostVectors) × ((s .part .column < mostCoordinates) × ((s .part .filled < mostNumbers) × Within 4000000000 (s .part .square)))
+RoomIn After numbers s = (s .count < mostEntries) × (s .count < length numbers)
 RoomIn Closed numbers s = Unit {0}
 
 pub record ReadyFor (numbers : List ℕ) (s : Reading) : Type 0 where

@@ -14,7 +14,7 @@ use Rattle.integers.specs.Size.{Within, within-le, within-add, within-mul}
 use Rattle.integers.specs.Tests.{neither}
 use Rattle.lattices.specs.Refusal.{mostSize}
 use Rattle.lattices.specs.Vector.{Vec, N, dot}
-use Rattle.catalogue_rules.specs.Catalogue.{Head, See, coordinates, seeNumber}
+use Rattle.catalogue_rules.specs.Catalogue.{Head, See, coordinates, seeNumber, mostNumbers}
 use Rattle.catalogue_rules.specs.Laws.RoundTrip.{coordinates-snoc}
 use Rattle.catalogue_reader.specs.declared.parts.Part.{Part}
 use Rattle.integers.specs.Filled.{filled}
@@ -72,5 +72,5 @@ module _ (h : Head) (vs : List Vec) (v : Vec) where
   part-vector = ap₂ (λ r n. made r 0 (pos 0) n) (length-snoc vs v) (ap length (sym (append-nil (coordinates (vs ++ (v ∷ []))) ∙ coordinates-snoc vs v)))
 
 -- the entry is whole
-pub whole-entry : (h : Head) (vs : List Vec) (s : Option See) → whole (partOf h vs []) (filled (pos 0) 16 (coordinates vs)) (sees s) (seeNumber s) (seePlace s) ≡ entryOf (record { head = h; vectors = vs; see = s })
+pub whole-entry : (h : Head) (vs : List Vec) (s : Option See) → whole (partOf h vs []) (filled (pos 0) mostNumbers (coordinates vs)) (sees s) (seeNumber s) (seePlace s) ≡ entryOf (record { head = h; vectors = vs; see = s })
 whole-entry h vs s = refl

@@ -11,10 +11,10 @@ use lib.ListN.{length, take, length-append}
 use lib.Signed.{ltZ}
 use Rattle.lattices.specs.Vector.{Vec, N, dot}
 use Rattle.integers.specs.Every.{any}
-use Rattle.lattices.specs.Refusal.{oneTo, mostSize, mostSquare}
+use Rattle.lattices.specs.Refusal.{oneTo, mostSize, mostSquare, mostVectors, mostCoordinates}
 use Rattle.catalogue_rules.specs.Word.{Word, head, coordinate, see, end, other}
 use Rattle.catalogue_rules.specs.Catalogue as definition
-use Rattle.catalogue_rules.specs.Catalogue.{Head, See, coordinates}
+use Rattle.catalogue_rules.specs.Catalogue.{Head, See, coordinates, mostEntries, mostNumbers}
 use Rattle.catalogue_rules.specs.Read.{State, outside, inside, after, closed, Step, next, stop, checked, isNumbered, withEntry, headRows, atHead, coordinateOf, withVector, atCoordinate, atEnd, step}
 use Rattle.catalogue_reader.specs.declared.reading.Phase.{Phase}
 use Rattle.catalogue_reader.specs.declared.reading.Phase.the-variants.{Outside, Inside, After, Closed}
@@ -51,10 +51,10 @@ numbersOf (closed es) = numbers es
 
 -- what a step relies on
 abbrev pub Fine : State → Type 0
-Fine (outside es) = length es ≤ 256
-Fine (inside es h vs v) = (length v < 4) × (length (coordinates vs ++ v) < 16) × (any (λ x. ltb mostSize (natAbs x)) v ≡ false)
-Fine (after es h vs) = length es < 256
-Fine (closed es) = length es ≤ 256
+Fine (outside es) = length es ≤ mostEntries
+Fine (inside es h vs v) = (length v < mostCoordinates) × (length (coordinates vs ++ v) < mostNumbers) × (any (λ x. ltb mostSize (natAbs x)) v ≡ false)
+Fine (after es h vs) = length es < mostEntries
+Fine (closed es) = length es ≤ mostEntries
 
 -- ---- rows
 
@@ -73,19 +73,19 @@ pub length-numbers : (es : List definition.Entry) → length (numbers es) ≡ le
 length-numbers [] = refl
 length-numbers (e ∷ es) = ap suc (length-numbers es)
 
-used-numbers : (n : ℕ) (es : List definition.Entry) → length es ≤ 256 → any (isNumber n) (take (length es) (filled 0 256 (numbers es))) ≡ any (isNumbered n) es
+used-numbers : (n : ℕ) (es : List definition.Entry) → length es ≤ mostEntries → any (isNumber n) (take (length es) (filled 0 mostEntries (numbers es))) ≡ any (isNumbered n) es
 used-numbers n es h =
-    ap (λ k. any (isNumber n) (take k (filled 0 256 (numbers es)))) (sym (length-numbers es))
-    ∙ ap (any (isNumber n)) (take-filled 0 256 (numbers es) (omega (arith, length-numbers es)))
+    ap (λ k. any (isNumber n) (take k (filled 0 mostEntries (numbers es)))) (sym (length-numbers es))
+    ∙ ap (any (isNumber n)) (take-filled 0 mostEntries (numbers es) (omega (arith, length-numbers es)))
     ∙ any-map (isNumber n) (λ e. e .head .number) es
 
 -- ---- a head and the end, after entries
 
-head-step : (es : List definition.Entry) (f : Phase) (p : Part) (number d m i : ℕ) → length es ≤ 256
-    → headRead (filled 0 256 (numbers es)) (reading f es p) number d m i ≡ stepOf (atHead es (record { number = number; d = d; m = m; place = i }))
+head-step : (es : List definition.Entry) (f : Phase) (p : Part) (number d m i : ℕ) → length es ≤ mostEntries
+    → headRead (filled 0 mostEntries (numbers es)) (reading f es p) number d m i ≡ stepOf (atHead es (record { number = number; d = d; m = m; place = i }))
 unfolding dot
 head-step es f p number d m i h =
-    let rows : Bool → List (Bool × ℕ) = λ t. (leb 256 (length es), 15) ∷ (not (oneTo 4 d), 1) ∷ (not (oneTo 4 m), 2) ∷ (eqb number 0 || t, 11) ∷ [] in
+    let rows : Bool → List (Bool × ℕ) = λ t. (leb mostEntries (length es), 15) ∷ (not (oneTo mostVectors d), 1) ∷ (not (oneTo mostCoordinates m), 2) ∷ (eqb number 0 || t, 11) ∷ [] in
     ap (λ t. checked stopped (rows t) (going Inside (length es) (started number d m i))) (used-numbers number es h)
     ∙ step-rows (headRows es (record { number = number; d = d; m = m; place = i })) (inside es (record { number = number; d = d; m = m; place = i }) [] [])
 
@@ -125,7 +125,7 @@ module _ (es : List definition.Entry) (h : Head) (vs : List Vec) where
 
 -- ---- every step
 
-pub step-shown : (s : State) (i : ℕ) (w : Word) → Fine s → stepRead (filled 0 256 (numbersOf s)) (readingOf s) i w ≡ stepOf (step s i w)
+pub step-shown : (s : State) (i : ℕ) (w : Word) → Fine s → stepRead (filled 0 mostEntries (numbersOf s)) (readingOf s) i w ≡ stepOf (step s i w)
 unfolding step
 step-shown (outside es) i (head number d m) fine = head-step es Outside noPart number d m i fine
 step-shown (outside es) i (coordinate l) fine = refl
@@ -139,7 +139,7 @@ step-shown (inside es h vs v) i (end count) fine = refl
 step-shown (inside es h vs v) i (other k l) fine = refl
 step-shown (after es h vs) i (head number d m) fine =
     let e : definition.Entry = record { head = h; vectors = vs; see = none } in
-    ap₂ (λ ns s. headRead (filled 0 256 ns) s number d m i) (map-snoc (λ e. e .head .number) es e) (entry-step es h vs none)
+    ap₂ (λ ns s. headRead (filled 0 mostEntries ns) s number d m i) (map-snoc (λ e. e .head .number) es e) (entry-step es h vs none)
     ∙ head-step (withEntry es h vs none) Outside noPart number d m i (omega (arith, length-append es (e ∷ []), fine))
 step-shown (after es h vs) i (coordinate l) fine = refl
 step-shown (after es h vs) i (see number) fine = entry-step es h vs (some (record { number = number; place = i }))

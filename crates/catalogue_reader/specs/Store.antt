@@ -12,7 +12,7 @@ use borrow.Author.Tests.{lt-ltb, le-ltb, leb-false}
 use Rattle.lattices.specs.Vector.{Vec}
 use Rattle.catalogue_rules.specs.Word.{Word, head, coordinate, see, end, other}
 use Rattle.catalogue_rules.specs.Catalogue as definition
-use Rattle.catalogue_rules.specs.Catalogue.{Head, See, coordinates, seeNumber}
+use Rattle.catalogue_rules.specs.Catalogue.{Head, See, coordinates, seeNumber, mostEntries, mostNumbers}
 use Rattle.catalogue_rules.specs.Read.{State, outside, inside, after, closed, coordinateOf, withVector, withCoordinate}
 use Rattle.catalogue_rules.specs.Laws.Moves.{Moves, by-head, by-coordinate, by-see, by-end, Between, between, unreferred}
 use Rattle.catalogue_records.specs.declared.Entry.{Entry}
@@ -35,27 +35,27 @@ wholeIn (closed es) = es
 
 -- what a step stores: the entry that its word at index i made whole, if it did; l holds its coordinates
 abbrev pub put : List Entry → Reading → Reading → List ℤ → ℕ → Word → List Entry
-put es s t l i w = cond (ltb (s .count) (t .count)) (set es (s .count) (wholeAt (s .part) (filled (pos 0) 16 (take (s .part .filled) l)) i w)) es
+put es s t l i w = cond (ltb (s .count) (t .count)) (set es (s .count) (wholeAt (s .part) (filled (pos 0) mostNumbers (take (s .part .filled) l)) i w)) es
 
 -- no entry more, or one
 same : (es : List definition.Entry) (x : Entry) → cond (ltb (length es) (length es)) (set (stored es) (length es) x) (stored es) ≡ stored es
 same es x = ap (λ t. cond t (set (stored es) (length es) x) (stored es)) (le-ltb (length es) (length es) (omega arith))
 
-module _ (es : List definition.Entry) (h : Head) (vs : List Vec) (s : Option See) (l : List ℤ) (c : Cells (after es h vs) l) (few : length es < 256) where
+module _ (es : List definition.Entry) (h : Head) (vs : List Vec) (s : Option See) (l : List ℤ) (c : Cells (after es h vs) l) (few : length es < mostEntries) where
   abbrev new : definition.Entry
   new = record { head = h; vectors = vs; see = s }
 
-  entry-is : whole (partOf h vs []) (filled (pos 0) 16 (take (length (coordinates vs ++ [])) l)) (sees s) (seeNumber s) (seePlace s) ≡ entryOf new
-  entry-is = ap (λ k. whole (partOf h vs []) (filled (pos 0) 16 k) (sees s) (seeNumber s) (seePlace s)) (c .first ∙ append-nil (coordinates vs)) ∙ whole-entry h vs s
+  entry-is : whole (partOf h vs []) (filled (pos 0) mostNumbers (take (length (coordinates vs ++ [])) l)) (sees s) (seeNumber s) (seePlace s) ≡ entryOf new
+  entry-is = ap (λ k. whole (partOf h vs []) (filled (pos 0) mostNumbers k) (sees s) (seeNumber s) (seePlace s)) (c .first ∙ append-nil (coordinates vs)) ∙ whole-entry h vs s
 
   more : cond (ltb (length es) (length (es ++ (new ∷ []))))
-      (set (stored es) (length es) (whole (partOf h vs []) (filled (pos 0) 16 (take (length (coordinates vs ++ [])) l)) (sees s) (seeNumber s) (seePlace s))) (stored es)
+      (set (stored es) (length es) (whole (partOf h vs []) (filled (pos 0) mostNumbers (take (length (coordinates vs ++ [])) l)) (sees s) (seeNumber s) (seePlace s))) (stored es)
       ≡ stored (es ++ (new ∷ []))
   more =
       ap₂ (λ t x. cond t (set (stored es) (length es) x) (stored es)) (lt-ltb (length es) (length (es ++ (new ∷ []))) (omega (arith, length-append es (new ∷ [])))) entry-is
       ∙ ap (λ n. set (stored es) n (entryOf new)) (sym (length-map es entryOf))
-      ∙ filled-next noEntry 256 (map entryOf es) (entryOf new) (omega (arith, length-map es entryOf))
-      ∙ ap (filled noEntry 256) (map-snoc entryOf es new)
+      ∙ filled-next noEntry mostEntries (map entryOf es) (entryOf new) (omega (arith, length-map es entryOf))
+      ∙ ap (filled noEntry mostEntries) (map-snoc entryOf es new)
 
 module _ (es : List definition.Entry) (h : Head) (vs : List Vec) (v u : Vec) (l : List ℤ) (i : ℕ) (w : Word) where
   within-vector : put (stored es) (readingOf (inside es h vs v)) (readingOf (withVector es h (vs ++ (u ∷ [])))) l i w ≡ stored (wholeIn (withVector es h (vs ++ (u ∷ []))))
@@ -95,16 +95,16 @@ noted l n (other k load) = l
 
 -- there is room for the number of a head
 abbrev pub Space : ℕ → Word → Type 0
-Space n (head number d m) = n < 256
+Space n (head number d m) = n < mostEntries
 Space n (coordinate load) = Unit {0}
 Space n (see number) = Unit {0}
 Space n (end count) = Unit {0}
 Space n (other k load) = Unit {0}
 
-new-number : (es : List definition.Entry) (n : ℕ) → length es < 256 → set (filled 0 256 (numbers es)) (length es) n ≡ filled 0 256 (numbers es ++ (n ∷ []))
+new-number : (es : List definition.Entry) (n : ℕ) → length es < mostEntries → set (filled 0 mostEntries (numbers es)) (length es) n ≡ filled 0 mostEntries (numbers es ++ (n ∷ []))
 new-number es n h =
-    ap (λ k. set (filled 0 256 (numbers es)) k n) (sym (length-numbers es))
-    ∙ filled-next 0 256 (numbers es) n (omega (arith, length-numbers es))
+    ap (λ k. set (filled 0 mostEntries (numbers es)) k n) (sym (length-numbers es))
+    ∙ filled-next 0 mostEntries (numbers es) n (omega (arith, length-numbers es))
 
 between-numbers : {s : State} {es : List definition.Entry} → Between s es → numbersOf s ≡ numbers es
 between-numbers (between es) = refl
@@ -116,11 +116,11 @@ coordinate-numbers es h vs u true true = refl
 coordinate-numbers es h vs u true false = refl
 coordinate-numbers es h vs u false b = refl
 
-pub numbers-moves : {s t : State} {i : ℕ} {w : Word} → Moves s i w t → noted (filled 0 256 (numbersOf s)) (length (wholeIn t)) w ≡ filled 0 256 (numbersOf t)
+pub numbers-moves : {s t : State} {i : ℕ} {w : Word} → Moves s i w t → noted (filled 0 mostEntries (numbersOf s)) (length (wholeIn t)) w ≡ filled 0 mostEntries (numbersOf t)
 numbers-moves (by-head {es} h b p) =
-    ap (λ ns. set (filled 0 256 ns) (length es) (h .number)) (between-numbers b) ∙ new-number es (h .number) (leb-false _ _ (p .0))
+    ap (λ ns. set (filled 0 mostEntries ns) (length es) (h .number)) (between-numbers b) ∙ new-number es (h .number) (leb-false _ _ (p .0))
 numbers-moves (by-coordinate es h vs v l p) =
     let u = v ++ (coordinateOf l ∷ []) in
-    ap (filled 0 256) (coordinate-numbers es h vs u (eqb (length u) (h .m)) (eqb (length (vs ++ (u ∷ []))) (h .d)))
-numbers-moves (by-see es h vs s) = ap (filled 0 256) (map-snoc (λ e. e .head .number) es (record { head = h; vectors = vs; see = some s }))
-numbers-moves (by-end b) = ap (filled 0 256) (between-numbers b)
+    ap (filled 0 mostEntries) (coordinate-numbers es h vs u (eqb (length u) (h .m)) (eqb (length (vs ++ (u ∷ []))) (h .d)))
+numbers-moves (by-see es h vs s) = ap (filled 0 mostEntries) (map-snoc (λ e. e .head .number) es (record { head = h; vectors = vs; see = some s }))
+numbers-moves (by-end b) = ap (filled 0 mostEntries) (between-numbers b)

@@ -14,7 +14,7 @@ use mir.Facts.{toZ-ofZ, toZ-pos}
 use borrow.Author.Tests.{eq-eqb, ne-eqb, le-ltb, ltb-false}
 use Rattle.integers.specs.Size.{Within, within-sub, fits-within}
 use Rattle.integers.specs.Every.{any}
-use Rattle.lattices.specs.Refusal.{oneTo, mostSize, mostSquare}
+use Rattle.lattices.specs.Refusal.{oneTo, mostSize, mostSquare, mostVectors, mostCoordinates}
 use Rattle.catalogue_rules.specs.Read.{checked, coordinateOf}
 use Rattle.catalogue_rules.specs.Laws.WellFormed.{load-within}
 use Rattle.catalogue_reader.specs.declared.reading.Phase.{Phase}
@@ -23,6 +23,7 @@ use Rattle.catalogue_reader.specs.declared.parts.Part.{Part}
 use Rattle.catalogue_reader.specs.declared.reading.Reading.{Reading}
 use Rattle.catalogue_reader.specs.Parts.{started, putCoordinate, putVector}
 use Rattle.catalogue_reader.specs.Readings.{isNumber, going, stopped, headRead, vectorPhase, vectorRead, columnRead, coordinateRead}
+use Rattle.catalogue_rules.specs.Catalogue.{mostEntries}
 
 -- a row applies, or it does not
 pub applies : {t : Bool} (n : ℕ) (rows : List (Bool × ℕ)) (s : Reading) → t ≡ true → stopped n ≡ checked stopped ((t, n) ∷ rows) s
@@ -34,13 +35,13 @@ skips n rows s e = sym (ap (λ t. checked stopped ((t, n) ∷ rows) s) e)
 -- the rows of a head, each with what it has tested
 module _ (numbers : List ℕ) (s : Reading) (number d m i : ℕ) where
   full : Bool
-  full = leb 256 (s .count)
+  full = leb mostEntries (s .count)
 
   many : Bool
-  many = not (oneTo 4 d)
+  many = not (oneTo mostVectors d)
 
   wide : Bool
-  wide = not (oneTo 4 m)
+  wide = not (oneTo mostCoordinates m)
 
   used : Bool
   used = eqb number 0 || any (isNumber number) (take (s .count) numbers)
@@ -48,29 +49,29 @@ module _ (numbers : List ℕ) (s : Reading) (number d m i : ℕ) where
   by-rows : Bool → Bool → Bool → Bool → Reading
   by-rows a b c e = checked stopped ((a, 15) ∷ (b, 1) ∷ (c, 2) ∷ (e, 11) ∷ []) (going Inside (s .count) (started number d m i))
 
-  pub head-15 : leb 256 (s .count) ≡ true → stopped 15 ≡ headRead numbers s number d m i
+  pub head-15 : leb mostEntries (s .count) ≡ true → stopped 15 ≡ headRead numbers s number d m i
   unfolding full many wide used by-rows
   head-15 e = sym (ap (λ a. by-rows a many wide used) e)
 
-  pub head-1 : leb 256 (s .count) ≡ false → not (oneTo 4 d) ≡ true → stopped 1 ≡ headRead numbers s number d m i
+  pub head-1 : leb mostEntries (s .count) ≡ false → not (oneTo mostVectors d) ≡ true → stopped 1 ≡ headRead numbers s number d m i
   unfolding full many wide used by-rows
   head-1 e f = sym (ap₂ (λ a b. by-rows a b wide used) e f)
 
-  pub head-2 : leb 256 (s .count) ≡ false → not (oneTo 4 d) ≡ false → not (oneTo 4 m) ≡ true → stopped 2 ≡ headRead numbers s number d m i
+  pub head-2 : leb mostEntries (s .count) ≡ false → not (oneTo mostVectors d) ≡ false → not (oneTo mostCoordinates m) ≡ true → stopped 2 ≡ headRead numbers s number d m i
   unfolding full many wide used by-rows
   head-2 e f g = sym (ap₂ (λ a b. by-rows a b wide used) e f ∙ ap (λ c. by-rows false false c used) g)
 
-  head-number : {t : Bool} → leb 256 (s .count) ≡ false → not (oneTo 4 d) ≡ false → not (oneTo 4 m) ≡ false
+  head-number : {t : Bool} → leb mostEntries (s .count) ≡ false → not (oneTo mostVectors d) ≡ false → not (oneTo mostCoordinates m) ≡ false
       → (eqb number 0 || any (isNumber number) (take (s .count) numbers)) ≡ t → by-rows false false false t ≡ headRead numbers s number d m i
   unfolding full many wide used by-rows
   head-number e f g h = sym (ap₂ (λ a b. by-rows a b wide used) e f ∙ ap₂ (λ c e. by-rows false false c e) g h)
 
-  pub head-11 : leb 256 (s .count) ≡ false → not (oneTo 4 d) ≡ false → not (oneTo 4 m) ≡ false
+  pub head-11 : leb mostEntries (s .count) ≡ false → not (oneTo mostVectors d) ≡ false → not (oneTo mostCoordinates m) ≡ false
       → (eqb number 0 || any (isNumber number) (take (s .count) numbers)) ≡ true → stopped 11 ≡ headRead numbers s number d m i
   unfolding by-rows
   head-11 e f g h = head-number e f g h
 
-  pub head-goes : leb 256 (s .count) ≡ false → not (oneTo 4 d) ≡ false → not (oneTo 4 m) ≡ false
+  pub head-goes : leb mostEntries (s .count) ≡ false → not (oneTo mostVectors d) ≡ false → not (oneTo mostCoordinates m) ≡ false
       → (eqb number 0 || any (isNumber number) (take (s .count) numbers)) ≡ false → going Inside (s .count) (started number d m i) ≡ headRead numbers s number d m i
   unfolding by-rows
   head-goes e f g h = head-number e f g h

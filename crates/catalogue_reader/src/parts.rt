@@ -7,8 +7,11 @@ ghost use Rattle.integers.specs.Filled.{filled};
 ghost use Rattle.integers.specs.Size.{Within};
 ghost use Rattle.catalogue_reader.specs.Words.{wordIn};
 ghost use Rattle.catalogue_reader.specs.Parts.{noPart, putCoordinate, putVector, started, whole, wholeAt};
+ghost use Rattle.catalogue_rules.specs.Catalogue.{mostNumbers};
+ghost use Rattle.lattices.specs.Refusal.{mostVectors, mostCoordinates};
 use super::words::Word;
 use catalogue_records::Entry;
+use catalogue_records::NUMBERS;
 
 // What is read of an entry: its head, how many vectors are whole, how many coordinates of the next one and the sum of their squares, and how many
 // coordinates in all. The coordinates themselves stand in an array beside it, so that no step copies them.
@@ -48,7 +51,7 @@ impl Part {
 
     // One coordinate more.
     pub(crate) fn with_coordinate(self, x: i64) -> Part
-        requires { ⌜ self .column < 4 ⌝ }
+        requires { ⌜ self .column < mostCoordinates ⌝ }
         requires { ⌜ self .filled < 16 ⌝ }
         requires { ⌜ Within 4000000000 (self .square) ⌝ }
         requires { ⌜ Within 20000 x ⌝ }
@@ -68,7 +71,7 @@ impl Part {
 
     // The vector is whole: the next one starts.
     pub(crate) fn with_vector(self) -> Part
-        requires { ⌜ self .row < 4 ⌝ }
+        requires { ⌜ self .row < mostVectors ⌝ }
         ensures { λ r. ⌜ r ≡ putVector self ⌝ }
     {
         Part {
@@ -84,7 +87,7 @@ impl Part {
     }
 
     // The entry is whole, with or without a see word.
-    fn entry(self, coordinates: [i64; 16], sees: bool, see: u32, at: usize) -> Entry
+    fn entry(self, coordinates: [i64; NUMBERS], sees: bool, see: u32, at: usize) -> Entry
         ensures { λ r. ⌜ r ≡ whole self coordinates sees see at ⌝ }
     {
         Entry {
@@ -100,7 +103,7 @@ impl Part {
     }
 
     // The entry that the word at index i makes whole.
-    pub(crate) fn whole(self, coordinates: [i64; 16], i: usize, w: Word) -> Entry
+    pub(crate) fn whole(self, coordinates: [i64; NUMBERS], i: usize, w: Word) -> Entry
         ensures { λ r. ⌜ r ≡ wholeAt self coordinates i (wordIn w) ⌝ }
     {
         match w {
@@ -118,12 +121,12 @@ impl Part {
 }
 
 // The first n of the numbers, then zeros.
-pub(crate) fn first_numbers(numbers: &[i64; 16], n: usize) -> [i64; 16]
-    requires { ⌜ n ≤ 16 ⌝ }
-    requires { ⌜ length (now numbers) ≡ 16 ⌝ }
-    ensures { λ r. ⌜ r ≡ filled (pos 0) 16 (take n (now (numbers .entry))) ⌝ }
+pub(crate) fn first_numbers(numbers: &[i64; NUMBERS], n: usize) -> [i64; NUMBERS]
+    requires { ⌜ n ≤ mostNumbers ⌝ }
+    requires { ⌜ length (now numbers) ≡ mostNumbers ⌝ }
+    ensures { λ r. ⌜ r ≡ filled (pos 0) mostNumbers (take n (now (numbers .entry))) ⌝ }
 {
-    let mut r = [0; 16];
+    let mut r = [0; NUMBERS];
     for k in 0..n {
         r[k] = numbers[k];
     }

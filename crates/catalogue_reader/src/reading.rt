@@ -8,6 +8,8 @@ ghost use Rattle.integers.specs.Every.{any};
 ghost use Rattle.integers.specs.Size.{Within};
 ghost use Rattle.catalogue_reader.specs.Words.{wordIn};
 ghost use Rattle.catalogue_reader.specs.Readings.{isNumber, going, stopped, headRead, vectorRead, coordinateRead, entryRead, endRead, outsideRead, insideRead, afterRead, ReadyFor, stepRead};
+ghost use Rattle.catalogue_rules.specs.Catalogue.{mostEntries};
+ghost use Rattle.lattices.specs.Refusal.{mostVectors, mostCoordinates};
 use super::parts::Part;
 use super::words::Word;
 use catalogue_records::Catalogue;
@@ -90,10 +92,10 @@ impl Reading {
         if Catalogue::MOST_ENTRIES <= self.count {
             return Reading::stop(15);
         }
-        if !input_checks::one_to(4, d) {
+        if !input_checks::one_to(input_checks::MOST_VECTORS, d) {
             return Reading::stop(1);
         }
-        if !input_checks::one_to(4, m) {
+        if !input_checks::one_to(input_checks::MOST_COORDINATES, m) {
             return Reading::stop(2);
         }
         if not_free(numbers, self.count, number) {
@@ -104,7 +106,7 @@ impl Reading {
 
     // Row "coordinate" at a vector's last coordinate, the part up to it being given.
     fn at_vector(self, part: Part) -> Reading
-        requires { ⌜ part .row < 4 ⌝ }
+        requires { ⌜ part .row < mostVectors ⌝ }
         requires { ⌜ Within 8000000000 (part .square) ⌝ }
         ensures { λ r. ⌜ r ≡ vectorRead self part ⌝ }
     {
@@ -120,8 +122,8 @@ impl Reading {
 
     // Row "coordinate".
     fn at_coordinate(self, load: u32) -> Reading
-        requires { ⌜ self .part .row < 4 ⌝ }
-        requires { ⌜ self .part .column < 4 ⌝ }
+        requires { ⌜ self .part .row < mostVectors ⌝ }
+        requires { ⌜ self .part .column < mostCoordinates ⌝ }
         requires { ⌜ self .part .filled < 16 ⌝ }
         requires { ⌜ Within 4000000000 (self .part .square) ⌝ }
         ensures { λ r. ⌜ r ≡ coordinateRead self load ⌝ }
@@ -139,7 +141,7 @@ impl Reading {
 
     // The entry is whole.
     fn with_entry(self) -> Reading
-        requires { ⌜ self .count < 256 ⌝ }
+        requires { ⌜ self .count < mostEntries ⌝ }
         ensures { λ r. ⌜ r ≡ entryRead self ⌝ }
     {
         Reading {
@@ -176,8 +178,8 @@ impl Reading {
 
     // A word within an entry.
     fn inside(self, w: Word) -> Reading
-        requires { ⌜ self .part .row < 4 ⌝ }
-        requires { ⌜ self .part .column < 4 ⌝ }
+        requires { ⌜ self .part .row < mostVectors ⌝ }
+        requires { ⌜ self .part .column < mostCoordinates ⌝ }
         requires { ⌜ self .part .filled < 16 ⌝ }
         requires { ⌜ Within 4000000000 (self .part .square) ⌝ }
         ensures { λ r. ⌜ r ≡ insideRead self (wordIn w) ⌝ }
@@ -197,7 +199,7 @@ impl Reading {
 
     // A word after an entry's last coordinate: the entry is whole, with or without a see word.
     fn after(self, numbers: &[u32], i: usize, w: Word) -> Reading
-        requires { ⌜ self .count < 256 ⌝ }
+        requires { ⌜ self .count < mostEntries ⌝ }
         requires { ⌜ self .count < length (now numbers) ⌝ }
         ensures { λ r. ⌜ r ≡ afterRead (now (numbers .entry)) self i (wordIn w) ⌝ }
     {

@@ -14,6 +14,7 @@ use Rattle.lattice_membership.specs.declared.Lattice.{Lattice}
 use Rattle.lattice_membership.specs.Known.{Known, vectorsIn}
 use Rattle.catalogue_standing.specs.declared.reduced_entry.ReducedEntry.{ReducedEntry}
 use Rattle.catalogue_standing.specs.ReducedEntry.{noReduced, basisIn, heldIn, sameReduced, by-held}
+use Rattle.catalogue_rules.specs.Catalogue.{mostEntries}
 
 -- the lattice of an entry
 pub record LatticeOf (k : ReducedEntry) (l : Lattice) : Type 0 where
@@ -26,13 +27,13 @@ noLattice = record { d = 0; vectors = []; choice = []; minor = pos 0; cofactors 
 
 -- the lattices of the first n entries
 pub record HoldLattices (list : List ReducedEntry) (n : ℕ) (lattices : List Lattice) : Type 0 where
-  pub long : length lattices ≡ 256
+  pub long : length lattices ≡ mostEntries
   pub at : (k : ℕ) → k < n → LatticeOf (getD list k noReduced) (getD lattices k noLattice)
 
-pub lattices-none : (list : List ReducedEntry) (lattices : List Lattice) → length lattices ≡ 256 → HoldLattices list 0 lattices
+pub lattices-none : (list : List ReducedEntry) (lattices : List Lattice) → length lattices ≡ mostEntries → HoldLattices list 0 lattices
 lattices-none list lattices long = record { long = long; at = λ k h. absurd (omega arith) }
 
-pub lattices-more : {list : List ReducedEntry} {n : ℕ} {lattices : List Lattice} {l : Lattice} → HoldLattices list n lattices → n < 256 → LatticeOf (getD list n noReduced) l → HoldLattices list (n + 1) (set lattices n l)
+pub lattices-more : {list : List ReducedEntry} {n : ℕ} {lattices : List Lattice} {l : Lattice} → HoldLattices list n lattices → n < mostEntries → LatticeOf (getD list n noReduced) l → HoldLattices list (n + 1) (set lattices n l)
 lattices-more {list} {n} {lattices} {l} p h q = record { long = length-set lattices n l ∙ p .long; at = λ k m. go k m (decLt k n) }
   where
     go : (k : ℕ) → k < n + 1 → Dec (k < n) → LatticeOf (getD list k noReduced) (getD (set lattices n l) k noLattice)

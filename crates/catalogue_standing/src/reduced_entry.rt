@@ -6,6 +6,9 @@ ghost use Rattle.catalogue_records.specs.EntriesIn.{entryIn, entriesIn};
 ghost use Rattle.catalogue_rules.specs.Form.{EntryFits};
 ghost use Rattle.catalogue_standing.specs.ReducedEntry.{reducedEntry};
 ghost use Rattle.catalogue_standing.specs.ReducedEntries.{HoldReduced};
+ghost use Rattle.catalogue_rules.specs.Catalogue.{mostEntries};
+use catalogue_records::Catalogue;
+use catalogue_records::Entry;
 
 // Of an entry: d, m, its reduced vectors and their squared lengths, then zeros, and how many passes reduced it.
 pub struct ReducedEntry {
@@ -17,7 +20,7 @@ pub struct ReducedEntry {
 }
 
 // An entry is reduced, once.
-pub fn keep(e: catalogue_records::Entry) -> ReducedEntry
+pub fn keep(e: Entry) -> ReducedEntry
     requires { ⌜ EntryFits (entryIn e) ⌝ }
     ensures { λ r. ⌜ r ≡ reducedEntry (entryIn e) ⌝ }
 {
@@ -36,19 +39,21 @@ pub fn keep(e: catalogue_records::Entry) -> ReducedEntry
 }
 
 // All entries of a catalogue.
-pub fn reduce_all(c: catalogue_records::Catalogue) -> [ReducedEntry; 256]
-    requires { ⌜ c .count ≤ 256 ⌝ }
+pub fn reduce_all(c: Catalogue) -> [ReducedEntry; Catalogue::MOST_ENTRIES]
+    requires { ⌜ c .count ≤ mostEntries ⌝ }
     requires { ⌜ All EntryFits (entriesIn c) ⌝ }
     ensures { λ r. ⌜ HoldReduced c (c .count) r ⌝ }
 {
     let none = ReducedEntry {
         d: 0,
         m: 0,
-        vectors: [row_operations::VectorRow { at: [0; 4] }; 4],
+        vectors: [row_operations::VectorRow {
+            at: [0; row_operations::WIDTH],
+        }; 4],
         squares: [0; 4],
         passes: 0,
     };
-    let mut list = [none; 256];
+    let mut list = [none; Catalogue::MOST_ENTRIES];
     for k in 0..c.count {
         let e = c.entries[k];
         let kept = keep(e);

@@ -7,7 +7,9 @@ ghost use Prim.Native.Nat.{ℕ, _≤_, _<_};
 ghost use lib.ListN.{getD};
 ghost use Rattle.catalogue_standing.specs.ReducedEntry.{noReduced, Fair, sameReduced};
 ghost use Rattle.catalogue_standing.specs.SameLattice.{LatticeOf, HoldLattices};
+ghost use Rattle.catalogue_rules.specs.Catalogue.{mostEntries};
 use super::reduced_entry::ReducedEntry;
+use catalogue_records::Catalogue;
 use lattice_membership::Lattice;
 use lattice_membership::holds_lattice;
 
@@ -22,19 +24,24 @@ pub(crate) fn lattice_of(e: ReducedEntry) -> Lattice
 }
 
 // The lattices of the first count entries.
-pub(crate) fn lattices_of(list: [ReducedEntry; 256], count: usize) -> [Lattice; 256]
-    requires { ⌜ count ≤ 256 ⌝ }
+pub(crate) fn lattices_of(
+    list: [ReducedEntry; Catalogue::MOST_ENTRIES],
+    count: usize,
+) -> [Lattice; Catalogue::MOST_ENTRIES]
+    requires { ⌜ count ≤ mostEntries ⌝ }
     requires { ⌜ ((j : ℕ) → j < count → Fair (getD list j noReduced)) ⌝ }
     ensures { λ r. ⌜ HoldLattices list count r ⌝ }
 {
     let none = Lattice {
         d: 0,
-        vectors: [row_operations::VectorRow { at: [0; 4] }; 4],
-        choice: [0; 4],
+        vectors: [row_operations::VectorRow {
+            at: [0; row_operations::WIDTH],
+        }; 4],
+        choice: [0; row_operations::WIDTH],
         minor: 0,
         cofactors: [row_operations::TableRow { at: [0; 4] }; 4],
     };
-    let mut lattices = [none; 256];
+    let mut lattices = [none; Catalogue::MOST_ENTRIES];
     for k in 0..count {
         let e = list[k];
         let l = lattice_of(e);

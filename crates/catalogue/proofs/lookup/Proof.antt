@@ -6,7 +6,7 @@ use native.Mathlib.Omega.{arith}
 use lib.Dec.{eqb}
 use lib.ListN.{length, getD}
 use borrow.Author.Needs.{needs}
-use Rattle.catalogue_rules.specs.Catalogue.{Entry}
+use Rattle.catalogue_rules.specs.Catalogue.{Entry, mostEntries}
 use Rattle.catalogue_records.specs.EntriesIn.{entryIn, entriesIn}
 use Rattle.catalogue_records.specs.Entries.{beyond, at-place}
 use Rattle.fold_rules.specs.Fold.{sameLattice}
@@ -35,7 +35,7 @@ numbers-requires c κs = search needs
 slice-aggregate-place-of : tie.Need-slice-aggregate-place-of
 slice-aggregate-place-of c = search needs
 
-all : (c : tie.After-numbers) → length (c .numbers .result) ≡ 256
+all : (c : tie.After-numbers) → length (c .numbers .result) ≡ mostEntries
 all c = search needs
 
 place-of-requires : tie.Need-place-of-requires
@@ -72,7 +72,7 @@ standing-place-requires : tie.Need-standing-place-requires
 standing-place-requires c κs = (prepared (else1 (c .before .before)), counted c)
 
 -- and the place of its standing entry is one of the file
-small-place : (c : tie.After-standing-place) → c .standing-place .result < 256
+small-place : (c : tie.After-standing-place) → c .standing-place .result < mostEntries
 small-place c = let e = c .before in omega (arith, c .standing-place .ensures .within, counted e, prepared (else1 (e .before .before)) .few)
 
 mul-t11 : tie.Need-mul-t11

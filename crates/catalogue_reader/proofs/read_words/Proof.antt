@@ -19,6 +19,7 @@ use Rattle.catalogue_reader.specs.States.{numbersOf}
 use Rattle.catalogue_reader.specs.Parts.{wholeAt}
 use Rattle.catalogue_reader.specs.Store.{put}
 use Rattle.catalogue_reader.specs.Progress.{Reached, at-start, reached-ready, cells-room, refuses, keeps, counted, counted-cell, counted-head, stores-one, stores-none, missing, complete}
+use Rattle.catalogue_rules.specs.Catalogue.{mostEntries, mostNumbers}
 use Rattle.catalogue_reader.proofs.read_words.Statement.{statement}
 use Rattle.catalogue_reader.proofs.read_words.Tie as tie
 
@@ -38,8 +39,8 @@ loop-holds : tie.Need-loop-holds Inv-loop μ-loop
 loop-holds c =
     let words = wordsOf (c .before .before .before .before .args .bytes .now) in
     let none = sym (c .before .before .empty .ensures) in
-    let zeros = replicate 16 (pos 0) in
-    (search needs, subst (λ (empty : Catalogue). Reached words 0 (empty .entries) (filled 0 256 []) zeros (c .start .result)) none (subst (Reached words 0 (stored []) (filled 0 256 []) zeros) (sym (c .start .ensures)) (at-start words zeros refl)))
+    let zeros = replicate mostNumbers (pos 0) in
+    (search needs, subst (λ (empty : Catalogue). Reached words 0 (empty .entries) (filled 0 mostEntries []) zeros (c .start .result)) none (subst (Reached words 0 (stored []) (filled 0 mostEntries []) zeros) (sym (c .start .ensures)) (at-start words zeros refl)))
 
 word-at-requires : tie.Need-word-at-requires Inv-loop μ-loop
 word-at-requires c κs = search needs
@@ -50,7 +51,7 @@ decode-requires c κs = search needs
 slice-aggregate-step : tie.Need-slice-aggregate-step Inv-loop μ-loop
 slice-aggregate-step c =
     let r = c .before .before .before .before .loop .inv .1 in
-    let long : length (c .before .before .before .before .loop .numbers) ≡ 256 = ap length (r .notes) ∙ length-filled {A = ℕ} 0 256 (numbersOf (r .state)) in
+    let long : length (c .before .before .before .before .loop .numbers) ≡ mostEntries = ap length (r .notes) ∙ length-filled {A = ℕ} 0 mostEntries (numbersOf (r .state)) in
     search (needs, long)
 
 step-requires : tie.Need-step-requires Inv-loop μ-loop
@@ -68,7 +69,7 @@ word c = c .before .before .decode .ensures ∙ ap decode (c .before .before .be
 goes : (c : tie.Else1 Inv-loop μ-loop) → c .before .before .step .result .refusal ≡ 0
 goes c = c .if1 .left
 
-few : (c : tie.Else1 Inv-loop μ-loop) → c .before .before .step .result .count ≤ 256
+few : (c : tie.Else1 Inv-loop μ-loop) → c .before .before .step .result .count ≤ mostEntries
 few c =
     let s = c .before .before in
     counted _ _ (s .before .before .before .before .before .loop .inv .1) (here s) (word s) (s .step .ensures) (goes c)

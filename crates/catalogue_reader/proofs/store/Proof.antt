@@ -6,6 +6,7 @@ use lib.ListN.{set}
 use Rattle.catalogue_reader.specs.Words.{wordIn}
 use Rattle.catalogue_reader.specs.Turns.{coordinate-fits, read-load}
 use Rattle.catalogue_reader.specs.Cells.{Place, placed}
+use Rattle.catalogue_rules.specs.Catalogue.{mostNumbers}
 use borrow.Author.Needs.{needs}
 use Rattle.catalogue_reader.proofs.store.Statement.{statement}
 use Rattle.catalogue_reader.proofs.store.Tie as tie
@@ -19,7 +20,7 @@ enum-known-w c = search needs
 cast-coordinates : tie.Need-cast-coordinates
 cast-coordinates c = search needs
 
-room : (c : tie.After-w) → c .before .before .args .n < 16
+room : (c : tie.After-w) → c .before .before .args .n < mostNumbers
 room c =
     let s = c .before .before in
     subst (λ w. Place (s .args .n) (wordIn w)) (c .w .given .1) (s .pre)

@@ -10,11 +10,12 @@ use borrow.Author.Needs.{needs}
 use Rattle.integers.specs.Filled.{filled}
 use Rattle.lattices.specs.Vector.{nth}
 use Rattle.input_checks.specs.Padded.{padded-more}
+use Rattle.catalogue_rules.specs.Catalogue.{mostNumbers}
 use Rattle.catalogue_reader.proofs.parts.first_numbers.Statement.{statement}
 use Rattle.catalogue_reader.proofs.parts.first_numbers.Tie as tie
 
 abbrev Inv-loop : tie.InvT-loop
-Inv-loop numbers n r₀ k₀ r k = (k ≤ n) × (r ≡ filled (pos 0) 16 (take k numbers))
+Inv-loop numbers n r₀ k₀ r k = (k ≤ n) × (r ≡ filled (pos 0) mostNumbers (take k numbers))
 
 abbrev μ-loop : tie.MeasureT-loop
 μ-loop numbers n r₀ k₀ r k = n - k
@@ -45,13 +46,13 @@ loop-again c =
     let l = c .before .before in
     let a = l .before .args in
     let here : l .loop .k ≡ 0 + l .loop .k = omega arith in
-    (search needs, padded-more 16 0 (l .loop .k) (a .numbers .now) (omega arith) (omega (arith, l .before .pre .1)) (l .loop .inv .1) (toZ-ofZ {w = w64} (record { sfits = c .r .given }) ∙ ap (nth (a .numbers .now)) here))
+    (search needs, padded-more mostNumbers 0 (l .loop .k) (a .numbers .now) (omega arith) (omega (arith, l .before .pre .1)) (l .loop .inv .1) (toZ-ofZ {w = w64} (record { sfits = c .r .given }) ∙ ap (nth (a .numbers .now)) here))
 
 returns : tie.Need-returns Inv-loop μ-loop
 returns c =
     let a = c .before .before .args in
     let end : c .before .loop .k ≡ a .n = omega arith in
-    c .before .loop .inv .1 ∙ ap (λ k. filled (pos 0) 16 (take k (a .numbers .now))) end
+    c .before .loop .inv .1 ∙ ap (λ k. filled (pos 0) mostNumbers (take k (a .numbers .now))) end
 
 pub first-numbers-spec : {M : Type 1} → statement M
 first-numbers-spec =

@@ -6,7 +6,7 @@ use native.Mathlib.Omega.{arith}
 use lib.ListN.{length, take}
 use Rattle.lattices.specs.Answer.{reductionOf}
 use Rattle.row_operations.specs.RowStructs.{vectorRow}
-use Rattle.catalogue_rules.specs.Catalogue.{coordinates}
+use Rattle.catalogue_rules.specs.Catalogue.{coordinates, mostNumbers}
 use Rattle.catalogue_rules.specs.Laws.EntriesAccepted.{numbers-back}
 use Rattle.catalogue_records.specs.EntriesIn.{entryIn}
 use Rattle.catalogue_records.specs.Coordinates.{most, cut}
@@ -15,10 +15,10 @@ use borrow.Author.Needs.{needs}
 use Rattle.catalogue_standing.proofs.reduced_entry.keep.Statement.{statement}
 use Rattle.catalogue_standing.proofs.reduced_entry.keep.Tie as tie
 
-long : (c : tie.Start) → length (c .args .e .coordinates) ≡ 16
+long : (c : tie.Start) → length (c .args .e .coordinates) ≡ mostNumbers
 long c = search needs
 
-at-most : (c : tie.Start) → c .args .e .d * c .args .e .m ≤ 16
+at-most : (c : tie.Start) → c .args .e .d * c .args .e .m ≤ mostNumbers
 at-most c = most (c .args .e) (c .pre) (long c)
 
 same : (c : tie.Start) → let e = c .args .e in take (e .d * e .m) (e .coordinates) ≡ coordinates (entryIn e .vectors)

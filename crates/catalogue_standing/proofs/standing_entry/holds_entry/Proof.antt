@@ -10,13 +10,14 @@ use Rattle.lattices.specs.Refusal.{mostVectors, mostCoordinates}
 use Rattle.greedy_reduction.specs.Accepted.{short}
 use Rattle.catalogue_records.specs.EntriesIn.{entryIn}
 use Rattle.catalogue_records.specs.Coordinates.{most, cut}
+use Rattle.catalogue_rules.specs.Catalogue.{mostNumbers}
 use Rattle.catalogue_standing.proofs.standing_entry.holds_entry.Statement.{statement}
 use Rattle.catalogue_standing.proofs.standing_entry.holds_entry.Tie as tie
 
-long : (c : tie.Start) → length (c .args .e .coordinates) ≡ 16
+long : (c : tie.Start) → length (c .args .e .coordinates) ≡ mostNumbers
 long c = search needs
 
-at-most : (c : tie.Start) → c .args .e .d * c .args .e .m ≤ 16
+at-most : (c : tie.Start) → c .args .e .d * c .args .e .m ≤ mostNumbers
 at-most c = most (c .args .e) (c .pre .1) (long c)
 
 mul-n : tie.Need-mul-n

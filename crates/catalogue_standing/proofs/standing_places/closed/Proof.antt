@@ -7,6 +7,7 @@ use native.Mathlib.Omega.{arith}
 use lib.ListN.{length}
 use borrow.Author.Needs.{needs}
 use Rattle.catalogue_standing.specs.Places.{First, stander, not-standing, standing-here, Closed, before-more, closed-none, closed-more}
+use Rattle.catalogue_rules.specs.Catalogue.{mostEntries}
 use Rattle.catalogue_standing.proofs.standing_places.closed.Statement.{statement}
 use Rattle.catalogue_standing.proofs.standing_places.closed.Tie as tie
 
@@ -29,7 +30,7 @@ loop-holds : tie.Need-loop-holds Inv-loop2 μ-loop2 Inv-loop μ-loop
 loop-holds c = (search needs, closed-none _ _ refl)
 
 -- entry k is one of the 256
-below : (c : tie.In-loop Inv-loop2 μ-loop2 Inv-loop μ-loop) → c .before .loop .k < 256
+below : (c : tie.In-loop Inv-loop2 μ-loop2 Inv-loop μ-loop) → c .before .loop .k < mostEntries
 below c = omega (arith, c .before .before .before .pre .0, c .loop-test .taken)
 
 mul-e : tie.Need-mul-e Inv-loop2 μ-loop2 Inv-loop μ-loop
@@ -48,7 +49,7 @@ loop2-holds : tie.Need-loop2-holds Inv-loop2 μ-loop2 Inv-loop μ-loop
 loop2-holds c = (omega arith, λ i h. absurd (omega arith))
 
 -- entry j as well
-small : (c : tie.In-loop2 Inv-loop2 μ-loop2 Inv-loop μ-loop) → c .before .loop2 .j < 256
+small : (c : tie.In-loop2 Inv-loop2 μ-loop2 Inv-loop μ-loop) → c .before .loop2 .j < mostEntries
 small c = omega (arith, below (c .before .before .before .before), c .loop2-test .taken)
 
 mul-f : tie.Need-mul-f Inv-loop2 μ-loop2 Inv-loop μ-loop

@@ -11,6 +11,7 @@ use Rattle.catalogue_reader.specs.Parts.{putCoordinate}
 use mathlib.Core.List.{[]}
 use borrow.Author.Tests.{lt-ltb, le-ltb}
 use Rattle.catalogue_reader.specs.Turns.{applies, last-coordinate, more-coordinates, coordinate-fits, read-load, load-small}
+use Rattle.lattices.specs.Refusal.{mostVectors}
 use borrow.Author.Needs.{needs}
 use Rattle.catalogue_reader.proofs.reading.Reading.at_coordinate.Statement.{statement}
 use Rattle.catalogue_reader.proofs.reading.Reading.at_coordinate.Tie as tie
@@ -44,7 +45,7 @@ at-vector-requires : tie.Need-at-vector-requires
 at-vector-requires c κs =
     let w = c .before .before in
     let s = w .before .before .before in
-    subst (λ p. (p .row < 4) × Within 8000000000 (p .square)) (sym (w .with-coordinate .ensures ∙ coordinate-read w))
+    subst (λ p. (p .row < mostVectors) × Within 8000000000 (p .square)) (sym (w .with-coordinate .ensures ∙ coordinate-read w))
     (s .pre .0, within-le (omega arith) (within-add (s .pre .1 .1 .1) (within-mul (small w) (small w))))
 
 returns-2 : tie.Need-returns-2

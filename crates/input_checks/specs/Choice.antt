@@ -3,10 +3,11 @@ use mathlib.Core.Bool.{true, false}
 use mathlib.Core.List.{List, [], _∷_, map}
 use Prim.Native.Nat.{ℕ, zero, suc, _/_, _%_}
 use lib.Dec.{eqb}
-use lib.ListN.{getD, take}
+use lib.ListN.{take}
 use Rattle.lattices.specs.Vector.{Vec, nth}
 use Rattle.lattices.specs.Volume.{Index}
 use Rattle.lattices.specs.Answer.{padded}
+use Rattle.lattices.specs.Refusal.{mostVectors}
 
 -- the choice with that number among n coordinates: the first is taken where the lowest bit is 1
 abbrev pub choice : ℕ → ℕ → Index
@@ -25,10 +26,11 @@ firsts zero d = []
 firsts (suc n) zero = false ∷ firsts n zero
 firsts (suc n) (suc d) = true ∷ firsts n d
 
--- and the place of that choice among the sixteen entries of a volume over four coordinates
-abbrev pub firstPlace : ℕ → ℕ
-firstPlace d = getD (0 ∷ 8 ∷ 12 ∷ 14 ∷ 15 ∷ []) d 0
+-- n numbers from k on
+abbrev pub counts : ℕ → ℕ → List ℕ
+counts k zero = []
+counts k (suc n) = k ∷ counts (suc k) n
 
--- the coordinates of v at the first d places of a list, as an array of four
-abbrev pub coordinates : List ℕ → ℕ → Vec → Vec
-coordinates at d v = padded 4 (map (nth v) (take d at))
+-- the coordinates of v at the first places of a list, as many as there may be vectors
+abbrev pub fourAt : List ℕ → Vec → Vec
+fourAt at v = padded mostVectors (map (nth v) (take mostVectors at))

@@ -7,13 +7,13 @@ use native.Mathlib.Numerals.{add-one}
 use lib.ListN.{set}
 use Rattle.integers.specs.Filled.{filled}
 use Rattle.exterior_algebra.specs.Minors.{marks}
 use Rattle.input_checks.specs.Minors.{halves}
 use Rattle.lattices.specs.Refusal.{mostCoordinates}
-use Rattle.lattice_membership.specs.Choice.{choice, places}
-use Rattle.lattice_membership.specs.Laws.Choices.{length-choice, marks-≤, marks-taken, places-taken, marks-left, places-left}
+use Rattle.input_checks.specs.Choice.{choice, places}
+use Rattle.input_checks.specs.Choices.{length-choice, marks-≤, marks-taken, places-taken, marks-left, places-left}
 use borrow.Author.Needs.{needs}
-use Rattle.lattice_membership.proofs.choice_of.Statement.{statement}
-use Rattle.lattice_membership.proofs.choice_of.Tie as tie
+use Rattle.input_checks.proofs.minors.choice_of.Statement.{statement}
+use Rattle.input_checks.proofs.minors.choice_of.Tie as tie
 
 abbrev Inv-loop : tie.InvT-loop
 Inv-loop number at₀ count₀ rest₀ k₀ at count rest k = (k ≤ mostCoordinates) × ((at ≡ filled 0 mostCoordinates (places 0 (choice k number))) × ((count ≡ marks (choice k number)) × (rest ≡ halves k number)))

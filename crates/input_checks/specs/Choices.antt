@@ -10,13 +10,12 @@ use lib.Dec.{eqb}
 use lib.ListN.{length, getD, set, take, drop}
 use borrow.Author.Tests.{eq-eqb, ne-eqb}
 use Rattle.integers.specs.Filled.{filled}
-use Rattle.integers.specs.FilledLaws.{filled-next, take-filled}
+use Rattle.integers.specs.FilledLaws.{filled-next}
 use Rattle.lattices.specs.Vector.{Vec, nth}
 use Rattle.lattices.specs.Volume.{Index, head, rest}
-use Rattle.lattices.specs.Answer.{padded}
 use Rattle.exterior_algebra.specs.Minors.{marks, pick}
 use Rattle.input_checks.specs.Minors.{halves}
-use Rattle.lattice_membership.specs.Choice.{choice, places, coordinates}
+use Rattle.input_checks.specs.Choice.{choice, places, firsts, counts}
 
 -- ---- one bit more
 
@@ -128,28 +127,46 @@ head-drop (suc k) [] = refl
 head-drop zero (x ∷ v) = refl
 head-drop (suc k) (x ∷ v) = head-drop k v
 
-pick-from : (k : ℕ) (s : Index) (v : Vec) → map (nth v) (places k s) ≡ pick s (drop k v)
+pub pick-from : (k : ℕ) (s : Index) (v : Vec) → map (nth v) (places k s) ≡ pick s (drop k v)
 pick-from k [] v = refl
 pick-from k (false ∷ s) v = pick-from (suc k) s v ∙ ap (pick s) (sym (rest-drop k v))
 pick-from k (true ∷ s) v = ap₂ _∷_ (sym (head-drop k v)) (pick-from (suc k) s v ∙ ap (pick s) (sym (rest-drop k v)))
 
-pub coordinates-picked : (n d : ℕ) (s : Index) (v : Vec) → marks s ≡ d → d ≤ n → coordinates (filled 0 n (places 0 s)) d v ≡ padded 4 (pick s v)
-coordinates-picked n d s v e h =
-    ap (λ l. padded 4 (map (nth v) l)) (ap (λ k. take k (filled 0 n (places 0 s))) (sym (length-places 0 s ∙ e)) ∙ take-filled 0 n (places 0 s) (omega (arith, length-places 0 s)))
-    ∙ ap (padded 4) (pick-from 0 s v)
-
 -- no place is beyond the coordinates
-places-< : (k n : ℕ) (s : Index) → k + length s ≤ n → (i : ℕ) → i < marks s → getD (places k s) i 0 < n
+pub places-< : (k n : ℕ) (s : Index) → k + length s ≤ n → (i : ℕ) → i < marks s → getD (places k s) i 0 < n
 places-< k n [] h i l = absurd (omega arith)
 places-< k n (false ∷ s) h i l = places-< (suc k) n s (omega arith) i l
 places-< k n (true ∷ s) h zero l = omega arith
 places-< k n (true ∷ s) h (suc i) l = places-< (suc k) n s (omega arith) i (omega arith)
 
-filled-at : (n : ℕ) (l : List ℕ) (i : ℕ) → i < length l → i < n → getD (filled 0 n l) i 0 ≡ getD l i 0
-filled-at zero l i h k = absurd (omega arith)
-filled-at (suc n) [] i h k = absurd (omega arith)
-filled-at (suc n) (x ∷ l) zero h k = refl
-filled-at (suc n) (x ∷ l) (suc i) h k = filled-at n l i (omega arith) (omega arith)
+-- ---- the first of them
 
-pub places-within : (n : ℕ) (s : Index) → length s ≡ n → (i : ℕ) → i < marks s → getD (filled 0 n (places 0 s)) i 0 < n
-places-within n s e i h = subst (λ k. k < n) (sym (filled-at n (places 0 s) i (omega (arith, length-places 0 s)) (omega (arith, marks-≤ s)))) (places-< 0 n s (omega arith) i h)
+pub places-firsts : (k n d : ℕ) → d ≤ n → places k (firsts n d) ≡ take d (counts k n)
+places-firsts k zero zero h = refl
+places-firsts k zero (suc d) h = absurd (omega arith)
+places-firsts k (suc n) zero h = places-firsts (suc k) n zero (omega arith)
+places-firsts k (suc n) (suc d) h = ap (λ l. k ∷ l) (places-firsts (suc k) n d (omega arith))
+
+pub length-firsts : (n d : ℕ) → length (firsts n d) ≡ n
+length-firsts zero d = refl
+length-firsts (suc n) zero = ap suc (length-firsts n zero)
+length-firsts (suc n) (suc d) = ap suc (length-firsts n d)
+
+pub marks-firsts : (n d : ℕ) → d ≤ n → marks (firsts n d) ≡ d
+marks-firsts zero zero h = refl
+marks-firsts zero (suc d) h = absurd (omega arith)
+marks-firsts (suc n) zero h = marks-firsts n zero (omega arith)
+marks-firsts (suc n) (suc d) h = ap suc (marks-firsts n d (omega arith))
+
+pub counts-more : (k n : ℕ) → counts k (suc n) ≡ counts k n ++ ((k + n) ∷ [])
+counts-more k zero = ap (λ m. m ∷ []) (omega arith)
+counts-more k (suc n) = ap (λ l. k ∷ l) (counts-more (suc k) n ∙ ap (λ m. counts (suc k) n ++ (m ∷ [])) (omega arith))
+
+pub length-counts : (k n : ℕ) → length (counts k n) ≡ n
+length-counts k zero = refl
+length-counts k (suc n) = ap suc (length-counts (suc k) n)
+
+pub counts-at : (k n i : ℕ) → i < n → getD (counts k n) i 0 ≡ k + i
+counts-at k zero i h = absurd (omega arith)
+counts-at k (suc n) zero h = omega arith
+counts-at k (suc n) (suc i) h = counts-at (suc k) n i (omega arith) ∙ omega arith
