@@ -19,7 +19,7 @@ use Rattle.successive_minima.specs.Reduced.{Reduced}
 use Rattle.greedy_reduction.specs.Start.{sized-vectors, sized-us}
 use Rattle.row_operations.specs.Minus.{room}
 use Rattle.row_operations.specs.Rows.{Tables, rowsOf, rowsOf-tables, transposed}
-use Rattle.gram_matrix.specs.Gram.{gramOf}
+use Rattle.gram_matrix.specs.Gram.{gramOf, losing}
 use Rattle.gram_matrix.specs.Tied.{Tied, tied-square, tied-length-gram}
 use Rattle.gram_matrix.specs.Columns.{gainedColumns, nth-column}
 use Rattle.gram_matrix.specs.Lose.{Loses, Gains, row-wide}
@@ -29,7 +29,7 @@ use Rattle.nearest_of_three.specs.Meant.{Meant, Known}
 use Rattle.engine.specs.Laws.State.{blank, passRows}
 use Rattle.engine.specs.Laws.Room as Room
 use Rattle.engine.specs.Laws.Room.{PassReady}
-use Rattle.engine.specs.Laws.Pass.{losing, gaining, length-gained, pass-rows}
+use Rattle.engine.specs.Laws.Pass.{gaining, length-gained, pass-rows}
 use Rattle.engine.specs.Laws.Passing as Passing
 use Rattle.engine.specs.Laws.Passing.{coefficients}
 
