@@ -11,7 +11,7 @@ ghost use Rattle.gram_matrix.specs.Lose.{Losable, Gainable, Loses, Gains
 ghost use Rattle.gram_matrix.specs.Gram.{losing, losingEntry};
 ghost use Rattle.gram_matrix.specs.Cross.{entered, crossed};
 ghost use Rattle.integers.specs.Size.{Within};
-ghost use Rattle.gram_matrix.specs.Formed.{products, formed};
+ghost use Rattle.gram_matrix.specs.Formed.{products, formed, grown};
 ghost use Rattle.gram_matrix.specs.Work.{workOf};
 ghost use Rattle.lattices.specs.Greedy.{Row, order};
 ghost use Rattle.gram_matrix.specs.Order.{exchanged, swapped, insertAt};
@@ -39,7 +39,18 @@ fn products(b: &Basis, d: usize, v: Vector) -> [i64; 4]
     r
 }
 
-// The Gram matrix of the first d vectors, zeros behind.
+// Entry k of each row becomes that of r at its place.
+fn enter(g: &mut Table, k: usize, r: &[i64; 4])
+    requires { ⌜ k ≤ 3 ⌝ }
+    requires { ⌜ length (now g) ≡ 4 ⌝ }
+    ensures { λ _. ⌜ now (g .exit) ≡ entered k (now (r .entry)) (now (g .entry)) ⌝ }
+{
+    for i in 0..4 {
+        g[i][k] = r[i];
+    }
+}
+
+// The Gram matrix of the first d vectors, zeros behind: with each vector its row and its column are added.
 pub fn formed(b: &Basis, d: usize) -> Table
     requires { ⌜ d ≤ 4 ⌝ }
     requires { ⌜ length (now b) ≡ 4 ⌝ }
@@ -48,7 +59,9 @@ pub fn formed(b: &Basis, d: usize) -> Table
 {
     let mut g = [[0; 4]; 4];
     for i in 0..d {
-        g[i] = products(b, d, b[i]);
+        let r = products(b, i + 1, b[i]);
+        g[i] = r;
+        enter(&mut g, i, &r);
     }
     g
 }
@@ -253,17 +266,6 @@ fn less_entry(r: &[i64; 4], k: usize, x: &[i64; 3]) -> [i64; 4]
     let mut s = *r;
     s[k] = r[k] - dot_first(x, r, k);
     s
-}
-
-// Entry k of each row becomes that of r at its place.
-fn enter(g: &mut Table, k: usize, r: &[i64; 4])
-    requires { ⌜ k ≤ 3 ⌝ }
-    requires { ⌜ length (now g) ≡ 4 ⌝ }
-    ensures { λ _. ⌜ now (g .exit) ≡ entered k (now (r .entry)) (now (g .entry)) ⌝ }
-{
-    for i in 0..4 {
-        g[i][k] = r[i];
-    }
 }
 
 // Row and column k of the Gram matrix become r, what is left of row k when the rows before it are taken away x times; its entry k, the
