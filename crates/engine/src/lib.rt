@@ -2,7 +2,10 @@
 ghost use mathlib.Core.Path.{_≡_};
 ghost use Prim.Native.Nat.{ℕ, _+_, _-_, _≤_, _<_};
 ghost use mathlib.Core.List.{[]};
+ghost use lib.IntN.{pos};
 ghost use lib.ListN.{take};
+ghost use Rattle.lattices.specs.Refusal.{firstOf, vectorChecks};
+ghost use Rattle.engine.specs.Laws.Begin.{first};
 ghost use Rattle.gram_matrix.specs.Tied.{Held, Tied};
 ghost use Rattle.engine.specs.Laws.Tables.{Passable};
 ghost use Rattle.engine.specs.Laws.Repeat.{Reducible, Outcome};
@@ -136,7 +139,18 @@ fn finished(w: Work) -> Reduction
     }
 }
 
-// Reduction: d vectors of m coordinates each, vector by vector. The Gram matrix is formed once.
+// The greedy steps on an input that is accepted. The Gram matrix is formed once.
+fn reduced(numbers: &[i64], d: usize, m: usize) -> Work
+    requires { ⌜ firstOf vectorChecks (record { numbers = now numbers; d = d; m = m; target = [] }) ≡ 0 ⌝ }
+    ensures { λ r. ⌜ ((e : firstOf vectorChecks (record { numbers = now (numbers .entry); d = d; m = m; target = [] }) ≡ 0) → Outcome (pos 1) d 0 (first (record { numbers = now (numbers .entry); d = d; m = m; target = [] }) e) r) ⌝ }
+{
+    let b = input_checks::basis(numbers, d, m);
+    let g = gram_matrix::formed(&b, d);
+    let e = row_operations::unit_table(d);
+    reduce_first(g, b, e, e, d, 0)
+}
+
+// Reduction: d vectors of m coordinates each, vector by vector.
 pub fn reduce(numbers: &[i64], d: usize, m: usize) -> Reduction
     ensures { λ r. ⌜ r ≡ packed (reductionOf (record { numbers = now (numbers .entry); d = d; m = m; target = [] })) ⌝ }
 {
@@ -144,10 +158,7 @@ pub fn reduce(numbers: &[i64], d: usize, m: usize) -> Reduction
     if number != 0 {
         return refused(number);
     }
-    let b = input_checks::basis(numbers, d, m);
-    let g = gram_matrix::formed(&b, d);
-    let e = row_operations::unit_table(d);
-    finished(reduce_first(g, b, e, e, d, 0))
+    finished(reduced(numbers, d, m))
 }
 
 // The answer of a search for the nearest vector: the vector, its coefficients on the reduced basis, its squared distance from the target.
@@ -192,15 +203,16 @@ fn named(t: [i64; 4], x: [i64; 4], rest: [i64; 4]) -> NearestVector
 pub fn nearest(numbers: &[i64], d: usize, m: usize, target: &[i64]) -> NearestVector
     ensures { λ r. ⌜ r ≡ packedNearest (nearestOf (record { numbers = now (numbers .entry); d = d; m = m; target = now (target .entry) })) ⌝ }
 {
-    let r = reduce(numbers, d, m);
-    if r.refusal != 0 {
-        return refused_nearest(r.refusal);
+    let number = input_checks::refusal(numbers, d, m);
+    if number != 0 {
+        return refused_nearest(number);
     }
     let n = input_checks::target_refusal(target, m);
     if n != 0 {
         return refused_nearest(n);
     }
-    let vectors = r.vectors;
+    let w = reduced(numbers, d, m);
+    let vectors = w.vectors;
     let b = row_operations::vectors_of(vectors);
     let t = input_checks::vector(target, 0, m);
     let c = nearest_of_four::closest(b, d, t);
