@@ -139,18 +139,7 @@ fn finished(w: Work) -> Reduction
     }
 }
 
-// The greedy steps on an input that is accepted. The Gram matrix is formed once.
-fn reduced(numbers: &[i64], d: usize, m: usize) -> Work
-    requires { ⌜ firstOf vectorChecks (record { numbers = now numbers; d = d; m = m; target = [] }) ≡ 0 ⌝ }
-    ensures { λ r. ⌜ ((e : firstOf vectorChecks (record { numbers = now (numbers .entry); d = d; m = m; target = [] }) ≡ 0) → Outcome (pos 1) d 0 (first (record { numbers = now (numbers .entry); d = d; m = m; target = [] }) e) r) ⌝ }
-{
-    let b = input_checks::basis(numbers, d, m);
-    let g = gram_matrix::formed(&b, d);
-    let e = row_operations::unit_table(d);
-    reduce_first(g, b, e, e, d, 0)
-}
-
-// Reduction: d vectors of m coordinates each, vector by vector.
+// Reduction: d vectors of m coordinates each, vector by vector. The Gram matrix is formed once.
 pub fn reduce(numbers: &[i64], d: usize, m: usize) -> Reduction
     ensures { λ r. ⌜ r ≡ packed (reductionOf (record { numbers = now (numbers .entry); d = d; m = m; target = [] })) ⌝ }
 {
@@ -158,7 +147,10 @@ pub fn reduce(numbers: &[i64], d: usize, m: usize) -> Reduction
     if number != 0 {
         return refused(number);
     }
-    finished(reduced(numbers, d, m))
+    let b = input_checks::basis(numbers, d, m);
+    let g = gram_matrix::formed(&b, d);
+    let e = row_operations::unit_table(d);
+    finished(reduce_first(g, b, e, e, d, 0))
 }
 
 // The answer of a search for the nearest vector: the vector, its coefficients on the reduced basis, its squared distance from the target.
@@ -182,6 +174,17 @@ fn refused_nearest(n: u64) -> NearestVector
         coefficients: [0; 4],
         square: 0,
     }
+}
+
+// The greedy steps on an input that is accepted, with the Gram matrix that they leave.
+fn reduced(numbers: &[i64], d: usize, m: usize) -> Work
+    requires { ⌜ firstOf vectorChecks (record { numbers = now numbers; d = d; m = m; target = [] }) ≡ 0 ⌝ }
+    ensures { λ r. ⌜ ((e : firstOf vectorChecks (record { numbers = now (numbers .entry); d = d; m = m; target = [] }) ≡ 0) → Outcome (pos 1) d 0 (first (record { numbers = now (numbers .entry); d = d; m = m; target = [] }) e) r) ⌝ }
+{
+    let b = input_checks::basis(numbers, d, m);
+    let g = gram_matrix::formed(&b, d);
+    let e = row_operations::unit_table(d);
+    reduce_first(g, b, e, e, d, 0)
 }
 
 // The answer from the coefficients and what the nearest vector leaves of the target t.
