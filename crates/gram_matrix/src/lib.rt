@@ -157,9 +157,9 @@ pub fn order(g: &mut Table, b: &mut Basis, u: &mut Table, v: &mut Table, n: usiz
     ensures { λ _. ⌜ ((F : ℤ) (rows : List Row) → Tied F rows (now (g .entry)) (now (b .entry)) (now (u .entry)) (now (v .entry)) → Tied F (order (take n rows) ++ drop n rows) (now (g .exit)) (now (b .exit)) (now (u .exit)) (now (v .exit))) ⌝ }
 {
     let mut i = n;
-    while 0 < i {
+    while 1 < i {
         i -= 1;
-        insert(g, b, u, v, i, n);
+        insert(g, b, u, v, i - 1, n);
     }
 }
 
