@@ -1,5 +1,7 @@
 -- What is proved about the definitions.
 pub mod State
+pub mod Products
+pub mod Limits
 pub mod Fine
 pub mod Room
 pub mod Pass
@@ -12,5 +14,4 @@ pub mod Named
 pub mod Membership
 pub mod Tables
 pub mod Repeat
-pub mod Products
 pub mod Passing

@@ -2,7 +2,7 @@
 ghost use mathlib.Core.Path.{_≡_};
 ghost use mathlib.Core.List.{List, [], _++_, map};
 ghost use Prim.Native.Nat.{ℕ, suc, _+_, _-_, _≤_, _<_};
-ghost use lib.IntN.{ℤ, natAbs, _-ℤ_, _*ℤ_};
+ghost use lib.IntN.{natAbs, _-ℤ_, _*ℤ_};
 ghost use lib.ListN.{length, getD, set, take, drop};
 ghost use Rattle.lattices.specs.Vector.{nth, dot, _⊖_, _⊙_};
 ghost use Rattle.row_operations.specs.Minus.{room};
@@ -15,7 +15,7 @@ ghost use Rattle.gram_matrix.specs.Formed.{products, formed, grown};
 ghost use Rattle.gram_matrix.specs.Work.{workOf};
 ghost use Rattle.lattices.specs.Greedy.{Row, order};
 ghost use Rattle.gram_matrix.specs.Order.{exchanged, swapped, insertAt};
-ghost use Rattle.gram_matrix.specs.Tied.{Held, Tied, shorterIn};
+ghost use Rattle.gram_matrix.specs.Tied.{Held, Kind, Tied, shorterIn};
 use row_operations::Basis;
 use row_operations::TableRow;
 use row_operations::Vector;
@@ -123,7 +123,7 @@ fn exchange(g: &mut Table, b: &mut Basis, u: &mut Table, v: &mut Table, j: usize
     requires { ⌜ suc j < 4 ⌝ }
     requires { ⌜ Held (now g) (now b) (now u) (now v) ⌝ }
     ensures { λ _. ⌜ Held (now (g .exit)) (now (b .exit)) (now (u .exit)) (now (v .exit)) ⌝ }
-    ensures { λ _. ⌜ ((F : ℤ) (rows : List Row) → Tied F rows (now (g .entry)) (now (b .entry)) (now (u .entry)) (now (v .entry)) → Tied F (exchanged j rows) (now (g .exit)) (now (b .exit)) (now (u .exit)) (now (v .exit))) ⌝ }
+    ensures { λ _. ⌜ ((K : Kind) (rows : List Row) → Tied K rows (now (g .entry)) (now (b .entry)) (now (u .entry)) (now (v .entry)) → Tied K (exchanged j rows) (now (g .exit)) (now (b .exit)) (now (u .exit)) (now (v .exit))) ⌝ }
 {
     exchange_columns(g, j);
     exchange_rows(g, j);
@@ -137,7 +137,7 @@ fn insert(g: &mut Table, b: &mut Basis, u: &mut Table, v: &mut Table, i: usize, 
     requires { ⌜ (i < n) × (n ≤ 4) ⌝ }
     requires { ⌜ Held (now g) (now b) (now u) (now v) ⌝ }
     ensures { λ _. ⌜ Held (now (g .exit)) (now (b .exit)) (now (u .exit)) (now (v .exit)) ⌝ }
-    ensures { λ _. ⌜ ((F : ℤ) (rows : List Row) → Tied F rows (now (g .entry)) (now (b .entry)) (now (u .entry)) (now (v .entry)) → Tied F (insertAt i (n - suc i) rows) (now (g .exit)) (now (b .exit)) (now (u .exit)) (now (v .exit))) ⌝ }
+    ensures { λ _. ⌜ ((K : Kind) (rows : List Row) → Tied K rows (now (g .entry)) (now (b .entry)) (now (u .entry)) (now (v .entry)) → Tied K (insertAt i (n - suc i) rows) (now (g .exit)) (now (b .exit)) (now (u .exit)) (now (v .exit))) ⌝ }
 {
     let mut j = i;
     while j + 1 < n {
@@ -154,7 +154,7 @@ pub fn order(g: &mut Table, b: &mut Basis, u: &mut Table, v: &mut Table, n: usiz
     requires { ⌜ n ≤ 4 ⌝ }
     requires { ⌜ Held (now g) (now b) (now u) (now v) ⌝ }
     ensures { λ _. ⌜ Held (now (g .exit)) (now (b .exit)) (now (u .exit)) (now (v .exit)) ⌝ }
-    ensures { λ _. ⌜ ((F : ℤ) (rows : List Row) → Tied F rows (now (g .entry)) (now (b .entry)) (now (u .entry)) (now (v .entry)) → Tied F (order (take n rows) ++ drop n rows) (now (g .exit)) (now (b .exit)) (now (u .exit)) (now (v .exit))) ⌝ }
+    ensures { λ _. ⌜ ((K : Kind) (rows : List Row) → Tied K rows (now (g .entry)) (now (b .entry)) (now (u .entry)) (now (v .entry)) → Tied K (order (take n rows) ++ drop n rows) (now (g .exit)) (now (b .exit)) (now (u .exit)) (now (v .exit))) ⌝ }
 {
     let mut i = n;
     while 1 < i {

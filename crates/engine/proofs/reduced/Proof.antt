@@ -1,7 +1,7 @@
 -- `reduced`: the tables that begin the work, and the greedy steps.
 use mathlib.Core.Path.{_≡_, ap, _∙_}
 use mathlib.Core.List.{[]}
-use lib.IntN.{pos}
+use Rattle.gram_matrix.specs.Tied.{whole}
 use lib.ListN.{length, take}
 use denote.Ref.{now}
 use borrow.Author.Needs.{needs}

@@ -43,7 +43,7 @@ returns c =     let s = c .before .before .before .before .before .before .befor
       vectors = ap length b ∙ length-exchanged j (now (s .args .b)) ∙ h .vectors;
       us = ap length u ∙ length-exchanged j (now (s .args .u)) ∙ h .us;
       vs = ap length v ∙ length-map (now (s .args .v)) (swapped j) ∙ h .vs;
-    }, λ F rows t. rw (g, b, u, v) (tied-exchanged j (omega (arith, tied-length t, h .us, s .pre .0)) t))
+    }, λ K rows t. rw (g, b, u, v) (tied-exchanged j (omega (arith, tied-length t, h .us, s .pre .0)) t))
 
 pub exchange-spec : {M : Type 1} → statement M
 exchange-spec =
