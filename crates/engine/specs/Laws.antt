@@ -12,6 +12,7 @@ pub mod Few
 pub mod Answer
 pub mod Named
 pub mod Membership
+pub mod Members
 pub mod Tables
 pub mod Repeat
 pub mod Passing

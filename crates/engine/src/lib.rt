@@ -19,6 +19,10 @@ ghost use Rattle.nearest_of_four.specs.Near.{Near};
 ghost use Rattle.successive_minima.specs.Member.{isMember};
 ghost use Rattle.lattices.specs.Answer.{noReduction, reductionOf, noNearest, nearestOf};
 ghost use Rattle.engine.specs.Laws.Named.{named};
+pub use lattice::MemberAnswer;
+pub use lattice::membership;
+
+pub mod lattice;
 
 use gram_matrix::Table;
 use gram_matrix::Work;

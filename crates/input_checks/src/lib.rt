@@ -13,12 +13,15 @@ ghost use Rattle.integers.specs.Every.{any};
 ghost use Rattle.lattices.specs.Answer.{padded, table};
 ghost use Rattle.input_checks.specs.Any.{beyond};
 ghost use Rattle.input_checks.specs.Minors.{wedged};
-ghost use Rattle.input_checks.specs.Volumes.{minors, nonzero};
+ghost use Rattle.input_checks.specs.Volumes.{minors};
+use minors::first_minor;
+
+pub mod minors;
 
 // How many vectors and coordinates an input may have.
-const MOST_VECTORS: usize = 4;
+pub const MOST_VECTORS: usize = 4;
 
-const MOST_COORDINATES: usize = 4;
+pub const MOST_COORDINATES: usize = row_operations::WIDTH;
 
 // No refusal applies.
 const ACCEPTED: u64 = 0;
@@ -26,7 +29,7 @@ const ACCEPTED: u64 = 0;
 // The limits of a coordinate's size and of a squared length.
 const MOST_SIZE: i64 = 20000;
 
-const MOST_SQUARE: i64 = 400000000;
+pub const MOST_SQUARE: i64 = 400000000;
 
 // The m numbers from `at` on as a vector of the array: zeros follow.
 pub fn vector(numbers: &[i64], at: usize, m: usize) -> [i64; 4]
@@ -157,25 +160,14 @@ pub fn volume(b: [[i64; 4]; 4], d: usize) -> [i64; 16]
     w
 }
 
-// Whether some entry of a form is not zero.
-fn any_nonzero(w: [i64; 16]) -> bool
-    ensures { λ r. ⌜ r ≡ any nonzero w ⌝ }
-{
-    for s in 0..16 {
-        if w[s] != 0 {
-            return true;
-        }
-    }
-    false
-}
-
-// Whether the first d vectors, within the length limit, are dependent: their volume is zero.
+// Whether the first d vectors, within the length limit, are dependent: no minor is other than zero.
 pub fn dependent(b: [[i64; 4]; 4], d: usize) -> bool
     requires { ⌜ d ≤ 4 ⌝ }
     requires { ⌜ ((i : ℕ) → i < d → N (getD b i []) ≤ℤ pos 400000000) ⌝ }
     ensures { λ r. ⌜ r ≡ isDependent 4 (take d b) ⌝ }
 {
-    !any_nonzero(volume(b, d))
+    let m = first_minor(b, d);
+    m.minor == 0
 }
 
 // Whether a count is from 1 to the most that is allowed.
