@@ -1,5 +1,7 @@
 -- What is proved about the definitions.
 pub mod State
+pub mod Products
+pub mod Limits
 pub mod Fine
 pub mod Room
 pub mod Pass
@@ -13,5 +15,4 @@ pub mod Membership
 pub mod Members
 pub mod Tables
 pub mod Repeat
-pub mod Products
 pub mod Passing

@@ -3,7 +3,9 @@ ghost use mathlib.Core.Path.{_≡_};
 ghost use Prim.Native.Nat.{ℕ, _+_, _-_, _≤_, _<_};
 ghost use mathlib.Core.List.{[]};
 ghost use lib.ListN.{take};
-ghost use Rattle.gram_matrix.specs.Tied.{Held, Tied};
+ghost use Rattle.lattices.specs.Refusal.{firstOf, vectorChecks};
+ghost use Rattle.engine.specs.Laws.Begin.{first};
+ghost use Rattle.gram_matrix.specs.Tied.{Held, Tied, whole};
 ghost use Rattle.engine.specs.Laws.Tables.{Passable};
 ghost use Rattle.engine.specs.Laws.Repeat.{Reducible, Outcome};
 ghost use Rattle.engine.specs.Laws.Answer.{diagonalOf, finished};
@@ -34,7 +36,7 @@ fn pass(g: &mut Table, b: &mut Basis, u: &mut Table, v: &mut Table, k: usize)
     requires { ⌜ Held (now g) (now b) (now u) (now v) ⌝ }
     requires { ⌜ Passable k (now g) (now b) (now u) (now v) ⌝ }
     ensures { λ _. ⌜ Held (now (g .exit)) (now (b .exit)) (now (u .exit)) (now (v .exit)) ⌝ }
-    ensures { λ _. ⌜ ((p : Passable k (now (g .entry)) (now (b .entry)) (now (u .entry)) (now (v .entry))) → Tied (p .factor) (passRows k (p .rows)) (now (g .exit)) (now (b .exit)) (now (u .exit)) (now (v .exit))) ⌝ }
+    ensures { λ _. ⌜ ((p : Passable k (now (g .entry)) (now (b .entry)) (now (u .entry)) (now (v .entry))) → Tied (p .kind) (passRows k (p .rows)) (now (g .exit)) (now (b .exit)) (now (u .exit)) (now (v .exit))) ⌝ }
 {
     let mut r = g[k];
     let mut x = [0; 3];
@@ -47,7 +49,7 @@ fn pass(g: &mut Table, b: &mut Basis, u: &mut Table, v: &mut Table, k: usize)
 fn reduce_first(gram: Table, vectors: Basis, us: Table, vs: Table, n: usize, before: u64) -> Work
     requires { ⌜ n ≤ 4 ⌝ }
     requires { ⌜ Reducible n before gram vectors us vs ⌝ }
-    ensures { λ r. ⌜ ((p : Reducible n before gram vectors us vs) → Outcome (p .factor) n before (p .rows) r) ⌝ }
+    ensures { λ r. ⌜ ((p : Reducible n before gram vectors us vs) → Outcome (p .kind) n before (p .rows) r) ⌝ }
 {
     let mut g = gram;
     let mut b = vectors;
@@ -177,6 +179,17 @@ fn refused_nearest(n: u64) -> NearestVector
     }
 }
 
+// The greedy steps on an input that is accepted, with the Gram matrix that they leave.
+fn reduced(numbers: &[i64], d: usize, m: usize) -> Work
+    requires { ⌜ firstOf vectorChecks (record { numbers = now numbers; d = d; m = m; target = [] }) ≡ 0 ⌝ }
+    ensures { λ r. ⌜ ((e : firstOf vectorChecks (record { numbers = now (numbers .entry); d = d; m = m; target = [] }) ≡ 0) → Outcome whole d 0 (first (record { numbers = now (numbers .entry); d = d; m = m; target = [] }) e) r) ⌝ }
+{
+    let b = input_checks::basis(numbers, d, m);
+    let g = gram_matrix::formed(&b, d);
+    let e = row_operations::unit_table(d);
+    reduce_first(g, b, e, e, d, 0)
+}
+
 // The answer from the coefficients and what the nearest vector leaves of the target t.
 fn named(t: [i64; 4], x: [i64; 4], rest: [i64; 4]) -> NearestVector
     requires { ⌜ Bounded 20000 t ⌝ }
@@ -196,15 +209,16 @@ fn named(t: [i64; 4], x: [i64; 4], rest: [i64; 4]) -> NearestVector
 pub fn nearest(numbers: &[i64], d: usize, m: usize, target: &[i64]) -> NearestVector
     ensures { λ r. ⌜ r ≡ packedNearest (nearestOf (record { numbers = now (numbers .entry); d = d; m = m; target = now (target .entry) })) ⌝ }
 {
-    let r = reduce(numbers, d, m);
-    if r.refusal != 0 {
-        return refused_nearest(r.refusal);
+    let number = input_checks::refusal(numbers, d, m);
+    if number != 0 {
+        return refused_nearest(number);
     }
     let n = input_checks::target_refusal(target, m);
     if n != 0 {
         return refused_nearest(n);
     }
-    let vectors = r.vectors;
+    let w = reduced(numbers, d, m);
+    let vectors = w.vectors;
     let b = row_operations::vectors_of(vectors);
     let t = input_checks::vector(target, 0, m);
     let c = nearest_of_four::closest(b, d, t);

@@ -37,7 +37,7 @@ pub gram-exchanged : (j : ℕ) (bs : List Vec) → gramOf (exchanged j bs) ≡ e
 gram-exchanged j bs = map-exchanged (against (exchanged j bs)) j bs
     ∙ ap (λ f. exchanged j (map f bs)) (fun-ext (against-exchanged j bs)) ∙ ap (exchanged j) (sym (map-map (exchanged j) (against bs) bs))
 
--- ---- row k loses the combination x of the rows before it (as in the engine's Pass)
+-- ---- row k loses the combination x of the rows before it
 abbrev pub losing : List ℤ → List (List ℤ) → ℕ → List (List ℤ)
 losing x t k = set t k (getD t k [] ⊖ comb x (take k t))
 

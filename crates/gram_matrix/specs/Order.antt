@@ -102,7 +102,7 @@ unfolding orderBy
 length-order [] = refl
 length-order (r ∷ l) = length-insert r (order l) ∙ ap suc (length-order l)
 
-pub orderedFrom-last : (n : ℕ) (l : List Row) → n ≤ length l → orderedFrom n n l ≡ l
+orderedFrom-last : (n : ℕ) (l : List Row) → n ≤ length l → orderedFrom n n l ≡ l
 unfolding orderBy
 orderedFrom-last zero l h = refl
 orderedFrom-last (suc n) [] h = absurd (omega arith)
@@ -117,3 +117,11 @@ orderedFrom-next zero m (suc n) (r ∷ l) e h =
     let k : m ≡ length q = sym (length-order (take n l) ∙ length-take-le n l (omega arith) ∙ omega arith) in
     ap (λ k. insertAt 0 k (r ∷ q ++ drop n l)) k ∙ insertAt-first r q (drop n l)
 orderedFrom-next (suc i) m (suc n) (r ∷ l) e h = insertAt-cons m i r (orderedFrom n (suc i) l) ∙ ap (λ k. r ∷ k) (orderedFrom-next i m n l (omega arith) (omega arith))
+
+-- one row is in order
+pub orderedFrom-begin : (n : ℕ) (l : List Row) → n ≤ length l → orderedFrom n (n - 1) l ≡ l
+unfolding insertAt
+orderedFrom-begin zero l h = orderedFrom-last 0 l h
+orderedFrom-begin (suc n) l h =
+    let e : suc n - 1 ≡ n = omega arith in
+    rw e (sym (orderedFrom-next n 0 (suc n) l (omega arith) h) ∙ orderedFrom-last (suc n) l h)

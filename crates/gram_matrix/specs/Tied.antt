@@ -1,5 +1,5 @@
--- Which rows the tables belong to: g is their Gram matrix up to a positive factor F, b has their vectors, u their rows of U, v the rows of V
--- (whose columns the rows have). Order by length works on the tables alone.
+-- Which rows the tables belong to: g is their Gram matrix up to a positive factor, b has their vectors or zeros, u their rows of U, v the
+-- rows of V (whose columns the rows have). Order by length works on the tables alone.
 use mathlib.Core.Path.{_≡_, refl, sym, ap, ap₂, _∙_, subst, fun-ext}
 use mathlib.Core.Bool.{Bool, true, false}
 use mathlib.Core.Logic.{⊎-elim}
@@ -26,10 +26,26 @@ pub record Held (g b u v : List (List ℤ)) : Type 0 where
   pub us : length u ≡ 4
   pub vs : length v ≡ 4
 
-pub record Tied (F : ℤ) (rows : List Row) (g b u v : List (List ℤ)) : Type 0 where
-  pub positive : pos 0 <ℤ F
-  pub gram : gramOf (vectors rows) ≡ map (λ r. F ⊙ r) g
-  pub vectors : vectors rows ≡ b
+-- the factor of the Gram matrix, and whether the vectors stand in their table; where they do not, it holds zeros
+pub record Kind : Type 0 where
+  pub factor : ℤ
+  pub vectors : Bool
+
+-- vectors as they are
+abbrev pub whole : Kind
+whole = record { factor = pos 1; vectors = true }
+
+abbrev pub scaled : ℤ → List (List ℤ) → List (List ℤ)
+scaled c = map (λ r. c ⊙ r)
+
+abbrev pub bit : Bool → ℤ
+bit true = pos 1
+bit false = pos 0
+
+pub record Tied (K : Kind) (rows : List Row) (g b u v : List (List ℤ)) : Type 0 where
+  pub positive : pos 0 <ℤ K .factor
+  pub gram : gramOf (vectors rows) ≡ scaled (K .factor) g
+  pub vectors : scaled (bit (K .vectors)) (vectors rows) ≡ b
   pub us : map (λ r. r .u) rows ≡ u
   pub vs : transposed (map (λ r. r .v) rows) ≡ v
 
@@ -48,38 +64,38 @@ transposed-exchanged j t = λ k. column 0 k ∷ column 1 k ∷ column 2 k ∷ co
     column : (i : ℕ) → map (λ r. nth r i) (exchanged j t) ≡ exchanged j (map (λ r. nth r i) t)
     column i = map-exchanged (λ r. nth r i) j t
 
-pub tied-length : {F : ℤ} {rows : List Row} {g b u v : List (List ℤ)} → Tied F rows g b u v → length rows ≡ length u
+pub tied-length : {K : Kind} {rows : List Row} {g b u v : List (List ℤ)} → Tied K rows g b u v → length rows ≡ length u
 tied-length {rows = rows} t = sym (length-map rows (λ r. r .u)) ∙ ap length (t .us)
 
-pub tied-length-gram : {F : ℤ} {rows : List Row} {g b u v : List (List ℤ)} → Tied F rows g b u v → length g ≡ length rows
-tied-length-gram {F} {rows} {g} t = sym (length-map g (λ r. F ⊙ r)) ∙ ap length (sym (t .gram)) ∙ gram-length (vectors rows) ∙ length-map rows (λ r. r .vector)
+pub tied-length-gram : {K : Kind} {rows : List Row} {g b u v : List (List ℤ)} → Tied K rows g b u v → length g ≡ length rows
+tied-length-gram {K} {rows} {g} t = sym (length-map g (λ r. K .factor ⊙ r)) ∙ ap length (sym (t .gram)) ∙ gram-length (vectors rows) ∙ length-map rows (λ r. r .vector)
 
 -- every row of the Gram matrix has a number for each row, and so has every row of V
 coordinates-⊙ : (F : ℤ) (n : ℕ) (g : List (List ℤ)) → Coordinates n (map (λ r. F ⊙ r) g) → Coordinates n g
 coordinates-⊙ F n [] c = tt
 coordinates-⊙ F n (r ∷ g) c = (sym (length-⊙ F r) ∙ c .0, coordinates-⊙ F n g (c .1))
 
-pub tied-square : {F : ℤ} {rows : List Row} {g b u v : List (List ℤ)} → Tied F rows g b u v → Coordinates (length rows) g
-tied-square {F} {rows} {g} t = coordinates-⊙ F (length rows) g
+pub tied-square : {K : Kind} {rows : List Row} {g b u v : List (List ℤ)} → Tied K rows g b u v → Coordinates (length rows) g
+tied-square {K} {rows} {g} t = coordinates-⊙ (K .factor) (length rows) g
     (subst (Coordinates (length rows)) (t .gram) (subst (λ n. Coordinates n (gramOf (vectors rows))) (length-map rows (λ r. r .vector)) (coordinates-against (vectors rows) (vectors rows))))
 
-pub tied-wide : {F : ℤ} {rows : List Row} {g b u v : List (List ℤ)} → Tied F rows g b u v → Coordinates (length rows) v
+pub tied-wide : {K : Kind} {rows : List Row} {g b u v : List (List ℤ)} → Tied K rows g b u v → Coordinates (length rows) v
 unfolding transposed
 tied-wide {rows = rows} t = subst (Coordinates (length rows)) (t .vs) (column 0, (column 1, (column 2, (column 3, tt))))
   where
     column : (i : ℕ) → length (map (λ r. nth r i) (map (λ r. r .v) rows)) ≡ length rows
     column i = length-map (map (λ r. r .v) rows) (λ r. nth r i) ∙ length-map rows (λ r. r .v)
 
-pub tied-exchanged : {F : ℤ} {rows : List Row} {g b u v : List (List ℤ)} (j : ℕ) → suc j < length rows → Tied F rows g b u v
-    → Tied F (exchanged j rows) (exchanged j (map (swapped j) g)) (exchanged j b) (exchanged j u) (map (swapped j) v)
-tied-exchanged {F} {rows} {g} {v = v} j h t = record {
+pub tied-exchanged : {K : Kind} {rows : List Row} {g b u v : List (List ℤ)} (j : ℕ) → suc j < length rows → Tied K rows g b u v
+    → Tied K (exchanged j rows) (exchanged j (map (swapped j) g)) (exchanged j b) (exchanged j u) (map (swapped j) v)
+tied-exchanged {K} {rows} {g} {v = v} j h t = record {
   positive = t .positive;
   gram = ap gramOf (map-exchanged (λ r. r .vector) j rows) ∙ gram-exchanged j (vectors rows)
       ∙ ap (λ l. exchanged j (map (exchanged j) l)) (t .gram)
-      ∙ ap (exchanged j) (map-map (exchanged j) (λ r. F ⊙ r) g ∙ ap (λ f. map f g) (fun-ext (exchanged-⊙ F j)) ∙ sym (map-map (λ r. F ⊙ r) (exchanged j) g))
-      ∙ sym (map-exchanged (λ r. F ⊙ r) j (map (exchanged j) g))
-      ∙ ap (λ l. map (λ r. F ⊙ r) (exchanged j l)) (sym (map-swapped j (length rows) g h (tied-square t)));
-  vectors = map-exchanged (λ r. r .vector) j rows ∙ ap (exchanged j) (t .vectors);
+      ∙ ap (exchanged j) (map-map (exchanged j) (λ r. K .factor ⊙ r) g ∙ ap (λ f. map f g) (fun-ext (exchanged-⊙ (K .factor) j)) ∙ sym (map-map (λ r. K .factor ⊙ r) (exchanged j) g))
+      ∙ sym (map-exchanged (λ r. K .factor ⊙ r) j (map (exchanged j) g))
+      ∙ ap (λ l. map (λ r. K .factor ⊙ r) (exchanged j l)) (sym (map-swapped j (length rows) g h (tied-square t)));
+  vectors = ap (scaled (bit (K .vectors))) (map-exchanged (λ r. r .vector) j rows) ∙ map-exchanged (λ r. bit (K .vectors) ⊙ r) j (vectors rows) ∙ ap (exchanged j) (t .vectors);
   us = map-exchanged (λ r. r .u) j rows ∙ ap (exchanged j) (t .us);
   vs = ap transposed (map-exchanged (λ r. r .v) j rows) ∙ transposed-exchanged j (map (λ r. r .v) rows) ∙ ap (map (exchanged j)) (t .vs)
       ∙ sym (map-swapped j (length rows) v h (tied-wide t));
@@ -92,12 +108,12 @@ scaled-row F [] j = refl
 scaled-row F (r ∷ g) zero = refl
 scaled-row F (r ∷ g) (suc j) = scaled-row F g j
 
-pub tied-diagonal : {F : ℤ} {rows : List Row} {g b u v : List (List ℤ)} → Tied F rows g b u v → (j : ℕ) → j < length rows → N (getD rows j blank .vector) ≡ F *ℤ nth (getD g j []) j
-tied-diagonal {F} {rows} {g} t j h =
+pub tied-diagonal : {K : Kind} {rows : List Row} {g b u v : List (List ℤ)} → Tied K rows g b u v → (j : ℕ) → j < length rows → N (getD rows j blank .vector) ≡ K .factor *ℤ nth (getD g j []) j
+tied-diagonal {K} {rows} {g} t j h =
     ap (λ x. N x) (sym (getD-map (λ r. r .vector) rows blank [] j h))
     ∙ sym (gram-diagonal (vectors rows) j (omega (arith, length-map rows (λ r. r .vector))))
     ∙ ap (λ l. nth (getD l j []) j) (t .gram)
-    ∙ ap (λ r. nth r j) (scaled-row F g j) ∙ nth-⊙ F (getD g j []) j
+    ∙ ap (λ r. nth r j) (scaled-row (K .factor) g j) ∙ nth-⊙ (K .factor) (getD g j []) j
 
 ltZ-scale : {c : ℤ} → pos 0 <ℤ c → (x y : ℤ) → ltZ (c *ℤ x) (c *ℤ y) ≡ ltZ x y
 ltZ-scale {c} h x y = ⊎-elim
@@ -105,7 +121,7 @@ ltZ-scale {c} h x y = ⊎-elim
     (λ k. <ℤ-ltZ (*ℤ-mono-< h k) ∙ sym (<ℤ-ltZ k)) (≤ℤ-or-<ℤ y x)
 
 -- is vector k shorter than vector i, by numbers
-pub tied-shorter : {F : ℤ} {rows : List Row} {g b u v : List (List ℤ)} → Tied F rows g b u v → (k i : ℕ) → k < length rows → i < length rows
+pub tied-shorter : {K : Kind} {rows : List Row} {g b u v : List (List ℤ)} → Tied K rows g b u v → (k i : ℕ) → k < length rows → i < length rows
     → ltZ (N (getD rows k blank .vector)) (N (getD rows i blank .vector)) ≡ ltZ (nth (getD g k []) k) (nth (getD g i []) i)
 tied-shorter {g = g} t k i h l = ap₂ ltZ (tied-diagonal t k h) (tied-diagonal t i l) ∙ ltZ-scale (t .positive) (nth (getD g k []) k) (nth (getD g i []) i)
 
@@ -113,7 +129,7 @@ tied-shorter {g = g} t k i h l = ap₂ ltZ (tied-diagonal t k h) (tied-diagonal 
 abbrev pub shorterIn : List (List ℤ) → ℕ → Bool
 shorterIn g k = ltZ (nth (getD g k []) k) (nth (getD g (k - 1) []) (k - 1))
 
-module _ {F : ℤ} {rows : List Row} {g b u v : List (List ℤ)} (t : Tied F rows g b u v) (n j : ℕ) (h : j + 1 < n) (l : n ≤ length rows) where
+module _ {K : Kind} {rows : List Row} {g b u v : List (List ℤ)} (t : Tied K rows g b u v) (n j : ℕ) (h : j + 1 < n) (l : n ≤ length rows) where
   longer-is : longer rows j ≡ shorterIn g (j + 1)
   longer-is =
       let e : suc j ≡ j + 1 = omega arith in
@@ -132,7 +148,7 @@ module _ {F : ℤ} {rows : List Row} {g b u v : List (List ℤ)} (t : Tied F row
       rw (e, m) (sym (insertAt-suc j (n - suc (suc j)) rows true (longer-is ∙ q)))
 
 -- in the loop: the tables belong to some rows, of which the rest of the insertion gives the whole
-pub record Left (F : ℤ) (i j n : ℕ) (rows : List Row) (g b u v : List (List ℤ)) : Type 0 where
+pub record Left (K : Kind) (i j n : ℕ) (rows : List Row) (g b u v : List (List ℤ)) : Type 0 where
   pub now : List Row
-  pub tied : Tied F now g b u v
+  pub tied : Tied K now g b u v
   pub same : insertAt j (n - suc j) now ≡ insertAt i (n - suc i) rows

@@ -2,7 +2,7 @@
 ghost use mathlib.Core.Path.{_≡_};
 ghost use mathlib.Core.List.{List, [], _++_, map};
 ghost use Prim.Native.Nat.{ℕ, suc, _+_, _-_, _≤_, _<_};
-ghost use lib.IntN.{ℤ, natAbs, _-ℤ_, _*ℤ_};
+ghost use lib.IntN.{natAbs, _-ℤ_, _*ℤ_};
 ghost use lib.ListN.{length, getD, set, take, drop};
 ghost use Rattle.lattices.specs.Vector.{nth, dot, _⊖_, _⊙_};
 ghost use Rattle.row_operations.specs.Minus.{room};
@@ -11,11 +11,11 @@ ghost use Rattle.gram_matrix.specs.Lose.{Losable, Gainable, Loses, Gains
 ghost use Rattle.gram_matrix.specs.Gram.{losing, losingEntry};
 ghost use Rattle.gram_matrix.specs.Cross.{entered, crossed};
 ghost use Rattle.integers.specs.Size.{Within};
-ghost use Rattle.gram_matrix.specs.Formed.{products, formed};
+ghost use Rattle.gram_matrix.specs.Formed.{products, formed, grown};
 ghost use Rattle.gram_matrix.specs.Work.{workOf};
 ghost use Rattle.lattices.specs.Greedy.{Row, order};
 ghost use Rattle.gram_matrix.specs.Order.{exchanged, swapped, insertAt};
-ghost use Rattle.gram_matrix.specs.Tied.{Held, Tied, shorterIn};
+ghost use Rattle.gram_matrix.specs.Tied.{Held, Kind, Tied, shorterIn};
 use row_operations::Basis;
 use row_operations::TableRow;
 use row_operations::Vector;
@@ -39,7 +39,18 @@ fn products(b: &Basis, d: usize, v: Vector) -> [i64; 4]
     r
 }
 
-// The Gram matrix of the first d vectors, zeros behind.
+// Entry k of each row becomes that of r at its place.
+fn enter(g: &mut Table, k: usize, r: &[i64; 4])
+    requires { ⌜ k ≤ 3 ⌝ }
+    requires { ⌜ length (now g) ≡ 4 ⌝ }
+    ensures { λ _. ⌜ now (g .exit) ≡ entered k (now (r .entry)) (now (g .entry)) ⌝ }
+{
+    for i in 0..4 {
+        g[i][k] = r[i];
+    }
+}
+
+// The Gram matrix of the first d vectors, zeros behind: with each vector its row and its column are added.
 pub fn formed(b: &Basis, d: usize) -> Table
     requires { ⌜ d ≤ 4 ⌝ }
     requires { ⌜ length (now b) ≡ 4 ⌝ }
@@ -48,7 +59,9 @@ pub fn formed(b: &Basis, d: usize) -> Table
 {
     let mut g = [[0; 4]; 4];
     for i in 0..d {
-        g[i] = products(b, d, b[i]);
+        let r = products(b, i + 1, b[i]);
+        g[i] = r;
+        enter(&mut g, i, &r);
     }
     g
 }
@@ -110,7 +123,7 @@ fn exchange(g: &mut Table, b: &mut Basis, u: &mut Table, v: &mut Table, j: usize
     requires { ⌜ suc j < 4 ⌝ }
     requires { ⌜ Held (now g) (now b) (now u) (now v) ⌝ }
     ensures { λ _. ⌜ Held (now (g .exit)) (now (b .exit)) (now (u .exit)) (now (v .exit)) ⌝ }
-    ensures { λ _. ⌜ ((F : ℤ) (rows : List Row) → Tied F rows (now (g .entry)) (now (b .entry)) (now (u .entry)) (now (v .entry)) → Tied F (exchanged j rows) (now (g .exit)) (now (b .exit)) (now (u .exit)) (now (v .exit))) ⌝ }
+    ensures { λ _. ⌜ ((K : Kind) (rows : List Row) → Tied K rows (now (g .entry)) (now (b .entry)) (now (u .entry)) (now (v .entry)) → Tied K (exchanged j rows) (now (g .exit)) (now (b .exit)) (now (u .exit)) (now (v .exit))) ⌝ }
 {
     exchange_columns(g, j);
     exchange_rows(g, j);
@@ -124,7 +137,7 @@ fn insert(g: &mut Table, b: &mut Basis, u: &mut Table, v: &mut Table, i: usize, 
     requires { ⌜ (i < n) × (n ≤ 4) ⌝ }
     requires { ⌜ Held (now g) (now b) (now u) (now v) ⌝ }
     ensures { λ _. ⌜ Held (now (g .exit)) (now (b .exit)) (now (u .exit)) (now (v .exit)) ⌝ }
-    ensures { λ _. ⌜ ((F : ℤ) (rows : List Row) → Tied F rows (now (g .entry)) (now (b .entry)) (now (u .entry)) (now (v .entry)) → Tied F (insertAt i (n - suc i) rows) (now (g .exit)) (now (b .exit)) (now (u .exit)) (now (v .exit))) ⌝ }
+    ensures { λ _. ⌜ ((K : Kind) (rows : List Row) → Tied K rows (now (g .entry)) (now (b .entry)) (now (u .entry)) (now (v .entry)) → Tied K (insertAt i (n - suc i) rows) (now (g .exit)) (now (b .exit)) (now (u .exit)) (now (v .exit))) ⌝ }
 {
     let mut j = i;
     while j + 1 < n {
@@ -141,12 +154,12 @@ pub fn order(g: &mut Table, b: &mut Basis, u: &mut Table, v: &mut Table, n: usiz
     requires { ⌜ n ≤ 4 ⌝ }
     requires { ⌜ Held (now g) (now b) (now u) (now v) ⌝ }
     ensures { λ _. ⌜ Held (now (g .exit)) (now (b .exit)) (now (u .exit)) (now (v .exit)) ⌝ }
-    ensures { λ _. ⌜ ((F : ℤ) (rows : List Row) → Tied F rows (now (g .entry)) (now (b .entry)) (now (u .entry)) (now (v .entry)) → Tied F (order (take n rows) ++ drop n rows) (now (g .exit)) (now (b .exit)) (now (u .exit)) (now (v .exit))) ⌝ }
+    ensures { λ _. ⌜ ((K : Kind) (rows : List Row) → Tied K rows (now (g .entry)) (now (b .entry)) (now (u .entry)) (now (v .entry)) → Tied K (order (take n rows) ++ drop n rows) (now (g .exit)) (now (b .exit)) (now (u .exit)) (now (v .exit))) ⌝ }
 {
     let mut i = n;
-    while 0 < i {
+    while 1 < i {
         i -= 1;
-        insert(g, b, u, v, i, n);
+        insert(g, b, u, v, i - 1, n);
     }
 }
 
@@ -255,17 +268,6 @@ fn less_entry(r: &[i64; 4], k: usize, x: &[i64; 3]) -> [i64; 4]
     s
 }
 
-// Entry k of each row becomes that of r at its place.
-fn enter(g: &mut Table, k: usize, r: &[i64; 4])
-    requires { ⌜ k ≤ 3 ⌝ }
-    requires { ⌜ length (now g) ≡ 4 ⌝ }
-    ensures { λ _. ⌜ now (g .exit) ≡ entered k (now (r .entry)) (now (g .entry)) ⌝ }
-{
-    for i in 0..4 {
-        g[i][k] = r[i];
-    }
-}
-
 // Row and column k of the Gram matrix become r, what is left of row k when the rows before it are taken away x times; its entry k, the
 // squared length, loses the same once more.
 pub fn cross(g: &mut Table, k: usize, r: &[i64; 4], x: &[i64; 3])
@@ -294,9 +296,7 @@ pub fn packed(g: &Table, b: &Basis, u: &Table, v: &Table, passes: u64) -> Work
 {
     let mut w = Work {
         gram: [TableRow { at: [0; 4] }; 4],
-        vectors: [VectorRow {
-            at: [0; row_operations::WIDTH],
-        }; 4],
+        vectors: [VectorRow { at: [0; row_operations::WIDTH] }; 4],
         u: [TableRow { at: [0; 4] }; 4],
         v: [TableRow { at: [0; 4] }; 4],
         passes: passes,

@@ -33,7 +33,7 @@ abbrev μ : Measures 0 kinds.ps ℕ
 μ κs a = a .1 .1 .1 .1 .0
 
 abbrev Inv-loop : lts.InvT-loop
-Inv-loop n before g₀ b₀ u₀ v₀ passes₀ g b u v passes = Held g b u v × ((p : Reducible n passes₀ g₀ b₀ u₀ v₀) → Going (p .factor) n passes₀ (p .rows) g b u v passes)
+Inv-loop n before g₀ b₀ u₀ v₀ passes₀ g b u v passes = Held g b u v × ((p : Reducible n passes₀ g₀ b₀ u₀ v₀) → Going (p .kind) n passes₀ (p .rows) g b u v passes)
 
 abbrev μ-loop : lts.MeasureT-loop
 μ-loop n before g₀ b₀ u₀ v₀ passes₀ g b u v passes = natAbs (trace n g)
@@ -85,7 +85,7 @@ module _ (t : ℕ) where
   now : (a : lts.At-loop claims given reads.Post Inv-loop μ-loop) → Begun a → List Row
   now a p = a .loop .inv .1 p .now
 
-  turn : (a : lts.At-loop claims given reads.Post Inv-loop μ-loop) (p : Begun a) → let n = a .before .before .args .n in Round n (n - 1) (a .loop .passes) (now a p)
+  turn : (a : lts.At-loop claims given reads.Post Inv-loop μ-loop) (p : Begun a) → let n = a .before .before .args .n in Round (p .kind) n (n - 1) (a .loop .passes) (now a p)
   unfolding now
   turn a p = round-now (a .before .if1 .left) (a .before .before .pre .1 .0) p (a .loop .inv .1 p)
 
@@ -93,9 +93,9 @@ module _ (t : ℕ) where
   order-requires c κs = (c .before .before .before .before .before .before .pre .1 .0, c .before .before .before .before .loop .inv .0)
 
   -- after step 2
-  in-order : (r : lts.After-order claims given reads.Post Inv-loop μ-loop) → let a = r .before .before .before .before .before in (p : Begun a) → let o = r .order .last in Tied (p .factor) (orderRows (a .before .before .args .n) (now a p)) (o .0) (o .1 .0) (o .1 .1 .0) (o .1 .1 .1 .0)
+  in-order : (r : lts.After-order claims given reads.Post Inv-loop μ-loop) → let a = r .before .before .before .before .before in (p : Begun a) → let o = r .order .last in Tied (p .kind) (orderRows (a .before .before .args .n) (now a p)) (o .0) (o .1 .0) (o .1 .1 .0) (o .1 .1 .1 .0)
   unfolding now
-  in-order r p = let a = r .before .before .before .before .before in r .order .ensures .1 (p .factor) (now a p) (a .loop .inv .1 p .tied)
+  in-order r p = let a = r .before .before .before .before .before in r .order .ensures .1 (p .kind) (now a p) (a .loop .inv .1 p .tied)
 
   sub-reduce-first : lts.Need-sub-reduce-first claims given reads.Post Inv-loop μ-loop
   sub-reduce-first c = omega arith
@@ -105,10 +105,9 @@ module _ (t : ℕ) where
   fewer r p =
       let a = r .before .before .before .before .before in
       record {
-        factor = p .factor;
+        kind = p .kind;
         rows = orderRows (a .before .before .args .n) (now a p);
         tied = in-order r p;
-        one = p .one;
         fine = turn a p .fewer;
         few = turn a p .fewer-room;
       }
@@ -146,7 +145,7 @@ module _ (t : ℕ) where
       (q .if2 .came)
 
   first : (q : lts.Joined2 claims given reads.Post Inv-loop μ-loop) → let a = q .before .before .before .before .before .before in (p : Begun a) → let n = a .before .before .args .n in let j = q .if2 in
-      Tied (p .factor) (rows-first q p) (j .g) (j .b) (j .u) (j .v) × (j .passes ≡ a .loop .passes + greedyPasses (n - 1) (orderRows n (now a p)))
+      Tied (p .kind) (rows-first q p) (j .g) (j .b) (j .u) (j .v) × (j .passes ≡ a .loop .passes + greedyPasses (n - 1) (orderRows n (now a p)))
   unfolding rows-first fewer
   first q p =
       let r = q .before in
@@ -163,7 +162,7 @@ module _ (t : ℕ) where
       let k : n - 1 < 2 = omega (arith, w .0 .left) in
       let e = few-rows (n - 1) k rows in
       let z : m ≡ m + greedyPasses (n - 1) rows = omega (arith, e .1) in
-      (rw (w .1, w .2, w .3, w .4) (subst (λ x. Tied (p .factor) x (l .0) (l .1 .0) (l .1 .1 .0) (l .1 .1 .1 .0)) (sym (e .0)) (in-order r p)), w .5 ∙ z))
+      (rw (w .1, w .2, w .3, w .4) (subst (λ x. Tied (p .kind) x (l .0) (l .1 .0) (l .1 .1 .0) (l .1 .1 .1 .0)) (sym (e .0)) (in-order r p)), w .5 ∙ z))
       (q .if2 .came)
 
   sub-pass : lts.Need-sub-pass claims given reads.Post Inv-loop μ-loop
@@ -172,14 +171,14 @@ module _ (t : ℕ) where
   -- what the pass is given
   passable : (q : lts.Joined2 claims given reads.Post Inv-loop μ-loop) → let a = q .before .before .before .before .before .before in Begun a → let j = q .if2 in Passable (a .before .before .args .n - 1) (j .g) (j .b) (j .u) (j .v)
   unfolding rows-first
-  passable q p = record { factor = p .factor; rows = rows-first q p; tied = first q p .0; one = p .one; ready = turn (q .before .before .before .before .before .before) p .ready }
+  passable q p = record { kind = p .kind; rows = rows-first q p; tied = first q p .0; ready = turn (q .before .before .before .before .before .before) p .ready }
 
   pass-requires : lts.Need-pass-requires claims given reads.Post Inv-loop μ-loop
   pass-requires c κs = let q = c .before .before .before .before in (omega arith, (first-held q, passable q (here (q .before .before .before .before .before .before))))
 
   -- after the pass
   turned : (c : lts.After-pass claims given reads.Post Inv-loop μ-loop) → let a = c .before .before .before .before .before .before .before .before .before .before .before in (p : Begun a) → let n = a .before .before .args .n in let l = c .pass .last in
-      Tied (p .factor) (nextRows n (n - 1) (now a p)) (l .0) (l .1 .0) (l .1 .1 .0) (l .1 .1 .1 .0)
+      Tied (p .kind) (nextRows n (n - 1) (now a p)) (l .0) (l .1 .0) (l .1 .1 .0) (l .1 .1 .1 .0)
   unfolding rows-first passable
   turned c p = c .pass .ensures .1 (passable (c .before .before .before .before .before) p)
 

@@ -1,7 +1,7 @@
 -- `reduce` is the checks, the tables that begin the work, the greedy steps and the packing.
 use mathlib.Core.Path.{_≡_, sym, ap, _∙_}
 use mathlib.Core.List.{[]}
-use lib.IntN.{pos}
+use Rattle.gram_matrix.specs.Tied.{whole}
 use lib.ListN.{length, take}
 use denote.Ref.{now}
 use Rattle.lattices.specs.Refusal.{Input, basis, firstOf, vectorChecks}
@@ -41,7 +41,7 @@ gram-is c = let a = c .before .before .before .before in c .before .formed .ensu
 start : (c : tie.After-unit-table) → let a = c .before .before .before .before in Reducible (a .before .before .args .d) 0 (c .before .formed .result) (c .before .before .before .basis .result) (c .unit-table .result) (c .unit-table .result)
 start c = let a = c .before .before .before .before in begins (input (a .before .before)) (ok a) (gram-is c) (c .before .before .before .basis .ensures) (c .unit-table .ensures)
 
-outcome-of : (c : tie.After-reduce-first) → let a = c .before .before .before .before .before in let i = input (a .before .before) in Outcome (pos 1) (i .d) 0 (first i (ok a)) (c .reduce-first .result)
+outcome-of : (c : tie.After-reduce-first) → let a = c .before .before .before .before .before in let i = input (a .before .before) in Outcome whole (i .d) 0 (first i (ok a)) (c .reduce-first .result)
 unfolding start
 outcome-of c = c .reduce-first .ensures (start (c .before))
 
@@ -58,7 +58,7 @@ basis-requires : tie.Need-basis-requires
 basis-requires c κs = let a = facts c in (a .most, (a .few, a .count))
 
 formed-requires : tie.Need-formed-requires
-formed-requires c κs = let a = c .before .before in
+formed-requires c κs =     let a = c .before .before in
     let i = input (a .before .before) in
     (facts a .most, (ap length (c .before .basis .ensures) ∙ length-table 4 4 (basis i), λ j k. rw (c .before .basis .ensures) (begun-small i (ok a) j k)))
 
@@ -72,7 +72,7 @@ finished-requires : tie.Need-finished-requires
 finished-requires c κs = search needs
 
 returns-2 : tie.Need-returns-2
-returns-2 c = let a = c .before .before .before .before .before .before in
+returns-2 c =     let a = c .before .before .before .before .before .before in
     c .finished .ensures ∙ accepted-answer (input (a .before .before)) (ok a) (c .before .reduce-first .result) (outcome-of (c .before))
 
 pub reduce-spec : {M : Type 1} → statement M

@@ -25,7 +25,8 @@ use Rattle.row_operations.specs.RowStructs.{vectorRow, tableRow}
 use Rattle.gram_matrix.specs.declared.Work.{Work}
 use Rattle.gram_matrix.specs.Gram.{gramOf}
 use Rattle.gram_matrix.specs.Formed.{formed, formed-is}
-use Rattle.gram_matrix.specs.Tied.{Tied, tied-diagonal}
+use Rattle.gram_matrix.specs.Tied.{whole, Tied, tied-diagonal}
+use Rattle.gram_matrix.specs.Work as Work
 use Rattle.gram_matrix.specs.Work.{vectorsIn, tableIn}
 use Rattle.engine.specs.declared.Reduction.{Reduction}
 use Rattle.engine.specs.Packed.{packed}
@@ -45,6 +46,10 @@ diagonalOf g = map (λ i. nth (getD g i []) i) firstFour
 unfoldable pub finished : Work → Reduction
 finished w = record { refusal = 0; place = 0; vectors = w .vectors; u = w .u; v = w .v; squares = diagonalOf (tableIn (w .gram)); passes = w .passes }
 
+-- the rows of an answer's vectors
+pub vectors-back : (l : List (List ℤ)) → map (λ r. r .at) (map vectorRow l) ≡ l
+vectors-back = Work.vectors-back
+
 vectors-again : (l : List VectorRow) → map vectorRow (vectorsIn l) ≡ l
 vectors-again [] = refl
 vectors-again (r ∷ l) = ap (λ t. r ∷ t) (vectors-again l)
@@ -54,7 +59,7 @@ table-again [] = refl
 table-again (r ∷ l) = ap (λ t. r ∷ t) (table-again l)
 
 -- the diagonal of the Gram matrix of four vectors
-diagonal-is : {rows : List Row} {g b u v : List (List ℤ)} → Tied (pos 1) rows g b u v → length rows ≡ 4 → diagonalOf g ≡ map (λ r. N (r .vector)) rows
+diagonal-is : {rows : List Row} {g b u v : List (List ℤ)} → Tied whole rows g b u v → length rows ≡ 4 → diagonalOf g ≡ map (λ r. N (r .vector)) rows
 diagonal-is {rows} {g} t e = (λ k. entry 0 (omega (arith, e)) k ∷ entry 1 (omega (arith, e)) k ∷ entry 2 (omega (arith, e)) k ∷ entry 3 (omega (arith, e)) k ∷ [])
     ∙ map-four (λ r. N (r .vector)) rows blank e
   where
@@ -107,11 +112,11 @@ module _ (i : Input) (e : firstOf vectorChecks i ≡ 0) where
       ∙ formed-is ins (unused i e) (omega (arith, ins-count, four-rows i e, bs-count i e)) ∙ ap formed (sym ins-taken)
 
   -- they belong to the rows with which the definition begins, which may be reduced
-  begun-tied : Tied (pos 1) (first i e) (formed (take (i .d) b)) b units-table units-table
+  begun-tied : Tied whole (first i e) (formed (take (i .d) b)) b units-table units-table
   begun-tied = record {
     positive = ltZ-yes tt;
     gram = gram-formed ∙ sym (ones (formed (take (i .d) b)));
-    vectors = tables .vectors;
+    vectors = ones (vectors (first i e)) ∙ tables .vectors;
     us = tables .u;
     vs = ap transposed (tables .v) ∙ symmetric-units (i .d) (accepted i e .most);
   }
@@ -119,20 +124,20 @@ module _ (i : Input) (e : firstOf vectorChecks i ≡ 0) where
   pub begun-few : 0 + greedyPasses (i .d) (first i e) ≤ 1000000000000
   begun-few = omega (arith, few-passes (accepted i e .most) (first-fine i e))
 
-  pub begun : {g c u : List (List ℤ)} → g ≡ formed (take (i .d) b) → c ≡ b → u ≡ units-table → Tied (pos 1) (first i e) g c u u
+  pub begun : {g c u : List (List ℤ)} → g ≡ formed (take (i .d) b) → c ≡ b → u ≡ units-table → Tied whole (first i e) g c u u
   begun p q r = rw (p, q, r) begun-tied
 
   abbrev pub begins : {g c u : List (List ℤ)} → g ≡ formed (take (i .d) b) → c ≡ b → u ≡ units-table → Reducible (i .d) 0 g c u u
-  begins p q r = record { factor = pos 1; rows = first i e; tied = begun p q r; one = refl; fine = first-fine i e; few = begun-few }
+  begins p q r = record { kind = whole; rows = first i e; tied = begun p q r; fine = first-fine i e; few = begun-few }
 
   -- ---- the engine's answer for an accepted input
   abbrev G : List Row
   G = greedyRows (i .d) (first i e)
 
-  module _ (w : Work) (o : Outcome (pos 1) (i .d) 0 (first i e) w) where
+  module _ (w : Work) (o : Outcome whole (i .d) 0 (first i e) w) where
     -- the vectors, which the nearest vector is searched in
     pub vectors-given : vectorsIn (w .vectors) ≡ table 4 4 (vectors (R i e))
-    vectors-given = sym (o .tied .vectors) ∙ last-vectors i e
+    vectors-given = sym (o .tied .vectors) ∙ ones (vectors G) ∙ last-vectors i e
 
     finished-rows : finished w ≡ packed (reductionGiven (reduction (basis i)))
     unfolding finished

@@ -1,5 +1,6 @@
 -- A pass on the four tables of rows that are ready for it.
 use mathlib.Core.Path.{_≡_, refl, sym, ap, ap₂, _∙_, subst}
+use mathlib.Core.Bool.{Bool, true, false}
 use mathlib.Core.List.{List, [], _∷_, map}
 use Prim.Native.Nat.{ℕ, zero, suc, _+_, _≤_, _<_}
 use native.Mathlib.Omega.{arith}
@@ -8,19 +9,20 @@ use lib.IntN.{ℤ, pos, natAbs, _*ℤ_, *ℤ-zero}
 use lib.Signed.{leZ-yes}
 use lib.ListN.{length, getD, take, length-map, length-set, List·getD-eq-default}
 use Rattle.integers.specs.Identity.{by-ring, reads}
-use Rattle.integers.specs.Order.{≤ℤ-trans}
-use Rattle.integers.specs.Size.{Within}
+use Rattle.integers.specs.Order.{≤ℤ-trans, ≤ℤ-of-<ℤ, *ℤ-mono}
+use Rattle.integers.specs.Size.{Within, load}
+use Rattle.integers.specs.ListLaws.{nth-⊙, length-⊙}
 use Rattle.lattices.specs.Vector.{Vec, nth, dot, comb, _⊙_, _⊖_}
 use Rattle.lattices.specs.Nearest.{nearest}
 use Rattle.lattices.specs.Greedy as Greedy
 use Rattle.lattices.specs.Greedy.{Row}
 use Rattle.lattices.specs.Answer.{padded}
 use Rattle.successive_minima.specs.Reduced.{Reduced}
-use Rattle.greedy_reduction.specs.Start.{sized-vectors, sized-us}
+use Rattle.greedy_reduction.specs.Start.{Coordinates, sized-vectors, sized-us}
 use Rattle.row_operations.specs.Minus.{room}
 use Rattle.row_operations.specs.Rows.{Tables, rowsOf, rowsOf-tables, transposed}
-use Rattle.gram_matrix.specs.Gram.{gramOf}
-use Rattle.gram_matrix.specs.Tied.{Tied, tied-square, tied-length-gram}
+use Rattle.gram_matrix.specs.Gram.{losing}
+use Rattle.gram_matrix.specs.Tied.{Kind, Tied, scaled, bit, scaled-row, tied-square, tied-length-gram}
 use Rattle.gram_matrix.specs.Columns.{gainedColumns, nth-column}
 use Rattle.gram_matrix.specs.Lose.{Loses, Gains, row-wide}
 use Rattle.gram_matrix.specs.Cross.{crossed}
@@ -29,22 +31,18 @@ use Rattle.nearest_of_three.specs.Meant.{Meant, Known}
 use Rattle.engine.specs.Laws.State.{blank, passRows}
 use Rattle.engine.specs.Laws.Room as Room
 use Rattle.engine.specs.Laws.Room.{PassReady}
-use Rattle.engine.specs.Laws.Pass.{losing, gaining, length-gained, pass-rows}
+use Rattle.engine.specs.Laws.Pass.{gaining, length-gained, pass-rows}
 use Rattle.engine.specs.Laws.Passing as Passing
 use Rattle.engine.specs.Laws.Passing.{coefficients}
 
--- some rows whose tables these are, ready for a pass; the limits hold of vectors, whose factor is 1
+-- some rows whose tables these are, ready for a pass
 pub record Passable (k : ℕ) (g b u v : List (List ℤ)) : Type 0 where
-  pub factor : ℤ
+  pub kind : Kind
   pub rows : List Row
-  pub tied : Tied factor rows g b u v
-  pub one : factor ≡ pos 1
-  pub ready : PassReady k rows
+  pub tied : Tied kind rows g b u v
+  pub ready : PassReady kind k rows
 
-pub tied-one : {k : ℕ} {g b u v : List (List ℤ)} (p : Passable k g b u v) → Tied (pos 1) (p .rows) g b u v
-tied-one {g = g} {b} {u} {v} p = subst (λ F. Tied F (p .rows) g b u v) (p .one) (p .tied)
-
--- ---- where the factor is 1, the Gram matrix is that of the vectors
+-- ---- the table of the vectors: as they are, or zeros
 one-⊙ : (r : Vec) → pos 1 ⊙ r ≡ r
 unfolding _⊙_
 one-⊙ [] = refl
@@ -53,12 +51,26 @@ one-⊙ (x ∷ r) = ap₂ _∷_ (one x) (one-⊙ r)
     one : (x : ℤ) → pos 1 *ℤ x ≡ x
     one x = by-ring (x ∷ []) (search reads) (search reads) tt
 
-pub ones : (g : List (List ℤ)) → map (λ r. pos 1 ⊙ r) g ≡ g
+pub ones : (g : List (List ℤ)) → scaled (pos 1) g ≡ g
 ones [] = refl
 ones (r ∷ g) = ap₂ _∷_ (one-⊙ r) (ones g)
 
-pub gram-is : {rows : List Row} {g b u v : List (List ℤ)} → Tied (pos 1) rows g b u v → g ≡ gramOf (Greedy.vectors rows)
-gram-is {g = g} t = sym (ones g) ∙ sym (t .gram)
+zero-* : (z : ℤ) → pos 0 *ℤ z ≡ pos 0
+zero-* z = by-ring (z ∷ []) (search reads) (search reads) tt
+
+zero-entry : (t : List (List ℤ)) (i j : ℕ) → nth (getD (scaled (pos 0) t) i []) j ≡ pos 0
+zero-entry t i j = ap (λ r. nth r j) (scaled-row (pos 0) t i) ∙ nth-⊙ (pos 0) (getD t i []) j ∙ zero-* (nth (getD t i []) j)
+
+zero-load : (k : ℕ) (x : List ℤ) (t : List (List ℤ)) (i : ℕ) → load (take k x) (take k (scaled (pos 0) t)) i ≡ 0
+unfolding load
+zero-load zero x t i = refl
+zero-load (suc k) [] t i = refl
+zero-load (suc k) (y ∷ x) [] i = refl
+zero-load (suc k) (y ∷ x) (r ∷ t) i = ap₂ (λ z n. natAbs (y *ℤ z) + n) (nth-⊙ (pos 0) r i ∙ zero-* (nth r i)) (zero-load k x t i) ∙ ap (λ z. natAbs z + 0) (*ℤ-zero y)
+
+scaled-wide : (c : ℤ) (n : ℕ) (t : List (List ℤ)) → Coordinates n t → Coordinates n (scaled c t)
+scaled-wide c n [] h = tt
+scaled-wide c n (r ∷ t) h = (length-⊙ c r ∙ h .0, scaled-wide c n t (h .1))
 
 -- ---- entries of the table V from the columns of the rows
 nth-transposed : (t : List (List ℤ)) (i j : ℕ) → i < 4 → nth (getD (transposed t) i []) j ≡ nth (getD t j []) i
@@ -73,7 +85,7 @@ length-transposed : (t : List (List ℤ)) → length (transposed t) ≡ 4
 unfolding transposed
 length-transposed t = refl
 
-module _ {k : ℕ} {g b u v : List (List ℤ)} {rows : List Row} (t : Tied (pos 1) rows g b u v) (r : PassReady k rows) (three : k ≤ 3) (four : length u ≡ 4) where
+module _ {K : Kind} {k : ℕ} {g b u v : List (List ℤ)} {rows : List Row} (t : Tied K rows g b u v) (r : PassReady K k rows) (three : k ≤ 3) (four : length u ≡ 4) where
   rows-four : length rows ≡ 4
   rows-four = sym (length-map rows (λ s. s .u)) ∙ ap length (t .us) ∙ four
 
@@ -81,7 +93,7 @@ module _ {k : ℕ} {g b u v : List (List ℤ)} {rows : List Row} (t : Tied (pos 
   x = padded 3 (coefficients k rows)
 
   x-is : take k x ≡ coefficients k rows
-  x-is = Passing.taken k rows r three
+  x-is = Passing.taken (t .positive) k rows r three
 
   -- the search may be made, and finds the coefficients
   square : (i : ℕ) → i < 4 → length (getD g i []) ≡ 4
@@ -90,15 +102,15 @@ module _ {k : ℕ} {g b u v : List (List ℤ)} {rows : List Row} (t : Tied (pos 
   pub row-four : length (getD g k []) ≡ 4
   row-four = square k (omega (arith, three))
 
-  pub meant : Meant (pos 1) k (Greedy.vectors rows) (getD rows k blank .vector) g (getD g k [])
+  pub meant : Meant (K .factor) k (Greedy.vectors rows) (getD rows k blank .vector) g (getD g k [])
   meant = record {
     positive = t .positive;
     enough = omega (arith, length-map rows (λ s. s .vector), rows-four, three);
-    reduced = subst Reduced (sym (Passing.front-is k rows r three)) (r .reduced);
-    short = Passing.short k rows r three;
-    target = ≤ℤ-trans (Passing.short-last k rows r three) (leZ-yes tt);
+    reduced = subst Reduced (sym (Passing.front-is (t .positive) k rows r three)) (r .reduced);
+    short = Passing.short (t .positive) k rows r three;
+    target = ≤ℤ-trans (Passing.short-last (t .positive) k rows r three) (*ℤ-mono {a = pos 400000000} {b = pos 3600000000} (≤ℤ-of-<ℤ (t .positive)) (leZ-yes tt));
     gram = record { row = λ i. record { at = tied-entry t i } };
-    products = record { at = λ j. tied-entry t k j ∙ ap (dot (getD (Greedy.vectors rows) j [])) (Passing.last-is k rows r three) };
+    products = record { at = λ j. tied-entry t k j ∙ ap (dot (getD (Greedy.vectors rows) j [])) (Passing.last-is (t .positive) k rows r three) };
     wide = λ i. pick i (decLt i 4);
   }
     where
@@ -109,27 +121,29 @@ module _ {k : ℕ} {g b u v : List (List ℤ)} {rows : List Row} (t : Tied (pos 
           rw (List·getD-eq-default g [] m) (omega arith)
 
   pub known : Known k g (getD g k [])
-  known = record { factor = pos 1; vectors = Greedy.vectors rows; target = getD rows k blank .vector; meant = meant }
+  known = record { factor = K .factor; vectors = Greedy.vectors rows; target = getD rows k blank .vector; meant = meant }
 
   pub found : {y : List ℤ} → ((F : ℤ) (vs : List Vec) (w : Vec) → Meant F k vs w g (getD g k []) → y ≡ padded 3 (nearest (take k vs) w)) → y ≡ x
-  found e = e (pos 1) (Greedy.vectors rows) (getD rows k blank .vector) meant ∙ ap (λ l. padded 3 (nearest l (getD rows k blank .vector))) (Passing.front-is k rows r three)
+  found e = e (K .factor) (Greedy.vectors rows) (getD rows k blank .vector) meant ∙ ap (λ l. padded 3 (nearest l (getD rows k blank .vector))) (Passing.front-is (t .positive) k rows r three)
 
   -- room for the row operations
   pub left-room : (j : ℕ) → Within 2000000000000000000 (nth x j *ℤ nth (getD g k [] ⊖ comb (take k x) (take k g)) j)
-  unfolding Passing.left
-  left-room j = rw (x-is, gram-is t) (Passing.left-room k rows r three j)
+  left-room j = rw x-is (Passing.left-room (t .positive) k rows r three t j)
 
   pub square-room : Within 1000000000000000000 (nth (getD g k [] ⊖ comb (take k x) (take k g)) k)
-  unfolding Passing.left
-  square-room = rw (x-is, gram-is t) (Passing.square-room k rows r three)
+  square-room = rw x-is (Passing.square-room (t .positive) k rows r three t)
+
+  vectors-fit : (s : Bool) → K .vectors ≡ s → (i : ℕ) → natAbs (nth (getD (scaled (bit s) (Greedy.vectors rows)) k []) i) + load (take k x) (take k (scaled (bit s) (Greedy.vectors rows))) i ≤ room
+  unfolding Room.x
+  vectors-fit true e i = rw ones (Room.vectors-room k rows (r .fine) three (r .reduced) e i)
+  vectors-fit false e i = rw (zero-entry (Greedy.vectors rows) k i, zero-load k x (Greedy.vectors rows) i) (omega arith)
 
   pub vectors-lose : Loses k x b
-  unfolding Room.x
   vectors-lose = rw (sym (t .vectors)) (record {
-    width = 4;
-    four = length-map rows (λ s. s .vector) ∙ rows-four;
-    wide = sized-vectors 4 4 rows (r .fine .sized);
-    fits = Room.vectors-room k rows (r .fine) three (r .reduced);
+    width = r .fine .limits .width;
+    four = length-map (Greedy.vectors rows) _ ∙ length-map rows (λ s. s .vector) ∙ rows-four;
+    wide = scaled-wide (bit (K .vectors)) (r .fine .limits .width) (Greedy.vectors rows) (sized-vectors (r .fine .limits .width) 4 rows (r .fine .sized));
+    fits = vectors-fit (K .vectors) refl;
   })
 
   pub us-lose : Loses k x u
@@ -137,7 +151,7 @@ module _ {k : ℕ} {g b u v : List (List ℤ)} {rows : List Row} (t : Tied (pos 
   us-lose = rw (sym (t .us)) (record {
     width = 4;
     four = length-map rows (λ s. s .u) ∙ rows-four;
-    wide = sized-us 4 4 rows (r .fine .sized);
+    wide = sized-us (r .fine .limits .width) 4 rows (r .fine .sized);
     fits = Room.u-table-room k rows (r .fine) three (r .reduced);
   })
 
@@ -156,7 +170,7 @@ module _ {k : ℕ} {g b u v : List (List ℤ)} {rows : List Row} (t : Tied (pos 
 
   -- the tables afterwards
   whole : rowsOf (losing (coefficients k rows) (map (λ s. s .vector) rows) k) (losing (coefficients k rows) (map (λ s. s .u) rows) k) (gaining (coefficients k rows) columns k) ≡ passRows k rows
-  whole = pass-rows k rows (Passing.long k rows r three) (coefficients k rows) (Passing.x-count k rows r three)
+  whole = pass-rows k rows (Passing.long (t .positive) k rows r three) (coefficients k rows) (Passing.x-count (t .positive) k rows r three)
 
   count : (f : Row → List ℤ) → length (losing (coefficients k rows) (map f rows) k) ≡ length rows
   count f = length-set (map f rows) k _ ∙ length-map rows f
@@ -166,5 +180,5 @@ module _ {k : ℕ} {g b u v : List (List ℤ)} {rows : List Row} (t : Tied (pos 
       (count (λ s. s .u) ∙ sym (count (λ s. s .vector)))
       (length-gained (coefficients k rows) (getD columns k []) columns ∙ length-map rows (λ s. s .v) ∙ sym (count (λ s. s .vector))))
 
-  pub tied-after : {F : ℤ} → Tied F rows g b u v → let y = take k x in Tied F (passRows k rows) (crossed y k (getD g k [] ⊖ comb y (take k g)) g) (losing y b k) (losing y u k) (gainedColumns y k v)
-  tied-after s = rw x-is (tied-passed s k (Passing.long k rows r three) (coefficients k rows) (passRows k rows) (tables .vectors) (tables .u) (tables .v))
+  pub tied-after : let y = take k x in Tied K (passRows k rows) (crossed y k (getD g k [] ⊖ comb y (take k g)) g) (losing y b k) (losing y u k) (gainedColumns y k v)
+  tied-after = rw x-is (tied-passed t k (Passing.long (t .positive) k rows r three) (coefficients k rows) (passRows k rows) (tables .vectors) (tables .u) (tables .v))

@@ -17,6 +17,7 @@ use Rattle.successive_minima.specs.Reduced.{Reduced}
 use Rattle.greedy_reduction.specs.Moves.{Moves, order-perm, before-last, length-before, moves-length, ordered-moves, greedy-moves}
 use Rattle.greedy_reduction.specs.Lengths.{total-nonneg}
 use Rattle.greedy_reduction.specs.Fuel.{stop, again, greedy-steps, falls, size-falls}
+use Rattle.gram_matrix.specs.Tied.{Kind}
 use Rattle.engine.specs.Laws.State.{blank, orderRows, passRows, greedyRows, greedyPasses}
 use Rattle.engine.specs.Laws.Fine.{Fine, fine-length, fine-moves, fine-order, fine-greedy, fine-fewer, fine-reduced}
 use Rattle.engine.specs.Laws.Room.{PassReady}
@@ -70,7 +71,7 @@ passes-list : (k : ℕ) (l tail : List Row) → length l ≡ suc k → suc (gree
 passes-list k [] tail e = absurd (omega arith)
 passes-list k (r ∷ rs) tail e = ap (λ a. suc (greedy k a .passes)) (take-before k r rs tail e)
 
-module _ (k : ℕ) (rows : List Row) (f : Fine (suc k) rows) where
+module _ {K : Kind} (k : ℕ) (rows : List Row) (f : Fine K (suc k) rows) where
   ordered-count : length (order (take (suc k) rows)) ≡ suc k
   ordered-count = sym (perm-length (order-perm (take (suc k) rows))) ∙ fine-length f
 
@@ -83,8 +84,8 @@ module _ (k : ℕ) (rows : List Row) (f : Fine (suc k) rows) where
   turn-moves : Moves (take (suc k) rows) (joined (roundOf k rows))
   turn-moves = ordered-moves k (greedy k) (greedy-moves k) (take (suc k) rows) (fine-length f)
 
-  pub turn-fine : Fine (suc k) (turnRows k rows)
-  turn-fine = subst (Fine (suc k)) (sym turn-rows) (fine-moves f (suc k) (le-refl (suc k)) (joined (roundOf k rows)) turn-moves)
+  pub turn-fine : Fine K (suc k) (turnRows k rows)
+  turn-fine = subst (Fine K (suc k)) (sym turn-rows) (fine-moves f (suc k) (le-refl (suc k)) (joined (roundOf k rows)) turn-moves)
 
   joined-count : length (joined (roundOf k rows)) ≡ suc k
   joined-count = sym (moves-length turn-moves) ∙ fine-length f
@@ -96,13 +97,13 @@ module _ (k : ℕ) (rows : List Row) (f : Fine (suc k) rows) where
   turn-drop = ap₂ drop (sym joined-count) turn-rows ∙ drop-append-seam (joined (roundOf k rows)) (drop (suc k) rows)
 
   -- after steps 2 and 3 the pass may be made
-  pub turn-ready : k ≤ 4 → PassReady k (greedyRows k (orderRows (suc k) rows))
+  pub turn-ready : k ≤ 4 → PassReady K k (greedyRows k (orderRows (suc k) rows))
   turn-ready h = record { fine = fine-greedy first k (omega arith); reduced = subst (λ l. Reduced (vectors l)) (sym front) (fine-reduced h fewer) }
     where
-      first : Fine (suc k) (orderRows (suc k) rows)
+      first : Fine K (suc k) (orderRows (suc k) rows)
       first = fine-order f
 
-      fewer : Fine k (orderRows (suc k) rows)
+      fewer : Fine K k (orderRows (suc k) rows)
       fewer = fine-fewer {n = suc k} {k = k} (omega arith) first
 
       c : List Row
@@ -128,7 +129,7 @@ compared b (r ∷ rs) j e =
     let same-place : length rs ≡ j = omega arith in
     ap (λ l. ltZ (N (b .vector)) (N (l .vector))) (last-at r rs ∙ ap (λ i. getD (r ∷ rs) i blank) same-place)
 
-module _ (j : ℕ) (rows : List Row) (f : Fine (suc (suc j)) rows) where
+module _ {K : Kind} (j : ℕ) (rows : List Row) (f : Fine K (suc (suc j)) rows) where
   abbrev k : ℕ
   k = suc j
 
@@ -153,10 +154,9 @@ module _ (j : ℕ) (rows : List Row) (f : Fine (suc (suc j)) rows) where
   -- or the steps repeat
   pub turn-repeats : test ≡ true → (greedyRows n rows ≡ greedyRows n (turnRows k rows)) × (greedyPasses n rows ≡ suc (greedyPasses k (orderRows n rows)) + greedyPasses n (turnRows k rows))
   turn-repeats q =
-      let e = steps ∙ ap (λ b. cond b (again P (greedy n (joined P))) (stop P)) q in (
-        ap (λ c. c .rows ++ drop n rows) e ∙ sym (ap₂ (λ a b. greedy n a .rows ++ b) (turn-take k rows f) (turn-drop k rows f)),
-        ap (λ c. c .passes) e ∙ ap₂ (λ a b. a + greedy n b .passes) (sym (turn-passes k rows f)) (sym (turn-take k rows f)),
-      )
+      let e = steps ∙ ap (λ b. cond b (again P (greedy n (joined P))) (stop P)) q in
+      (ap (λ c. c .rows ++ drop n rows) e ∙ sym (ap₂ (λ a b. greedy n a .rows ++ b) (turn-take k rows f) (turn-drop k rows f)),
+        ap (λ c. c .passes) e ∙ ap₂ (λ a b. a + greedy n b .passes) (sym (turn-passes k rows f)) (sym (turn-take k rows f)))
 
   first-count : length (P .first) ≡ k
   first-count = omega (arith, joined-count k rows f, length-append (P .first) (P .last ∷ []))

@@ -15,7 +15,7 @@ use Rattle.greedy_reduction.specs.Accepted.{accepted, targeted}
 use Rattle.greedy_reduction.specs.Demand.{accepted-reduction, first-refused, first-passed}
 use Rattle.lattice_membership.specs.Known.{ReducedBasis}
 use Rattle.lattice_membership.specs.Laws.Accepted.{accepted-basis}
-use Rattle.gram_matrix.specs.Work.{vectors-back}
+use Rattle.engine.specs.Laws.Answer.{vectors-back}
 use Rattle.engine.specs.Laws.Named.{refusal-is}
 use Rattle.engine.specs.Laws.Members.{memberGiven, refused-member, target-padded, target-short, member-answer}
 use Rattle.engine.proofs.lattice.membership.Statement.{statement}
