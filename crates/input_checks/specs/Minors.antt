@@ -144,11 +144,3 @@ turn a w f g s k h =
       sum = fits-within q tt;
       next = fits-within (within-sub p q) tt;
     }
-
--- the sixteen numbers of a product
-pub wedged-within : (a : Vec) (w : List ℤ) → length a ≡ 4 → ((i : ℕ) → Within 20000 (nth a i)) → ((i : ℕ) → Within 8000000000000 (nth w i)) → (s : ℕ) → Within 640000000000000000 (nth (wedged a w) s)
-wedged-within a w l f g s = pick (decLt s 16)
-  where
-    pick : Dec (s < 16) → Within 640000000000000000 (nth (wedged a w) s)
-    pick (yes h) = subst (Within 640000000000000000) (expansion-entry a w s l h) (within-le (omega arith) (expansion-within a w 20000 8000000000000 f g s 4))
-    pick (no h) = subst (Within 640000000000000000) (sym (List·getD-eq-default (wedged a w) (pos 0) (omega (arith, length-wedged a w)))) (record { within = omega arith })

@@ -1,27 +1,22 @@
 -- The volume of a list as an array of sixteen minors, that short vectors keep it small, and the test for dependence on it.
 use mathlib.Core.Path.{_≡_, refl, sym, ap, ap₂, _∙_, subst}
 use mathlib.Core.Logic.{_≢_}
-use mathlib.Core.Bool.{Bool, true, false, not, _&&_, _||_}
+use mathlib.Core.Bool.{Bool, true, false}
 use mathlib.Core.List.{List, [], _∷_, _++_}
-use Prim.Native.Nat.{ℕ, zero, suc, _+_, _*_, _≤_, _<_}
+use Prim.Native.Nat.{ℕ, zero, suc, _+_, _≤_, _<_}
 use native.Mathlib.Decide.{decLt}
 use native.Mathlib.Numerals.{add-one}
 use native.Mathlib.Omega.{arith}
-use lib.Dec.{leb}
-use lib.IntN.{ℤ, pos, negsuc, _+ℤ_, _*ℤ_}
+use lib.IntN.{ℤ, pos, negsuc}
 use lib.ListN.{length, getD, take, drop, replicate, length-take, drop-of-length-le, List·getD-eq-default}
 use lib.Seq.{drop-cons, getD-take, getD-drop}
-use lib.Signed.{leZ, _≤ℤ_, leZ-yes}
-use borrow.Author.Tests.{lt-leb}
+use lib.Signed.{_≤ℤ_, leZ-yes}
 use Rattle.integers.specs.Order.{≤ℤ-trans, pos-nonneg}
-use Rattle.integers.specs.Certificate.{NN}
 use Rattle.integers.specs.Size.{Within, root-within}
-use Rattle.lattices.specs.Vector.{Vec, N, nth, dot, _⊙_}
+use Rattle.lattices.specs.Vector.{Vec, N, nth, dot}
 use Rattle.lattices.specs.Laws.Vector.{square-≤}
-use Rattle.lattices.specs.Volume.{Index, Form, wedge, volume, inner, squaredVolume, isDependent}
-use Rattle.integers.specs.Every.{any}
+use Rattle.lattices.specs.Volume.{Index, Form, volume}
 use Rattle.exterior_algebra.specs.Forms.{half}
-use Rattle.exterior_algebra.specs.Exterior.{inner-nonneg}
 use Rattle.exterior_algebra.specs.Hadamard.{minor}
 use Rattle.exterior_algebra.specs.Sizes.{Short, product-≤}
 use Rattle.input_checks.specs.Minors.{entries, wedged}

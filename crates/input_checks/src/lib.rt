@@ -8,20 +8,23 @@ ghost use lib.Signed.{_≤ℤ_};
 ghost use Rattle.integers.specs.Size.{Within};
 ghost use Rattle.lattices.specs.Vector.{N, nth};
 ghost use Rattle.lattices.specs.Volume.{isDependent};
-ghost use Rattle.lattices.specs.Refusal.{vectorsOf, tooLong, oneTo, firstOf, vectorChecks, targetChecks};
+ghost use Rattle.lattices.specs.Refusal.{mostVectors, mostCoordinates, vectorsOf, tooLong, oneTo, firstOf, vectorChecks, targetChecks};
 ghost use Rattle.integers.specs.Every.{any};
 ghost use Rattle.lattices.specs.Answer.{padded, table};
 ghost use Rattle.input_checks.specs.Any.{beyond};
 ghost use Rattle.input_checks.specs.Minors.{wedged};
 ghost use Rattle.input_checks.specs.Volumes.{minors};
 use minors::first_minor;
+use row_operations::Basis;
+use row_operations::Vector;
+use row_operations::WIDTH;
 
 pub mod minors;
 
 // How many vectors and coordinates an input may have.
 pub const MOST_VECTORS: usize = 4;
 
-pub const MOST_COORDINATES: usize = row_operations::WIDTH;
+pub const MOST_COORDINATES: usize = WIDTH;
 
 // No refusal applies.
 const ACCEPTED: u64 = 0;
@@ -32,12 +35,12 @@ const MOST_SIZE: i64 = 20000;
 pub const MOST_SQUARE: i64 = 400000000;
 
 // The m numbers from `at` on as a vector of the array: zeros follow.
-pub fn vector(numbers: &[i64], at: usize, m: usize) -> [i64; 4]
-    requires { ⌜ m ≤ 4 ⌝ }
+pub fn vector(numbers: &[i64], at: usize, m: usize) -> Vector
+    requires { ⌜ m ≤ mostCoordinates ⌝ }
     requires { ⌜ at + m ≤ length (now numbers) ⌝ }
-    ensures { λ r. ⌜ r ≡ padded 4 (take m (drop at (now (numbers .entry)))) ⌝ }
+    ensures { λ r. ⌜ r ≡ padded mostCoordinates (take m (drop at (now (numbers .entry)))) ⌝ }
 {
-    let mut v = [0; 4];
+    let mut v = [0; WIDTH];
     for j in 0..m {
         v[j] = numbers[at + j];
     }
@@ -45,13 +48,13 @@ pub fn vector(numbers: &[i64], at: usize, m: usize) -> [i64; 4]
 }
 
 // d vectors of m coordinates each; zeros elsewhere.
-pub fn basis(numbers: &[i64], d: usize, m: usize) -> [[i64; 4]; 4]
-    requires { ⌜ d ≤ 4 ⌝ }
-    requires { ⌜ m ≤ 4 ⌝ }
+pub fn basis(numbers: &[i64], d: usize, m: usize) -> Basis
+    requires { ⌜ d ≤ mostVectors ⌝ }
+    requires { ⌜ m ≤ mostCoordinates ⌝ }
     requires { ⌜ length (now numbers) ≡ d * m ⌝ }
-    ensures { λ r. ⌜ r ≡ table 4 4 (vectorsOf d m (now (numbers .entry))) ⌝ }
+    ensures { λ r. ⌜ r ≡ table mostVectors mostCoordinates (vectorsOf d m (now (numbers .entry))) ⌝ }
 {
-    let mut b = [[0; 4]; 4];
+    let mut b = [[0; WIDTH]; 4];
     for i in 0..d {
         b[i] = vector(numbers, i * m, m);
     }
@@ -66,10 +69,10 @@ pub fn beyond(x: i64) -> bool
 }
 
 // Whether some coordinate is beyond the limit.
-fn any_beyond(v: [i64; 4]) -> bool
+fn any_beyond(v: Vector) -> bool
     ensures { λ r. ⌜ r ≡ any beyond v ⌝ }
 {
-    for j in 0..4 {
+    for j in 0..WIDTH {
         if beyond(v[j]) {
             return true;
         }
@@ -78,15 +81,15 @@ fn any_beyond(v: [i64; 4]) -> bool
 }
 
 // Whether a vector or a target is too long. The limit of each coordinate comes first, so that the square cannot overflow.
-pub fn long(v: [i64; 4]) -> bool
+pub fn long(v: Vector) -> bool
     ensures { λ r. ⌜ r ≡ tooLong v ⌝ }
 {
     any_beyond(v) || MOST_SQUARE < row_operations::dot(v, v)
 }
 
 // Whether one of the first d vectors is too long.
-fn any_long(b: [[i64; 4]; 4], d: usize) -> bool
-    requires { ⌜ d ≤ 4 ⌝ }
+fn any_long(b: Basis, d: usize) -> bool
+    requires { ⌜ d ≤ mostVectors ⌝ }
     ensures { λ r. ⌜ r ≡ any tooLong (take d b) ⌝ }
 {
     for i in 0..d {
@@ -161,10 +164,10 @@ pub fn volume(b: [[i64; 4]; 4], d: usize) -> [i64; 16]
 }
 
 // Whether the first d vectors, within the length limit, are dependent: no minor is other than zero.
-pub fn dependent(b: [[i64; 4]; 4], d: usize) -> bool
-    requires { ⌜ d ≤ 4 ⌝ }
+pub fn dependent(b: Basis, d: usize) -> bool
+    requires { ⌜ d ≤ mostVectors ⌝ }
     requires { ⌜ ((i : ℕ) → i < d → N (getD b i []) ≤ℤ pos 400000000) ⌝ }
-    ensures { λ r. ⌜ r ≡ isDependent 4 (take d b) ⌝ }
+    ensures { λ r. ⌜ r ≡ isDependent mostCoordinates (take d b) ⌝ }
 {
     let m = first_minor(b, d);
     m.minor == 0
@@ -202,7 +205,7 @@ pub fn refusal(numbers: &[i64], d: usize, m: usize) -> u64
 
 // The first refusal that applies to a target of vectors of m coordinates, and 0 for none.
 pub fn target_refusal(target: &[i64], m: usize) -> u64
-    requires { ⌜ m ≤ 4 ⌝ }
+    requires { ⌜ m ≤ mostCoordinates ⌝ }
     ensures { λ r. ⌜ r ≡ firstOf targetChecks (record { numbers = []; d = 0; m = m; target = now (target .entry) }) ⌝ }
 {
     if target.len() != m {

@@ -1,7 +1,7 @@
 -- Every minor before is zero.
-use mathlib.Core.Path.{_≡_, sym, ap, _∙_}
+use mathlib.Core.Path.{_≡_, refl, sym, ap, _∙_}
 use mathlib.Core.Logic.{_≢_}
-use Prim.Native.Nat.{ℕ, _-_, _+_, _^_, _≤_, _<_}
+use Prim.Native.Nat.{ℕ, _-_, _^_, _≤_, _<_}
 use native.Mathlib.Omega.{arith}
 use lib.IntN.{pos}
 use lib.ListN.{length, take}
@@ -67,7 +67,7 @@ returns-2 c =
     let end : l .loop .number ≡ 2 ^ mostCoordinates = omega arith in
     record {
       none = λ e. every-choice (take (l .before .args .d) (l .before .args .b)) (λ k h. l .loop .inv .1 k (omega (arith, end, h)));
-      some = λ h. absurd (h (λ i. pos 0));
+      some = λ h. absurd (h refl);
     }
 
 pub other-minor-spec : {M : Type 1} → statement M
