@@ -104,10 +104,11 @@ take-rows n (suc k) [] h i = omega arith
 take-rows n (suc k) (r ∷ g) h zero = h 0
 take-rows n (suc k) (r ∷ g) h (suc i) = take-rows n k g (λ j. h (suc j)) i
 
+-- it is as long as before
+pub left-width : {k : ℕ} {g : List (List ℤ)} {r : List ℤ} (x : List ℤ) → Known k g r → length (r ⊖ comb (take k x) (take k g)) ≡ length r
+left-width {k} {g} {r} x w = length-⊕ r (negsuc 0 ⊙ comb (take k x) (take k g))
+    ∙ omega (arith, length-⊙ (negsuc 0) (comb (take k x) (take k g)), length-comb (length r) (take k x) (take k g) (take-rows (length r) k g (w .meant .wide)))
+
 pub left-is : {n k : ℕ} {g : List (List ℤ)} {r₀ r x : List ℤ} {b : Bool} → Known k g r₀ → Moved n k g r₀ (replicate n (pos 0)) r x b → r ≡ r₀ ⊖ comb (take k x) (take k g)
-left-is {n} {k} {g} {r₀} {r} {x} w p = ≈-≡ r (r₀ ⊖ comb (take k x) (take k g)) wide
+left-is {n} {k} {g} {r₀} {r} {x} w p = ≈-≡ r (r₀ ⊖ comb (take k x) (take k g)) (p .width ∙ sym (left-width x w))
     (≈-trans (p .left) (≈-trans (≈-of-≡ (ap (λ z. r₀ ⊖ comb z g) (from-zeros p))) (≈-⊕ ≈-refl (≈-⊙ (negsuc 0) (comb-front k x g (zero-behind (w .meant) p))))))
-  where
-    wide : length r ≡ length (r₀ ⊖ comb (take k x) (take k g))
-    wide = p .width ∙ sym (length-⊕ r₀ (negsuc 0 ⊙ comb (take k x) (take k g))
-        ∙ omega (arith, length-⊙ (negsuc 0) (comb (take k x) (take k g)), length-comb (length r₀) (take k x) (take k g) (take-rows (length r₀) k g (w .meant .wide))))

@@ -47,15 +47,15 @@ fall-residual g e p = ap (λ n. number base (n ∷ e)) (gain-residual g e p)
 
 -- ---- no step
 
-no-zeros : (n : ℕ) → number base (replicate n (pos 0)) ≡ pos 0
+pub no-zeros : (n : ℕ) → number base (replicate n (pos 0)) ≡ pos 0
 no-zeros zero = refl
 no-zeros (suc n) = ap (λ z. pos 0 *ℤ power base (length (replicate n (pos 0))) +ℤ z) (no-zeros n) ∙ by-ring (power base (length (replicate n (pos 0))) ∷ []) (search reads) (search reads) tt
 
-still-nothing : (n : ℕ) (g : List (List ℤ)) (r : List ℤ) → gainOf g r (replicate n (pos 0)) ≡ pos 0
+pub still-nothing : (n : ℕ) (g : List (List ℤ)) (r : List ℤ) → gainOf g r (replicate n (pos 0)) ≡ pos 0
 unfolding gainOf
 still-nothing n g r = ap₂ (λ a b. a -ℤ pos 2 *ℤ b) (zero-dot (replicate n (pos 0)) (nth-replicate n) (comb (replicate n (pos 0)) g)) (zero-dot (replicate n (pos 0)) (nth-replicate n) r)
 
-pub moved-none : (n k : ℕ) (g : List (List ℤ)) (r x : List ℤ) → length x ≡ n → Moved n k g r x r x false
+unfoldable pub moved-none : (n k : ℕ) (g : List (List ℤ)) (r x : List ℤ) → length x ≡ n → Moved n k g r x r x false
 unfolding fall
 moved-none n k g r x h = record {
   step = replicate n (pos 0);
@@ -72,15 +72,15 @@ moved-none n k g r x h = record {
 
 -- ---- a step that improves
 
-gain-below : (g : List (List ℤ)) (r e : List ℤ) → improvesOf g r e ≡ true → gainOf g r e ≤ℤ pos 0
+pub gain-below : (g : List (List ℤ)) (r e : List ℤ) → improvesOf g r e ≡ true → gainOf g r e ≤ℤ pos 0
 unfolding improvesOf
 gain-below g r e h = ⊎-elim (λ (l : gainOf g r e ≤ℤ pos 0). l) (λ (l : pos 0 <ℤ gainOf g r e). absurd (subst T (sym h ∙ below-> e (zeros e) l) tt)) (≤ℤ-or-<ℤ (gainOf g r e) (pos 0))
 
-falls-below : (g : List (List ℤ)) (r e : List ℤ) → Bounded 5000000000 e → improvesOf g r e ≡ true → fall g r e <ℤ pos 0
+pub falls-below : (g : List (List ℤ)) (r e : List ℤ) → Bounded 5000000000 e → improvesOf g r e ≡ true → fall g r e <ℤ pos 0
 unfolding improvesOf fall
 falls-below g r e b h = number-negative 5000000000 (gainOf g r e) e h b
 
-pub moved-better : (n k : ℕ) (g : List (List ℤ)) (r x e : List ℤ) {r′ : List ℤ} → length e ≡ n → ((j : ℕ) → k ≤ j → nth e j ≡ pos 0) → Bounded 5000000000 e → improvesOf g r e ≡ true
+unfoldable pub moved-better : (n k : ℕ) (g : List (List ℤ)) (r x e : List ℤ) {r′ : List ℤ} → length e ≡ n → ((j : ℕ) → k ≤ j → nth e j ≡ pos 0) → Bounded 5000000000 e → improvesOf g r e ≡ true
     → r′ ≈ moved g r e → length r′ ≡ length r → Moved n k g r x r′ (x ⊕ e) true
 moved-better n k g r x e l z b h p v = record {
   step = e;
@@ -100,7 +100,7 @@ module _ (k : ℕ) (g : List (List ℤ)) (r : List ℤ) (w : Known k g r) where
   abbrev m : Meant (w .factor) k (w .vectors) (w .target) g r
   m = w .meant
 
-  gains : (e f : List ℤ) → gainOf g r (e ⊕ f) ≡ gainOf g r e +ℤ gainOf g (moved g r e) f
+  pub gains : (e f : List ℤ) → gainOf g r (e ⊕ f) ≡ gainOf g r e +ℤ gainOf g (moved g r e) f
   gains e f = gain-sum (w .factor) (w .vectors) g (m .gram) (m .positive) (w .target) r e f (m .products)
 
   pub fall-sum : (e f : List ℤ) → length e ≡ length f → fall g r (e ⊕ f) ≡ fall g r e +ℤ fall g (moved g r e) f
@@ -163,3 +163,17 @@ moved-wider h p = record {
 
 pub moved-length : {n k : ℕ} {g : List (List ℤ)} {r x r′ x′ : List ℤ} {b : Bool} → length x ≡ n → Moved n k g r x r′ x′ b → length x′ ≡ n
 moved-length {x} l p = ap length (p .coefficients) ∙ length-⊕-same x (p .step) (l ∙ sym (p .count)) ∙ l
+
+-- a step is a step, whether or not it is known to lead to a smaller value
+unfoldable pub moved-weaker : {n k : ℕ} {g : List (List ℤ)} {r x r′ x′ : List ℤ} {b : Bool} → Moved n k g r x r′ x′ b → Moved n k g r x r′ x′ false
+moved-weaker p = record {
+  step = p .step;
+  count = p .count;
+  behind = p .behind;
+  coefficients = p .coefficients;
+  left = p .left;
+  width = p .width;
+  shorter = p .shorter;
+  lower = p .lower;
+  falls = λ e. absurd (subst T (sym e) tt);
+}
