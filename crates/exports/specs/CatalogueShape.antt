@@ -10,7 +10,7 @@ use lib.IntN.{ℤ}
 use lib.ListN.{length}
 use lib.Seq.{sets}
 use borrow.Author.Tests.{le-leb, lt-leb}
-use Rattle.catalogue_rules.specs.Catalogue.{Entry, Outcome, refused, accepted}
+use Rattle.catalogue_rules.specs.Catalogue.{mostWords, Entry, Outcome, refused, accepted}
 use Rattle.catalogue_rules.specs.Read.{read}
 use Rattle.catalogue_rules.specs.Write.{write}
 use Rattle.catalogue_rules.specs.Laws.WellFormed.{well-formed}
@@ -28,34 +28,34 @@ use Rattle.exports.specs.Places.{OutcomeLow, read-low}
 
 -- a refusal with its place, or entries of which f makes no more than 40,000 bytes
 abbrev Told : (List Entry → List ℕ) → Outcome → Type 0
-Told f (refused n p) = (n ≤ 17) × (p ≤ 4609)
+Told f (refused n p) = (n ≤ 17) × (p ≤ mostWords)
 Told f (accepted es) = length (f es) ≤ 40000
 
 told-read : (bytes : List ℕ) → Told write (read bytes)
 unfolding write
 told-read bytes = go (read bytes) refl (read-low bytes)
   where
-    go : (o : Outcome) → read bytes ≡ o → OutcomeLow 4609 o → Told write o
+    go : (o : Outcome) → read bytes ≡ o → OutcomeLow mostWords o → Told write o
     go (refused n p) e q = q
     go (accepted es) e q = let w = well-formed bytes es e .entered in omega (arith, length-written es (w .few) (w .fits))
 
 told-fold : (bytes : List ℕ) → Told write (foldedOutcome (read bytes))
 told-fold bytes = go (read bytes) refl (read-low bytes)
   where
-    go : (o : Outcome) → read bytes ≡ o → OutcomeLow 4609 o → Told write (foldedOutcome o)
+    go : (o : Outcome) → read bytes ≡ o → OutcomeLow mostWords o → Told write (foldedOutcome o)
     go (refused n p) e q = q
     go (accepted es) e q = omega (arith, folded-size es (well-formed bytes es e))
 
 told-list : (bytes : List ℕ) → Told listingText (read bytes)
 told-list bytes = go (read bytes) refl (read-low bytes)
   where
-    go : (o : Outcome) → read bytes ≡ o → OutcomeLow 4609 o → Told listingText o
+    go : (o : Outcome) → read bytes ≡ o → OutcomeLow mostWords o → Told listingText o
     go (refused n p) e q = q
     go (accepted es) e q = listing-size bytes es e
 
 pub record Few (o : Output) : Type 0 where
   pub refusal : o .refusal ≤ 17
-  pub place : o .place ≤ 4609
+  pub place : o .place ≤ mostWords
   pub written : o .written ≤ 40000
 
 output-few : (f : List Entry → List ℕ) (o : Outcome) (out : List ℕ) → Told f o → Few (outputBy f o out)
@@ -80,13 +80,13 @@ list-few bytes out = output-few listingText (read bytes) out (told-list bytes)
 -- ---- lookup
 
 abbrev FewFound : Lookup → Type 0
-FewFound l = (l .refusal ≤ 17) × (l .place ≤ 4609)
+FewFound l = (l .refusal ≤ 17) × (l .place ≤ mostWords)
 
 looked-few : (o : Option ℕ) → FewFound (lookedUp o)
 looked-few none = (omega arith, omega arith)
 looked-few (some n) = (omega arith, omega arith)
 
-in-few : (o : Outcome) (number : ℕ) → OutcomeLow 4609 o → FewFound (lookedIn o number)
+in-few : (o : Outcome) (number : ℕ) → OutcomeLow mostWords o → FewFound (lookedIn o number)
 in-few (refused n p) number q = q
 in-few (accepted es) number q = looked-few (lookup (closedList es) number)
 

@@ -14,7 +14,7 @@ use Rattle.lattices.specs.Volume.{isDependent}
 use Rattle.integers.specs.Every.{any}
 use Rattle.catalogue_rules.specs.Word.{Word, head, coordinate, see, end, other, decode, wordsOf}
 use Rattle.catalogue_rules.specs.Laws.Word.{length-words}
-use Rattle.catalogue_rules.specs.Catalogue.{Head, See, Entry, Outcome, refused, accepted}
+use Rattle.catalogue_rules.specs.Catalogue.{mostWords, mostBytes, Head, See, Entry, Outcome, refused, accepted}
 use Rattle.catalogue_rules.specs.Read.{State, outside, inside, after, closed, Step, next, stop, isNumbered, withEntry, headRows, atHead, coordinateOf, withCoordinate, coordinateRows, atCoordinate, endRows, atEnd, step, atLast, readWords, firstPlace, dependentAt, lostAt, afterWords, fileRows, read}
 use Rattle.catalogue_rules.specs.Laws.Moves.{checked-case}
 
@@ -143,9 +143,9 @@ module _ (b : ℕ) where
       go (some p) r = (omega arith, r)
       go none r = lost (firstPlace (lostAt es) es) (first-low (lostAt es) (lost-low es) es q)
 
-pub read-low : (bytes : List ℕ) → OutcomeLow 4609 (read bytes)
+pub read-low : (bytes : List ℕ) → OutcomeLow mostWords (read bytes)
 unfolding read
 read-low bytes =
-    checked-case (λ n. n ≤ 17) (OutcomeLow 4609) (λ n. refused n 0) (fileRows bytes) (afterWords (readWords (outside []) 0 (wordsOf bytes))) (λ n l. (l, omega arith)) (omega arith)
-    (λ r. after-low 4609 (readWords (outside []) 0 (wordsOf bytes))
-    (words-low 4609 (wordsOf bytes) (outside []) 0 (omega (arith, length-words bytes, ltb-false 18436 (length bytes) (r .1 .0))) tt))
+    checked-case (λ n. n ≤ 17) (OutcomeLow mostWords) (λ n. refused n 0) (fileRows bytes) (afterWords (readWords (outside []) 0 (wordsOf bytes))) (λ n l. (l, omega arith)) (omega arith)
+    (λ r. after-low mostWords (readWords (outside []) 0 (wordsOf bytes))
+    (words-low mostWords (wordsOf bytes) (outside []) 0 (omega (arith, length-words bytes, ltb-false mostBytes (length bytes) (r .1 .0))) tt))
