@@ -28,6 +28,7 @@ use gram_matrix::Table;
 use gram_matrix::Work;
 use row_operations::Basis;
 use row_operations::TableRow;
+use row_operations::WIDTH;
 
 // Steps 4 and 5 for row k, the rows before it being reduced: the vector nearest to it in their lattice is subtracted from it.
 // The search leaves the inner products of what is left, which are the new row of the Gram matrix.
@@ -146,11 +147,11 @@ fn finished(w: Work) -> Reduction
 pub fn reduce(numbers: &[i64], d: usize, m: usize) -> Reduction
     ensures { λ r. ⌜ r ≡ packed (reductionOf (record { numbers = now (numbers .entry); d = d; m = m; target = [] })) ⌝ }
 {
-    let number = input_checks::refusal(numbers, d, m);
+    let mut b = [[0; WIDTH]; 4];
+    let number = input_checks::checked(numbers, d, m, &mut b);
     if number != 0 {
         return refused(number);
     }
-    let b = input_checks::basis(numbers, d, m);
     let g = gram_matrix::formed(&b, d);
     let e = row_operations::unit_table(d);
     finished(reduce_first(g, b, e, e, d, 0))

@@ -296,7 +296,9 @@ pub fn packed(g: &Table, b: &Basis, u: &Table, v: &Table, passes: u64) -> Work
 {
     let mut w = Work {
         gram: [TableRow { at: [0; 4] }; 4],
-        vectors: [VectorRow { at: [0; row_operations::WIDTH] }; 4],
+        vectors: [VectorRow {
+            at: [0; row_operations::WIDTH],
+        }; 4],
         u: [TableRow { at: [0; 4] }; 4],
         v: [TableRow { at: [0; 4] }; 4],
         passes: passes,

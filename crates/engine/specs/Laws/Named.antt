@@ -6,7 +6,7 @@ use Prim.Native.Nat.{ℕ, zero, suc, _+_, _≤_}
 use native.Mathlib.Omega.{arith}
 use native.Mathlib.Nat.{le-refl}
 use lib.IntN.{ℤ, pos, negsuc, natAbs, _+ℤ_, _*ℤ_}
-use lib.Signed.{_≤ℤ_, ltZ-yes}
+use lib.Signed.{_≤ℤ_}
 use lib.ListN.{length, getD, take, drop}
 use lib.Seq.{take-all}
 use Rattle.integers.specs.Identity.{by-ring, reads}
@@ -82,7 +82,7 @@ module _ (i : Input) (e : firstOf vectorChecks i ≡ 0) (f : firstOf targetCheck
   pub near : Near (i .d) array target
   near = record {
     reduced = subst Reduced (sym (outs-rows i e)) (last-reduced i e);
-    short = λ k h. subst (λ l. N (getD l k []) ≤ℤ pos 400000000) (last-vectors i e) (short-rows (ltZ-yes tt) (fine-greedy (first-fine i e) (i .d) (le-refl (i .d))) k);
+    short = λ k h. subst (λ l. N (getD l k []) ≤ℤ pos 400000000) (last-vectors i e) (short-rows (fine-greedy (first-fine i e) (i .d) (le-refl (i .d))) k);
     target = subst (λ n. n ≤ℤ pos 400000000) (sym (padded-N 4 (i .target) t-few)) (targeted i f .limit);
   }
 
