@@ -1,33 +1,161 @@
-// The nearest vector in the lattice of at most four reduced vectors. Up to three the search finds it. Of four, the lattice falls into layers,
-// one for each multiple of the last vector, and the search finds the best of a layer.
+// The nearest vector in the lattice of at most four reduced vectors, on numbers as in the search: g is the Gram matrix, r holds the inner products
+// of the vectors with what is left of the target, x the coefficients taken so far. Up to three vectors the search finds it. Of four, the lattice
+// falls into layers, one for each multiple of the last vector, and the search finds the best of a layer.
 ghost use mathlib.Core.Path.{_≡_};
-ghost use mathlib.Core.List.{[], _∷_};
-ghost use Prim.Native.Nat.{ℕ, _+_, _≤_};
-ghost use lib.IntN.{natAbs};
-ghost use lib.ListN.{getD, take};
-ghost use Rattle.integers.specs.Size.{load};
-ghost use Rattle.lattices.specs.Vector.{nth, N, comb, _⊖_};
+ghost use mathlib.Core.List.{List, [], _∷_};
+ghost use mathlib.Core.Bool.{Bool, true};
+ghost use Prim.Native.Nat.{ℕ, _≤_, _<_};
+ghost use lib.IntN.{ℤ, pos, negℤ, natAbs, _+ℤ_, _*ℤ_};
+ghost use lib.ListN.{length, getD, take, replicate};
+ghost use Rattle.integers.specs.Size.{Within};
+ghost use Rattle.lattices.specs.Vector.{Vec, N, nth, dot, comb, _⊕_, _⊖_};
 ghost use Rattle.lattices.specs.Laws.Vector.{_≈_};
-ghost use Rattle.lattices.specs.Nearest.{nearest, below};
+ghost use Rattle.lattices.specs.Nearest.{nearest};
 ghost use Rattle.lattices.specs.Answer.{padded};
-ghost use Rattle.successive_minima.specs.Laws.Digits.{Bounded, zeros};
-ghost use Rattle.nearest_of_three.specs.Numbers.{negative};
-ghost use Rattle.row_operations.specs.Minus.{room};
-ghost use Rattle.nearest_of_four.specs.Near.{Near, Reachable};
-ghost use Rattle.nearest_of_four.specs.Steps.{Solved, Decided};
+ghost use Rattle.successive_minima.specs.Laws.Digits.{Bounded};
+ghost use Rattle.nearest_of_three.specs.Meant.{Known};
+ghost use Rattle.nearest_of_three.specs.Numbers.{moved, negative};
 ghost use Rattle.successive_minima.specs.Member.{isMember};
+ghost use Rattle.nearest_of_four.specs.Near.{Near};
+ghost use Rattle.nearest_of_four.specs.MeantNear.{MeantNear, KnownNear};
+ghost use Rattle.nearest_of_four.specs.LayerLaws.{Passed, LayerPassed, LayerKnown};
+ghost use Rattle.nearest_of_four.specs.Turns.{Turned, Jumped, AllPassed, Descended};
+ghost use Rattle.nearest_of_four.specs.Best.{Best};
 
-// A step: the coefficients to add, what they leave of the residual, and whether that has a smaller value.
-struct Step {
-    list: [i64; 4],
-    rest: [i64; 4],
-    better: bool,
+// ---- A start in floats. Nothing is said of how near it is, and nothing depends on it: a start that does not shorten is not taken.
+
+// The whole part of x, if it is at most ten million; else 0, for a NaN too.
+fn whole(x: f64) -> i64
+    ensures { λ r. ⌜ Within 10000000 r ⌝ }
+{
+    if x >= -9223372036854775808.0 {
+        if x < 9223372036854775808.0 {
+            let n = std::num::truncating_f64_to_i64(x);
+            if -10000000 <= n {
+                if n <= 10000000 {
+                    return n;
+                }
+            }
+        }
+    }
+    0
 }
 
-// The nearest vector's coefficients, and what it leaves of the target.
-pub struct Found {
-    pub list: [i64; 4],
-    pub rest: [i64; 4],
+fn rounded(x: f64) -> i64
+    ensures { λ r. ⌜ Within 10000000 r ⌝ }
+{
+    if x < 0.0 {
+        return whole(x - 0.5);
+    }
+    whole(x + 0.5)
+}
+
+// An equation: its coefficients, then its right side.
+fn equation(row: [i64; 4], c: i64) -> [f64; 5] {
+    let mut a = [0.0; 5];
+    for j in 0..4 {
+        a[j] = std::num::nearest_i64_to_f64(row[j]);
+    }
+    a[4] = std::num::nearest_i64_to_f64(c);
+    a
+}
+
+// The equation a less f times b.
+fn minus(a: [f64; 5], f: f64, b: [f64; 5]) -> [f64; 5] {
+    let mut e = a;
+    for j in 0..5 {
+        e[j] = a[j] - f * b[j];
+    }
+    e
+}
+
+// Unknown p is eliminated from the equations behind equation p.
+fn eliminate(a: &mut [[f64; 5]; 4], p: usize)
+    requires { ⌜ p < 4 ⌝ }
+    requires { ⌜ length (now a) ≡ 4 ⌝ }
+    ensures { λ _. ⌜ length (now (a .exit)) ≡ 4 ⌝ }
+{
+    let b = a[p];
+    for i in p + 1..4 {
+        let e = a[i];
+        a[i] = minus(e, e[p] / b[p], b);
+    }
+}
+
+// The equations of the point of the span nearest to the target.
+fn equations(g: &[[i64; 4]; 4], r: [i64; 4]) -> [[f64; 5]; 4]
+    requires { ⌜ length (now g) ≡ 4 ⌝ }
+{
+    let mut a = [[0.0; 5]; 4];
+    for i in 0..4 {
+        a[i] = equation(g[i], r[i]);
+    }
+    a
+}
+
+// The unknowns of equations of which each has one unknown less than the one before, rounded.
+fn unknowns(a: [[f64; 5]; 4]) -> [i64; 4]
+    ensures { λ e. ⌜ Bounded 10000000 e ⌝ }
+{
+    let z = a[3][4] / a[3][3];
+    let y = (a[2][4] - a[2][3] * z) / a[2][2];
+    let x = (a[1][4] - a[1][3] * z - a[1][2] * y) / a[1][1];
+    let w = (a[0][4] - a[0][3] * z - a[0][2] * y - a[0][1] * x) / a[0][0];
+    [rounded(w), rounded(x), rounded(y), rounded(z)]
+}
+
+// The coefficients of the point of the span nearest to the target, rounded.
+fn guess(g: &[[i64; 4]; 4], r: [i64; 4]) -> [i64; 4]
+    requires { ⌜ length (now g) ≡ 4 ⌝ }
+    ensures { λ e. ⌜ Bounded 10000000 e ⌝ }
+{
+    let mut a = equations(g, r);
+    eliminate(&mut a, 0);
+    eliminate(&mut a, 1);
+    eliminate(&mut a, 2);
+    unknowns(a)
+}
+
+// ---- Steps
+
+// The combination e of the first d rows of t is taken away from s.
+fn take_all(t: &[[i64; 4]; 4], d: usize, e: [i64; 4], s: &mut [i64; 4])
+    requires { ⌜ d ≤ 4 ⌝ }
+    requires { ⌜ length (now t) ≡ 4 ⌝ }
+    requires { ⌜ length (now s) ≡ 4 ⌝ }
+    requires { ⌜ ((i j : ℕ) → i < d → Within 400000000 (nth (getD (now t) i []) j)) ⌝ }
+    requires { ⌜ Bounded 2000000000 (now s) ⌝ }
+    requires { ⌜ Bounded 30000000 e ⌝ }
+    ensures { λ _. ⌜ now (s .exit) ≈ moved (now (t .entry)) (now (s .entry)) (take d e) ⌝ }
+    ensures { λ _. ⌜ length (now (s .exit)) ≡ 4 ⌝ }
+{
+    for j in 0..d {
+        nearest_of_three::lose(s, e[j], t[j]);
+    }
+}
+
+// The inner product of coefficients with inner products.
+fn weighed(e: [i64; 4], r: [i64; 4]) -> i64
+    requires { ⌜ Bounded 30000000 e ⌝ }
+    requires { ⌜ Bounded 2000000000 r ⌝ }
+    ensures { λ v. ⌜ v ≡ dot e r ⌝ }
+    ensures { λ v. ⌜ Within 240000000000000000 v ⌝ }
+{
+    let mut sum = 0;
+    for i in 0..4 {
+        sum += e[i] * r[i];
+    }
+    sum
+}
+
+// What the step e changes the squared length by: it leaves s of r.
+fn gain(e: [i64; 4], r: [i64; 4], s: [i64; 4]) -> i64
+    requires { ⌜ Bounded 30000000 e ⌝ }
+    requires { ⌜ Bounded 2000000000 r ⌝ }
+    requires { ⌜ Bounded 2000000000 s ⌝ }
+    ensures { λ v. ⌜ v ≡ negℤ (dot e r +ℤ dot e s) ⌝ }
+{
+    -(weighed(e, r) + weighed(e, s))
 }
 
 // Is e below the list of zeros?
@@ -45,114 +173,188 @@ fn negative(e: [i64; 4]) -> bool
     false
 }
 
-// Does the step e lead to a smaller value? It leaves s of r.
-fn improves(r: [i64; 4], e: [i64; 4], s: [i64; 4]) -> bool
-    requires { ⌜ Bounded 100000 r ⌝ }
-    requires { ⌜ Bounded 100000 s ⌝ }
-    ensures { λ b. ⌜ b ≡ below (N s ∷ e) (N r ∷ zeros e) ⌝ }
+// Does the step e lead to a smaller value? It changes the squared length by v.
+fn improves(v: i64, e: [i64; 4]) -> bool
+    ensures { λ r. ⌜ r ≡ negative (v ∷ e) ⌝ }
 {
-    let m = row_operations::dot(r, r);
-    let n = row_operations::dot(s, s);
-    if n < m {
+    if v < 0 {
         return true;
     }
-    if m < n {
+    if 0 < v {
         return false;
     }
     negative(e)
 }
 
-// What is left of s when the combination y of the first k vectors is taken away.
-fn left(b: [[i64; 4]; 4], k: usize, y: [i64; 3], s: [i64; 4]) -> [i64; 4]
-    requires { ⌜ k ≤ 3 ⌝ }
-    requires { ⌜ ((i : ℕ) → natAbs (nth s i) + load (take k y) (take k b) i ≤ room) ⌝ }
-    ensures { λ r. ⌜ r ≡ s ⊖ comb (take k y) (take k b) ⌝ }
+// Whether inner products are within the limits of the search.
+fn small(s: [i64; 4]) -> bool
+    ensures { λ b. ⌜ (b ≡ true → Bounded 2000000000 s) ⌝ }
 {
-    let mut t = b;
-    t[k] = s;
-    row_operations::minus_rows(&mut t, k, y);
-    t[k]
-}
-
-// The best of layer j, by the search among the first three vectors.
-fn layer(b: [[i64; 4]; 4], r: [i64; 4], j: i64) -> Step
-    requires { ⌜ Near 4 b r ⌝ }
-    requires { ⌜ Reachable (getD b 3 []) r j ⌝ }
-    ensures { λ s. ⌜ Solved (take 3 b) (getD b 3 []) r j s ⌝ }
-{
-    let u = row_operations::minus_multiple(r, j, b[3]);
-    let y = nearest_of_three::search(&b, 3, u);
-    let rest = left(b, 3, y, u);
-    let list = [y[0], y[1], y[2], j];
-    Step {
-        list,
-        rest,
-        better: improves(r, list, rest),
+    for i in 0..4 {
+        let z = s[i];
+        if z < -2000000000 {
+            return false;
+        }
+        if 2000000000 < z {
+            return false;
+        }
     }
+    true
 }
 
-// The multiple of the last vector nearest to r.
-fn along(b: [[i64; 4]; 4], r: [i64; 4]) -> i64
-    requires { ⌜ Near 4 b r ⌝ }
-    ensures { λ j. ⌜ Reachable (getD b 3 []) r j ⌝ }
+// The start: the guessed coefficients are taken, if they shorten. What the squared length changes by.
+fn jump(g: &[[i64; 4]; 4], r: &mut [i64; 4], x: &mut [i64; 4]) -> i64
+    requires { ⌜ length (now g) ≡ 4 ⌝ }
+    requires { ⌜ length (now r) ≡ 4 ⌝ }
+    requires { ⌜ now x ≡ replicate 4 (pos 0) ⌝ }
+    requires { ⌜ Known 4 (now g) (now r) ⌝ }
+    ensures { λ v. ⌜ Jumped (now (g .entry)) (now (r .entry)) (now (x .entry)) (now (r .exit)) (now (x .exit)) v ⌝ }
 {
-    let mut a = b;
-    a[0] = b[3];
-    let q = nearest_of_three::search(&a, 1, r);
-    q[0]
+    let e = guess(g, *r);
+    let mut s = *r;
+    take_all(g, 4, e, &mut s);
+    if !small(s) {
+        return 0;
+    }
+    let v = gain(e, *r, s);
+    if 0 <= v {
+        return 0;
+    }
+    *r = s;
+    nearest_of_three::lose(x, -1, e);
+    v
 }
 
-// The five layers next to r.
+// The best of layer j, by the search among the first three vectors: its list; s becomes what it leaves.
+fn best(g: &[[i64; 4]; 4], j: i64, s: &mut [i64; 4]) -> [i64; 4]
+    requires { ⌜ natAbs j ≤ 2 ⌝ }
+    requires { ⌜ length (now g) ≡ 4 ⌝ }
+    requires { ⌜ length (now s) ≡ 4 ⌝ }
+    requires { ⌜ LayerKnown (now g) (now s) ⌝ }
+    ensures { λ e. ⌜ Best (now (g .entry)) (now (s .entry)) j e (now (s .exit)) ⌝ }
+{
+    nearest_of_three::lose(s, j, g[3]);
+    let mut y = [0; 3];
+    nearest_of_three::among(g, 3, s, &mut y);
+    [y[0], y[1], y[2], j]
+}
+
+// It is taken, if it has a smaller value. What the squared length changes by; 1 if nothing was taken.
+fn layer(g: &[[i64; 4]; 4], j: i64, r: &mut [i64; 4], x: &mut [i64; 4]) -> i64
+    requires { ⌜ natAbs j ≤ 2 ⌝ }
+    requires { ⌜ length (now g) ≡ 4 ⌝ }
+    requires { ⌜ length (now r) ≡ 4 ⌝ }
+    requires { ⌜ length (now x) ≡ 4 ⌝ }
+    requires { ⌜ Bounded 30000000 (now x) ⌝ }
+    requires { ⌜ LayerKnown (now g) (now r) ⌝ }
+    ensures { λ v. ⌜ Turned (LayerPassed (now (g .entry)) (now (r .entry)) j) (now (g .entry)) (now (r .entry)) (now (x .entry)) (now (r .exit)) (now (x .exit)) v ⌝ }
+{
+    let mut s = *r;
+    let e = best(g, j, &mut s);
+    let v = gain(e, *r, s);
+    if !improves(v, e) {
+        return 1;
+    }
+    *r = s;
+    nearest_of_three::lose(x, -1, e);
+    v
+}
+
+// The same, but for a layer that is too far away: n is the squared length of what is left.
+fn visit(g: &[[i64; 4]; 4], n: i64, j: i64, r: &mut [i64; 4], x: &mut [i64; 4]) -> i64
+    requires { ⌜ natAbs j ≤ 2 ⌝ }
+    requires { ⌜ length (now g) ≡ 4 ⌝ }
+    requires { ⌜ length (now r) ≡ 4 ⌝ }
+    requires { ⌜ length (now x) ≡ 4 ⌝ }
+    requires { ⌜ Bounded 30000000 (now x) ⌝ }
+    requires { ⌜ KnownNear 4 n (now g) (now r) ⌝ }
+    ensures { λ v. ⌜ Turned (Passed n (now (g .entry)) (now (r .entry)) j) (now (g .entry)) (now (r .entry)) (now (x .entry)) (now (r .exit)) (now (x .exit)) v ⌝ }
+{
+    let last = g[3];
+    let square = last[3];
+    if 16 * n < j * j * square {
+        return 1;
+    }
+    layer(g, j, r, x)
+}
+
+// The five layers next to what is left.
 const LAYERS: [i64; 5] = [0, 1, -1, 2, -2];
 
 // The first of them whose best has a smaller value.
-fn walk(b: [[i64; 4]; 4], r: [i64; 4]) -> Step
-    requires { ⌜ Near 4 b r ⌝ }
-    ensures { λ s. ⌜ Decided (take 3 b) (getD b 3 []) r s ⌝ }
+fn walk(g: &[[i64; 4]; 4], n: i64, r: &mut [i64; 4], x: &mut [i64; 4]) -> i64
+    requires { ⌜ length (now g) ≡ 4 ⌝ }
+    requires { ⌜ length (now r) ≡ 4 ⌝ }
+    requires { ⌜ length (now x) ≡ 4 ⌝ }
+    requires { ⌜ Bounded 30000000 (now x) ⌝ }
+    requires { ⌜ KnownNear 4 n (now g) (now r) ⌝ }
+    ensures { λ v. ⌜ Turned (AllPassed n (now (g .entry)) (now (r .entry))) (now (g .entry)) (now (r .entry)) (now (x .entry)) (now (r .exit)) (now (x .exit)) v ⌝ }
 {
     for i in 0..5 {
-        let s = layer(b, r, LAYERS[i]);
-        if s.better {
-            return s;
+        let v = visit(g, n, LAYERS[i], r, x);
+        if v <= 0 {
+            return v;
         }
     }
-    Step {
-        list: [0; 4],
-        rest: r,
-        better: false,
-    }
+    1
 }
 
-// A step to a smaller value. The nearest vector may be many layers away: the nearest multiple of the last vector leads there in few steps.
-fn next_step(b: [[i64; 4]; 4], r: [i64; 4]) -> Step
-    requires { ⌜ Near 4 b r ⌝ }
-    ensures { λ s. ⌜ Decided (take 3 b) (getD b 3 []) r s ⌝ }
+// Steps to a smaller value until there is none.
+fn descend(g: &[[i64; 4]; 4], n: i64, r: &mut [i64; 4], x: &mut [i64; 4])
+    requires { ⌜ length (now g) ≡ 4 ⌝ }
+    requires { ⌜ length (now r) ≡ 4 ⌝ }
+    requires { ⌜ now x ≡ replicate 4 (pos 0) ⌝ }
+    requires { ⌜ KnownNear 4 n (now g) (now r) ⌝ }
+    ensures { λ _. ⌜ Descended n (now (g .entry)) (now (r .entry)) (now (r .exit)) (now (x .exit)) ⌝ }
 {
-    let s = layer(b, r, along(b, r));
-    if s.better {
-        return s;
-    }
-    walk(b, r)
-}
-
-// The nearest of four: steps to a smaller value until there is none.
-fn closest_of_four(b: [[i64; 4]; 4], t: [i64; 4]) -> Found
-    requires { ⌜ Near 4 b t ⌝ }
-    ensures { λ c. ⌜ c .list ≡ nearest (take 4 b) t ⌝ }
-    ensures { λ c. ⌜ c .rest ≈ t ⊖ comb (nearest (take 4 b) t) (take 4 b) ⌝ }
-{
-    let mut x = [0; 4];
-    let mut r = t;
+    let mut m = n;
     loop {
-        let s = next_step(b, r);
-        if !s.better {
-            break Found { list: x, rest: r };
+        let v = walk(g, m, r, x);
+        if 0 < v {
+            return;
         }
-        let e = s.list;
-        let y = row_operations::minus_multiple(x, -1, e);
-        x = y;
-        r = s.rest;
+        m += v;
     }
+}
+
+// The vector nearest to a target in the lattice of four vectors: from a start that is near, as a rule, by steps through the layers.
+fn among_four(g: &[[i64; 4]; 4], n: i64, r: &mut [i64; 4], x: &mut [i64; 4])
+    requires { ⌜ length (now g) ≡ 4 ⌝ }
+    requires { ⌜ length (now r) ≡ 4 ⌝ }
+    requires { ⌜ now x ≡ replicate 4 (pos 0) ⌝ }
+    requires { ⌜ KnownNear 4 n (now g) (now r) ⌝ }
+    ensures { λ _. ⌜ Descended n (now (g .entry)) (now (r .entry)) (now (r .exit)) (now (x .exit)) ⌝ }
+{
+    let v = jump(g, r, x);
+    let mut y = [0; 4];
+    descend(g, n + v, r, &mut y);
+    nearest_of_three::lose(x, -1, y);
+}
+
+// The vector nearest to a target in the lattice of the first d of four vectors, from numbers alone: n is the squared length of the target.
+// Afterwards x holds the coefficients, and r the inner products of the vectors with what is left of the target.
+pub fn among(g: &[[i64; 4]; 4], d: usize, n: i64, r: &mut [i64; 4], x: &mut [i64; 4])
+    requires { ⌜ d ≤ 4 ⌝ }
+    requires { ⌜ length (now g) ≡ 4 ⌝ }
+    requires { ⌜ length (now r) ≡ 4 ⌝ }
+    requires { ⌜ now x ≡ replicate 4 (pos 0) ⌝ }
+    requires { ⌜ KnownNear d n (now g) (now r) ⌝ }
+    ensures { λ _. ⌜ now (r .exit) ≡ now (r .entry) ⊖ comb (take d (now (x .exit))) (take d (now (g .entry))) ⌝ }
+    ensures { λ _. ⌜ ((F : ℤ) (vs : List Vec) (t : Vec) → MeantNear F d vs t (now (g .entry)) (now (r .entry)) → F *ℤ n ≡ N t → now (x .exit) ≡ padded 4 (nearest (take d vs) t)) ⌝ }
+{
+    if d == 4 {
+        among_four(g, n, r, x);
+        return;
+    }
+    let mut y = [0; 3];
+    nearest_of_three::among(g, d, r, &mut y);
+    *x = [y[0], y[1], y[2], 0];
+}
+
+// The nearest vector's coefficients, and what it leaves of the target.
+pub struct Found {
+    pub list: [i64; 4],
+    pub rest: [i64; 4],
 }
 
 // The nearest vector in the lattice of the first d vectors.
@@ -162,24 +364,15 @@ pub fn closest(b: [[i64; 4]; 4], d: usize, t: [i64; 4]) -> Found
     ensures { λ c. ⌜ c .list ≡ padded 4 (nearest (take d b) t) ⌝ }
     ensures { λ c. ⌜ c .rest ≈ t ⊖ comb (nearest (take d b) t) (take d b) ⌝ }
 {
-    if d == 4 {
-        return closest_of_four(b, t);
-    }
-    let y = nearest_of_three::search(&b, d, t);
-    Found {
-        list: [y[0], y[1], y[2], 0],
-        rest: left(b, d, y, t),
-    }
-}
-
-// Its coefficients.
-pub fn nearest(b: [[i64; 4]; 4], d: usize, t: [i64; 4]) -> [i64; 4]
-    requires { ⌜ d ≤ 4 ⌝ }
-    requires { ⌜ Near d b t ⌝ }
-    ensures { λ r. ⌜ r ≡ padded 4 (nearest (take d b) t) ⌝ }
-{
-    let c = closest(b, d, t);
-    c.list
+    let g = nearest_of_three::gram(&b, d);
+    let mut r = [0; 4];
+    nearest_of_three::products(&b, d, t, &mut r);
+    let n = row_operations::dot(t, t);
+    let mut x = [0; 4];
+    among(&g, d, n, &mut r, &mut x);
+    let mut rest = t;
+    take_all(&b, d, x, &mut rest);
+    Found { list: x, rest }
 }
 
 // Whether v is in the lattice of the first d vectors: the nearest vector leaves nothing of it.

@@ -79,16 +79,17 @@ coefficient-square (suc k) vs x M lv lx l4 d h j m = pick (ℕ-discrete j k)
         law p m = by-ring (p ∷ m ∷ []) (search reads depth 20) (search reads depth 20) tt
 
 -- in numbers, for the squared lengths that occur: F is the common factor, n the squared length without it
-pub coefficient-within : (F n x : ℤ) (k : ℕ) → pos 0 <ℤ F → pos 0 <ℤ n → k ≤ 3 → (x *ℤ x *ℤ (F *ℤ n)) ≤ℤ (pos 4 *ℤ power (pos 10) k *ℤ (F *ℤ pos 14400000000)) → Within 10000000 x
-coefficient-within F n x k f h l s = root-within {B = 10000000} (*ℤ-cancel-≤ f (law (power (pos 10) k) (few k l) s))
+pub coefficient-within : (F n x : ℤ) (k : ℕ) → pos 0 <ℤ F → pos 0 <ℤ n → k ≤ 4 → (x *ℤ x *ℤ (F *ℤ n)) ≤ℤ (pos 4 *ℤ power (pos 10) k *ℤ (F *ℤ pos 14400000000)) → Within 30000000 x
+coefficient-within F n x k f h l s = root-within {B = 30000000} (*ℤ-cancel-≤ f (law (power (pos 10) k) (few k l) s))
   where
-    few : (k : ℕ) → k ≤ 3 → power (pos 10) k ≤ℤ pos 1000
+    few : (k : ℕ) → k ≤ 4 → power (pos 10) k ≤ℤ pos 10000
     few zero l = leZ-yes tt
     few (suc zero) l = leZ-yes tt
     few (suc (suc zero)) l = leZ-yes tt
     few (suc (suc (suc zero))) l = leZ-yes tt
-    few (suc (suc (suc (suc k)))) l = absurd (omega arith)
+    few (suc (suc (suc (suc zero)))) l = leZ-yes tt
+    few (suc (suc (suc (suc (suc k))))) l = absurd (omega arith)
 
-    law : (p : ℤ) → p ≤ℤ pos 1000 → (x *ℤ x *ℤ (F *ℤ n)) ≤ℤ (pos 4 *ℤ p *ℤ (F *ℤ pos 14400000000)) → (F *ℤ (x *ℤ x)) ≤ℤ (F *ℤ pos 100000000000000)
-    law p i s = by-nn (F ∷ n ∷ x ∷ p ∷ []) (le s ⊞ nn-pos 57600000000 ⊠ (lt f ⊞ nn-pos 1) ⊠ le i ⊞ (lt f ⊞ nn-pos 1) ⊠ nn-sq x ⊠ lt h ⊞ nn-pos 42400000000000 ⊠ (lt f ⊞ nn-pos 1))
+    law : (p : ℤ) → p ≤ℤ pos 10000 → (x *ℤ x *ℤ (F *ℤ n)) ≤ℤ (pos 4 *ℤ p *ℤ (F *ℤ pos 14400000000)) → (F *ℤ (x *ℤ x)) ≤ℤ (F *ℤ pos 900000000000000)
+    law p i s = by-nn (F ∷ n ∷ x ∷ p ∷ []) (le s ⊞ nn-pos 57600000000 ⊠ (lt f ⊞ nn-pos 1) ⊠ le i ⊞ (lt f ⊞ nn-pos 1) ⊠ nn-sq x ⊠ lt h ⊞ nn-pos 324000000000000 ⊠ (lt f ⊞ nn-pos 1))
         (search reads depth 20) (search reads depth 20) tt

@@ -33,7 +33,7 @@ pub gain-shifted : {r s : Vec} (u : Vec) → r ≈ s → gain r u ≡ gain s u
 unfolding gain
 gain-shifted u e = ap (λ p. N u -ℤ pos 2 *ℤ p) (≈-dot (≈-refl {u = u}) e)
 
-module _ {F : ℤ} {k : ℕ} {vs : List Vec} {t : Vec} {g : List (List ℤ)} {r₀ r x : List ℤ} {b : Bool} (few : k ≤ 3) (m : Meant F k vs t g r₀) (p : Moved k g r₀ (replicate 3 (pos 0)) r x b)
+module _ {F : ℤ} {k : ℕ} {vs : List Vec} {t : Vec} {g : List (List ℤ)} {r₀ r x : List ℤ} {b : Bool} (few : k ≤ 3) (m : Meant F k vs t g r₀) (p : Moved 3 k g r₀ (replicate 3 (pos 0)) r x b)
     (n : None (count k) g r) where
   bs : List Vec
   bs = take k vs
@@ -47,7 +47,7 @@ module _ {F : ℤ} {k : ℕ} {vs : List Vec} {t : Vec} {g : List (List ℤ)} {r�
 
   length-y : length y ≡ k
   unfolding y
-  length-y = omega (arith, length-take k x, long few m p)
+  length-y = omega (arith, length-take k x, long m p)
 
   nth-y : (i : ℕ) → nth y i ≡ nth x i
   unfolding y
@@ -55,12 +55,12 @@ module _ {F : ℤ} {k : ℕ} {vs : List Vec} {t : Vec} {g : List (List ℤ)} {r�
     where
       pick : Dec (i < k) → nth (take k x) i ≡ nth x i
       pick (yes h) = getD-take k x i (pos 0) h
-      pick (no h) = List·getD-eq-default (take k x) (pos 0) (omega (arith, length-take k x, h)) ∙ sym (zero-behind few m p i (omega (arith, h)))
+      pick (no h) = List·getD-eq-default (take k x) (pos 0) (omega (arith, length-take k x, h)) ∙ sym (zero-behind m p i (omega (arith, h)))
 
   -- what is left of the target, by either list
   residual : t ⊖ comb (p .step) vs ≈ t ⊖ comb y bs
   unfolding y bs
-  residual = ≈-trans (≈-of-≡ (ap (λ z. t ⊖ comb z vs) (from-zeros p))) (≈-⊕ ≈-refl (≈-⊙ (negsuc 0) (comb-front k x vs (zero-behind few m p))))
+  residual = ≈-trans (≈-of-≡ (ap (λ z. t ⊖ comb z vs) (from-zeros p))) (≈-⊕ ≈-refl (≈-⊙ (negsuc 0) (comb-front k x vs (zero-behind m p))))
 
   -- a list of the table and the same list with zeros behind lead to the same change
   same-change : (l : List ℤ) → length l ≡ k → (i : ℕ) → nth (change (t ⊖ comb (p .step) vs) vs (padded 3 l)) i ≡ nth (change (t ⊖ comb y bs) bs l) i
@@ -87,7 +87,7 @@ module _ {F : ℤ} {k : ℕ} {vs : List Vec} {t : Vec} {g : List (List ℤ)} {r�
 
   pub nearest-is : x ≡ padded 3 (nearest (take k vs) t)
   unfolding bs
-  nearest-is = same (long few m p ∙ sym (length-padded 3 y)) (λ i. sym (nth-padded 3 y (omega (arith, length-y)) i ∙ nth-y i))
+  nearest-is = same (long m p ∙ sym (length-padded 3 y)) (λ i. sym (nth-padded 3 y (omega (arith, length-y)) i ∙ nth-y i))
       ∙ ap (padded 3) (nearest-only bs (m .reduced) (omega (arith, count-bs)) t y least)
 
 -- ---- what is left of the inner products, as a list
@@ -104,10 +104,11 @@ take-rows n (suc k) [] h i = omega arith
 take-rows n (suc k) (r ∷ g) h zero = h 0
 take-rows n (suc k) (r ∷ g) h (suc i) = take-rows n k g (λ j. h (suc j)) i
 
-pub left-is : {k : ℕ} {g : List (List ℤ)} {r₀ r x : List ℤ} {b : Bool} → k ≤ 3 → Known k g r₀ → Moved k g r₀ (replicate 3 (pos 0)) r x b → r ≡ r₀ ⊖ comb (take k x) (take k g)
-left-is {k} {g} {r₀} {r} {x} few w p = ≈-≡ r (r₀ ⊖ comb (take k x) (take k g)) wide
-    (≈-trans (p .left) (≈-trans (≈-of-≡ (ap (λ z. r₀ ⊖ comb z g) (from-zeros p))) (≈-⊕ ≈-refl (≈-⊙ (negsuc 0) (comb-front k x g (zero-behind few (w .meant) p))))))
-  where
-    wide : length r ≡ length (r₀ ⊖ comb (take k x) (take k g))
-    wide = p .width ∙ sym (length-⊕ r₀ (negsuc 0 ⊙ comb (take k x) (take k g))
-        ∙ omega (arith, length-⊙ (negsuc 0) (comb (take k x) (take k g)), length-comb (length r₀) (take k x) (take k g) (take-rows (length r₀) k g (w .meant .wide))))
+-- it is as long as before
+pub left-width : {k : ℕ} {g : List (List ℤ)} {r : List ℤ} (x : List ℤ) → Known k g r → length (r ⊖ comb (take k x) (take k g)) ≡ length r
+left-width {k} {g} {r} x w = length-⊕ r (negsuc 0 ⊙ comb (take k x) (take k g))
+    ∙ omega (arith, length-⊙ (negsuc 0) (comb (take k x) (take k g)), length-comb (length r) (take k x) (take k g) (take-rows (length r) k g (w .meant .wide)))
+
+pub left-is : {n k : ℕ} {g : List (List ℤ)} {r₀ r x : List ℤ} {b : Bool} → Known k g r₀ → Moved n k g r₀ (replicate n (pos 0)) r x b → r ≡ r₀ ⊖ comb (take k x) (take k g)
+left-is {n} {k} {g} {r₀} {r} {x} w p = ≈-≡ r (r₀ ⊖ comb (take k x) (take k g)) (p .width ∙ sym (left-width x w))
+    (≈-trans (p .left) (≈-trans (≈-of-≡ (ap (λ z. r₀ ⊖ comb z g) (from-zeros p))) (≈-⊕ ≈-refl (≈-⊙ (negsuc 0) (comb-front k x g (zero-behind (w .meant) p))))))

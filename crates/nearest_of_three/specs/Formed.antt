@@ -5,16 +5,17 @@ use Prim.Native.Nat.{ℕ, _≤_, _<_}
 use native.Mathlib.Omega.{arith}
 use native.Mathlib.Decide.{decLt}
 use lib.IntN.{ℤ, pos, _*ℤ_}
-use lib.ListN.{length, getD, take, replicate, length-replicate, List·getD-eq-default}
+use lib.ListN.{length, getD, take, replicate, length-take, length-replicate, List·getD-eq-default}
 use lib.Seq.{getD-take, take-take}
 use lib.Signed.{_≤ℤ_, _<ℤ_, ltZ-yes}
+use Rattle.integers.specs.Certificate.{nn-pos}
 use Rattle.integers.specs.Ring.{pos-one-*ℤ}
 use Rattle.integers.specs.ListLaws.{nth-replicate}
 use Rattle.lattices.specs.Vector.{Vec, N, nth, dot}
 use Rattle.lattices.specs.Laws.Vector.{dot-nil, nil-dot}
 use Rattle.nearest_of_three.specs.Meant.{Products, Gram, Meant, Known}
 use Rattle.nearest_of_three.specs.Filled.{Filled}
-use Rattle.nearest_of_three.specs.Searchable.{behind, Given}
+use Rattle.nearest_of_three.specs.Searchable.{behind, Searchable}
 
 -- the inner products of the vectors with v, four places
 pub record ProductsOf (vs : List Vec) (v : Vec) (r : List ℤ) : Type 0 where
@@ -52,18 +53,22 @@ module _ (k : ℕ) (short : k ≤ 4) (b : List Vec) where
       wide i (no h) (no m) = subst (λ r. length r ≤ 4) (sym (List·getD-eq-default g [] (omega (arith, m, p .size)))) (omega arith)
 
 -- they are the numbers of the search among the first k vectors
-module _ (k : ℕ) (b : List Vec) (t : Vec) (v : Given k (take k b) t) {g : List (List ℤ)} {r : List ℤ} (q : GramOf (take k b) g) (p : ProductsOf (take k b) t r) where
+module _ (k : ℕ) (b : List Vec) (t : Vec) (v : Searchable k b t) {g : List (List ℤ)} {r : List ℤ} (q : GramOf (take k b) g) (p : ProductsOf (take k b) t r) where
   pub meant-formed : Meant (pos 1) k (take k b) t g r
   meant-formed = record {
     positive = ltZ-yes tt;
-    enough = omega (arith, v .count);
+    enough = omega (arith, length-take k b, v .enough);
     reduced = rw (take-take k k b (omega arith)) (v .reduced);
-    short = λ i. subst (λ n. N (getD (take k b) i []) ≤ℤ n) (sym (pos-one-*ℤ (pos 400000000))) (v .short i);
+    short = λ i. subst (λ n. N (getD (take k b) i []) ≤ℤ n) (sym (pos-one-*ℤ (pos 400000000))) (pick i (decLt i k));
     target = subst (λ n. N t ≤ℤ n) (sym (pos-one-*ℤ (pos 3600000000))) (v .target);
     gram = q .gram;
     products = p .products;
     wide = λ i. omega (arith, q .long i, p .long);
   }
+    where
+      pick : (i : ℕ) → Dec (i < k) → N (getD (take k b) i []) ≤ℤ pos 400000000
+      pick i (yes h) = rw (getD-take k b i [] h) (v .short i h)
+      pick i (no h) = rw (behind k i b (omega (arith, h)), nil-dot []) (nn-pos 400000000)
 
   pub known-formed : Known k g r
   known-formed = record { factor = pos 1; vectors = take k b; target = t; meant = meant-formed }

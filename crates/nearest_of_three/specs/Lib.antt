@@ -14,7 +14,6 @@ pub mod Places
 pub mod Sweep
 pub mod PairFits
 pub mod Stepped
-pub mod Signs
 pub mod Filled
 pub mod Searchable
 pub mod Formed

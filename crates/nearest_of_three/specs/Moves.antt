@@ -7,7 +7,7 @@ use Prim.Native.Nat.{ℕ, zero, suc, _≤_, _<_}
 use lib.Dec.{T}
 use native.Mathlib.Omega.{arith}
 use lib.IntN.{ℤ, pos, negsuc, _+ℤ_, _-ℤ_, _*ℤ_}
-use lib.ListN.{length, getD, replicate}
+use lib.ListN.{length, replicate, length-replicate}
 use lib.Signed.{_≤ℤ_, _<ℤ_}
 use Rattle.integers.specs.Identity.{by-ring, reads}
 use Rattle.integers.specs.Order.{≤ℤ-of-≡, ≤ℤ-of-<ℤ, ≤ℤ-or-<ℤ}
@@ -16,7 +16,7 @@ use Rattle.integers.specs.ListLaws.{same, nth-replicate, nth-⊕, length-⊕-sa
 use Rattle.integers.specs.Lex.{below->}
 use Rattle.lattices.specs.Vector.{Vec, N, nth, dot, comb, _⊕_, _⊖_}
 use Rattle.lattices.specs.Laws.Vector.{_≈_, ≈-refl, ≈-sym, ≈-trans, zero-dot, comb-zero, ⊖-zero}
-use Rattle.successive_minima.specs.Laws.Digits.{Bounded, zeros, number, number-⊕, number-negative}
+use Rattle.successive_minima.specs.Laws.Digits.{Bounded, zeros, power, number, number-⊕, number-negative}
 use Rattle.nearest_of_three.specs.Meant.{Known, Meant}
 use Rattle.nearest_of_three.specs.Numbers.{moved, gainOf, improvesOf}
 use Rattle.nearest_of_three.specs.Link.{gain-sum, gain-residual, moved-≈, moved-moved}
@@ -29,10 +29,10 @@ base = pos 5000000001
 unfoldable pub fall : List (List ℤ) → List ℤ → List ℤ → ℤ
 fall g r e = number base (gainOf g r e ∷ e)
 
--- from r and x to r′ and x′; b: to a smaller value
-pub record Moved (k : ℕ) (g : List (List ℤ)) (r x r′ x′ : List ℤ) (b : Bool) : Type 0 where
+-- from r and x, n coefficients of which the first k may change, to r′ and x′; b: to a smaller value
+pub record Moved (n k : ℕ) (g : List (List ℤ)) (r x r′ x′ : List ℤ) (b : Bool) : Type 0 where
   pub step : List ℤ
-  pub count : length step ≡ 3
+  pub count : length step ≡ n
   pub behind : (j : ℕ) → k ≤ j → nth step j ≡ pos 0
   pub coefficients : x′ ≡ x ⊕ step
   pub left : r′ ≈ moved g r step
@@ -47,37 +47,42 @@ fall-residual g e p = ap (λ n. number base (n ∷ e)) (gain-residual g e p)
 
 -- ---- no step
 
-still-nothing : (g : List (List ℤ)) (r : List ℤ) → gainOf g r (replicate 3 (pos 0)) ≡ pos 0
-unfolding gainOf
-still-nothing g r = ap₂ (λ a b. a -ℤ pos 2 *ℤ b) (zero-dot (replicate 3 (pos 0)) (nth-replicate 3) (comb (replicate 3 (pos 0)) g)) (zero-dot (replicate 3 (pos 0)) (nth-replicate 3) r)
+pub no-zeros : (n : ℕ) → number base (replicate n (pos 0)) ≡ pos 0
+no-zeros zero = refl
+no-zeros (suc n) = ap (λ z. pos 0 *ℤ power base (length (replicate n (pos 0))) +ℤ z) (no-zeros n) ∙ by-ring (power base (length (replicate n (pos 0))) ∷ []) (search reads) (search reads) tt
 
-pub moved-none : (k : ℕ) (g : List (List ℤ)) (r x : List ℤ) → length x ≡ 3 → Moved k g r x r x false
+pub still-nothing : (n : ℕ) (g : List (List ℤ)) (r : List ℤ) → gainOf g r (replicate n (pos 0)) ≡ pos 0
+unfolding gainOf
+still-nothing n g r = ap₂ (λ a b. a -ℤ pos 2 *ℤ b) (zero-dot (replicate n (pos 0)) (nth-replicate n) (comb (replicate n (pos 0)) g)) (zero-dot (replicate n (pos 0)) (nth-replicate n) r)
+
+unfoldable pub moved-none : (n k : ℕ) (g : List (List ℤ)) (r x : List ℤ) → length x ≡ n → Moved n k g r x r x false
 unfolding fall
-moved-none k g r x h = record {
-  step = replicate 3 (pos 0);
-  count = refl;
-  behind = λ j m. nth-replicate 3 j;
-  coefficients = same (sym (length-⊕-same x (replicate 3 (pos 0)) h)) (λ i. sym (nth-⊕ x (replicate 3 (pos 0)) i ∙ ap (λ z. nth x i +ℤ z) (nth-replicate 3 i) ∙ by-ring (nth x i ∷ []) (search reads) (search reads) tt));
-  left = ≈-sym (⊖-zero r (comb-zero (replicate 3 (pos 0)) (nth-replicate 3) g));
+moved-none n k g r x h = record {
+  step = replicate n (pos 0);
+  count = length-replicate n (pos 0);
+  behind = λ j m. nth-replicate n j;
+  coefficients = same (sym (length-⊕-same x (replicate n (pos 0)) (h ∙ sym (length-replicate n (pos 0)))))
+      (λ i. sym (nth-⊕ x (replicate n (pos 0)) i ∙ ap (λ z. nth x i +ℤ z) (nth-replicate n i) ∙ by-ring (nth x i ∷ []) (search reads) (search reads) tt));
+  left = ≈-sym (⊖-zero r (comb-zero (replicate n (pos 0)) (nth-replicate n) g));
   width = refl;
-  shorter = ≤ℤ-of-≡ (still-nothing g r);
-  lower = ≤ℤ-of-≡ (ap (λ n. number base (n ∷ replicate 3 (pos 0))) (still-nothing g r));
+  shorter = ≤ℤ-of-≡ (still-nothing n g r);
+  lower = ≤ℤ-of-≡ (ap (λ z. number base (z ∷ replicate n (pos 0))) (still-nothing n g r) ∙ no-zeros (suc n));
   falls = λ e. absurd (subst T (sym e) tt);
 }
 
 -- ---- a step that improves
 
-gain-below : (g : List (List ℤ)) (r e : List ℤ) → improvesOf g r e ≡ true → gainOf g r e ≤ℤ pos 0
+pub gain-below : (g : List (List ℤ)) (r e : List ℤ) → improvesOf g r e ≡ true → gainOf g r e ≤ℤ pos 0
 unfolding improvesOf
 gain-below g r e h = ⊎-elim (λ (l : gainOf g r e ≤ℤ pos 0). l) (λ (l : pos 0 <ℤ gainOf g r e). absurd (subst T (sym h ∙ below-> e (zeros e) l) tt)) (≤ℤ-or-<ℤ (gainOf g r e) (pos 0))
 
-falls-below : (g : List (List ℤ)) (r e : List ℤ) → Bounded 5000000000 e → improvesOf g r e ≡ true → fall g r e <ℤ pos 0
+pub falls-below : (g : List (List ℤ)) (r e : List ℤ) → Bounded 5000000000 e → improvesOf g r e ≡ true → fall g r e <ℤ pos 0
 unfolding improvesOf fall
 falls-below g r e b h = number-negative 5000000000 (gainOf g r e) e h b
 
-pub moved-better : (k : ℕ) (g : List (List ℤ)) (r x e : List ℤ) {r′ : List ℤ} → length e ≡ 3 → ((j : ℕ) → k ≤ j → nth e j ≡ pos 0) → Bounded 5000000000 e → improvesOf g r e ≡ true
-    → r′ ≈ moved g r e → length r′ ≡ length r → Moved k g r x r′ (x ⊕ e) true
-moved-better k g r x e l z b h p v = record {
+unfoldable pub moved-better : (n k : ℕ) (g : List (List ℤ)) (r x e : List ℤ) {r′ : List ℤ} → length e ≡ n → ((j : ℕ) → k ≤ j → nth e j ≡ pos 0) → Bounded 5000000000 e → improvesOf g r e ≡ true
+    → r′ ≈ moved g r e → length r′ ≡ length r → Moved n k g r x r′ (x ⊕ e) true
+moved-better n k g r x e l z b h p v = record {
   step = e;
   count = l;
   behind = z;
@@ -95,16 +100,16 @@ module _ (k : ℕ) (g : List (List ℤ)) (r : List ℤ) (w : Known k g r) where
   abbrev m : Meant (w .factor) k (w .vectors) (w .target) g r
   m = w .meant
 
-  gains : (e f : List ℤ) → gainOf g r (e ⊕ f) ≡ gainOf g r e +ℤ gainOf g (moved g r e) f
+  pub gains : (e f : List ℤ) → gainOf g r (e ⊕ f) ≡ gainOf g r e +ℤ gainOf g (moved g r e) f
   gains e f = gain-sum (w .factor) (w .vectors) g (m .gram) (m .positive) (w .target) r e f (m .products)
 
   pub fall-sum : (e f : List ℤ) → length e ≡ length f → fall g r (e ⊕ f) ≡ fall g r e +ℤ fall g (moved g r e) f
   unfolding fall _⊕_
   fall-sum e f l = ap (λ n. number base (n ∷ (e ⊕ f))) (gains e f) ∙ number-⊕ base (gainOf g r e ∷ e) (gainOf g (moved g r e) f ∷ f) (ap suc l)
 
-  pub moved-then : {x r′ x′ r″ x″ : List ℤ} {b c : Bool} (d : Bool) → (d ≡ true → (b ≡ true) ⊎ (c ≡ true)) → length x ≡ 3
-      → Moved k g r x r′ x′ b → Moved k g r′ x′ r″ x″ c → Moved k g r x r″ x″ d
-  moved-then {x} {r′} {x′} {r″} {x″} {b} {c} d o l p q = record {
+  pub moved-then : {n : ℕ} {x r′ x′ r″ x″ : List ℤ} {b c : Bool} (d : Bool) → (d ≡ true → (b ≡ true) ⊎ (c ≡ true)) → length x ≡ n
+      → Moved n k g r x r′ x′ b → Moved n k g r′ x′ r″ x″ c → Moved n k g r x r″ x″ d
+  moved-then {n} {x} {r′} {x′} {r″} {x″} {b} {c} d o l p q = record {
     step = e ⊕ f;
     count = length-⊕-same e f (p .count ∙ sym (q .count)) ∙ p .count;
     behind = λ j h. nth-⊕ e f j ∙ ap₂ _+ℤ_ (p .behind j h) (q .behind j h);
@@ -143,7 +148,7 @@ module _ (k : ℕ) (g : List (List ℤ)) (r : List ℤ) (w : Known k g r) where
           ∙ sym (length-⊕-same x (e ⊕ f) (l ∙ sym (length-⊕-same e f (p .count ∙ sym (q .count)) ∙ p .count))))
           (λ i. simp nth-⊕ (by-ring (nth x i ∷ nth e i ∷ nth f i ∷ []) (search reads depth 8) (search reads depth 8) tt))
 
-pub moved-wider : {i k : ℕ} {g : List (List ℤ)} {r x r′ x′ : List ℤ} {b : Bool} → i ≤ k → Moved i g r x r′ x′ b → Moved k g r x r′ x′ b
+pub moved-wider : {n i k : ℕ} {g : List (List ℤ)} {r x r′ x′ : List ℤ} {b : Bool} → i ≤ k → Moved n i g r x r′ x′ b → Moved n k g r x r′ x′ b
 moved-wider h p = record {
   step = p .step;
   count = p .count;
@@ -156,5 +161,19 @@ moved-wider h p = record {
   falls = p .falls;
 }
 
-pub moved-length : {k : ℕ} {g : List (List ℤ)} {r x r′ x′ : List ℤ} {b : Bool} → length x ≡ 3 → Moved k g r x r′ x′ b → length x′ ≡ 3
+pub moved-length : {n k : ℕ} {g : List (List ℤ)} {r x r′ x′ : List ℤ} {b : Bool} → length x ≡ n → Moved n k g r x r′ x′ b → length x′ ≡ n
 moved-length {x} l p = ap length (p .coefficients) ∙ length-⊕-same x (p .step) (l ∙ sym (p .count)) ∙ l
+
+-- a step is a step, whether or not it is known to lead to a smaller value
+unfoldable pub moved-weaker : {n k : ℕ} {g : List (List ℤ)} {r x r′ x′ : List ℤ} {b : Bool} → Moved n k g r x r′ x′ b → Moved n k g r x r′ x′ false
+moved-weaker p = record {
+  step = p .step;
+  count = p .count;
+  behind = p .behind;
+  coefficients = p .coefficients;
+  left = p .left;
+  width = p .width;
+  shorter = p .shorter;
+  lower = p .lower;
+  falls = λ e. absurd (subst T (sym e) tt);
+}

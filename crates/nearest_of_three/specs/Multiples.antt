@@ -178,7 +178,7 @@ module _ (g : List (List ℤ)) (r : List ℤ) (i : ℕ) (short : i < 3) (q : ℤ
 -- ---- what is done to one vector: afterwards it is still
 
 pub record Along (i : ℕ) (g : List (List ℤ)) (r x r′ x′ : List ℤ) (b : Bool) : Type 0 where
-  pub moves : Moved (suc i) g r x r′ x′ b
+  pub moves : Moved 3 (suc i) g r x r′ x′ b
   pub still : Still (nth (getD g i []) i) (nth r′ i)
   pub unmoved : b ≡ false → r′ ≡ r
   pub grown : (j : ℕ) → natAbs (nth x′ j) ≤ natAbs (nth x j) + 5000000000
@@ -186,7 +186,7 @@ pub record Along (i : ℕ) (g : List (List ℤ)) (r x r′ x′ : List ℤ) (b :
 module _ (i : ℕ) (short : i < 3) (g : List (List ℤ)) (r x : List ℤ) (l : length x ≡ 3) (q : ℤ) (s : Still (nth (getD g i []) i) (nth r i -ℤ q *ℤ nth (getD g i []) i)) where
   pub along-none : q ≡ pos 0 → Along i g r x r x false
   along-none e = record {
-    moves = moved-none (suc i) g r x l;
+    moves = moved-none 3 (suc i) g r x l;
     still = subst (Still (nth (getD g i []) i)) (sym (nothing-taken (nth (getD g i []) i) (nth r i) q e)) s;
     unmoved = λ f. refl;
     grown = λ j. omega arith;
@@ -195,8 +195,8 @@ module _ (i : ℕ) (short : i < 3) (g : List (List ℤ)) (r x : List ℤ) (l : l
   pub along-some : pos 0 <ℤ nth (getD g i []) i → ¬ (q ≡ pos 0) → Within 5000000000 q → nth (r ⊖ q ⊙ getD g i []) i ≡ nth r i -ℤ q *ℤ nth (getD g i []) i → length (r ⊖ q ⊙ getD g i []) ≡ length r
       → Along i g r x (r ⊖ q ⊙ getD g i []) (set x i (nth x i +ℤ q)) true
   along-some h f b e v = record {
-    moves = subst (λ y. Moved (suc i) g r x (r ⊖ q ⊙ getD g i []) y true) (sym (single-added x i q l short))
-        (moved-better (suc i) g r x (single i q) (length-set (replicate 3 (pos 0)) i q) (λ j m. nth-single (λ z. z ≡ pos 0) 3 i j q refl (λ e. absurd (omega arith)))
+    moves = subst (λ y. Moved 3 (suc i) g r x (r ⊖ q ⊙ getD g i []) y true) (sym (single-added x i q l short))
+        (moved-better 3 (suc i) g r x (single i q) (length-set (replicate 3 (pos 0)) i q) (λ j m. nth-single (λ z. z ≡ pos 0) 3 i j q refl (λ e. absurd (omega arith)))
         (λ j. nth-single (Within 5000000000) 3 i j q (record { within = omega arith }) (λ e. b)) (lower g r i short q (nearest-lowers (nth (getD g i []) i) (nth r i) q h s f))
         (≈-⊕ ≈-refl (≈-⊙ (negsuc 0) (≈-sym (comb-single g i q short)))) v);
     still = subst (Still (nth (getD g i []) i)) (sym e) s;

@@ -43,6 +43,9 @@ walked-opposite n q l i m h f = record { most = omega arith; hit = λ s. (i, (h,
 pub walked-none : (n : ℕ) (q l : List ℤ) → ((i : ℕ) → 2 ≤ i → i < n → Neither (nth q i) (nth l i)) → Walked n q l 26
 walked-none n q l f = record { most = omega arith; hit = λ s. absurd (omega arith); miss = λ s. f }
 
+pub walked-as : {n m : ℕ} {q q′ l l′ : List ℤ} {p : ℕ} → n ≡ m → q ≡ q′ → l ≡ l′ → Walked n q l p → Walked m q′ l′ p
+walked-as {n} {m} {q} {q′} {l} {l′} {p} a b c h = subst (λ k. Walked k q′ l′ p) a (subst (λ u. Walked n u l′ p) b (subst (λ u. Walked n q u p) c h))
+
 -- one pair more
 pub neither-next : (n : ℕ) (q l : List ℤ) → ((i : ℕ) → 2 ≤ i → i < n → Neither (nth q i) (nth l i)) → Neither (nth q n) (nth l n) → (i : ℕ) → 2 ≤ i → i < n + 1 → Neither (nth q i) (nth l i)
 neither-next n q l f s i h m = pick (decLt i n)

@@ -27,22 +27,22 @@ use Rattle.nearest_of_three.specs.Places.{Placed}
 use Rattle.nearest_of_three.specs.Sweep.{Swept}
 
 pub record Stepped (k : ℕ) (g : List (List ℤ)) (r x r′ x′ : List ℤ) (b : Bool) : Type 0 where
-  pub moves : Moved k g r x r′ x′ b
+  pub moves : Moved 3 k g r x r′ x′ b
   pub none : b ≡ false → None (count k) g r′
 
 pub stepped-none : (k : ℕ) (g : List (List ℤ)) (r x : List ℤ) → length x ≡ 3 → None (count k) g r → Stepped k g r x r x false
-stepped-none k g r x l n = record { moves = moved-none k g r x l; none = λ e. n }
+stepped-none k g r x l n = record { moves = moved-none 3 k g r x l; none = λ e. n }
 
 pub stepped-at : (k : ℕ) → k ≤ 3 → (g : List (List ℤ)) (r x : List ℤ) (p : ℕ) {r′ : List ℤ} → p < 26 → Placed k g r p
     → r′ ≈ moved g r (getD steps p []) → length r′ ≡ length r → Stepped k g r x r′ (x ⊕ getD steps p []) true
 stepped-at k few g r x p h s q v = record {
-  moves = moved-better k g r x (getD steps p []) (steps-long p h) (steps-behind k few p (s .hit h .0)) (λ j. within-le (omega arith) (steps-bounded p j)) (s .hit h .1) q v;
+  moves = moved-better 3 k g r x (getD steps p []) (steps-long p h) (steps-behind k few p (s .hit h .0)) (λ j. within-le (omega arith) (steps-bounded p j)) (s .hit h .1) q v;
   none = λ e. absurd (subst T e tt);
 }
 
 -- after a sweep
 pub swept-moved : {k : ℕ} {g : List (List ℤ)} {r x r′ x′ : List ℤ} {b : Bool} → b ≡ true → Swept k g r x r′ x′ b → Stepped k g r x r′ x′ true
-swept-moved {k} {g} {r} {x} {r′} {x′} e s = record { moves = subst (Moved k g r x r′ x′) e (s .moves); none = λ f. absurd (subst T f tt) }
+swept-moved {k} {g} {r} {x} {r′} {x′} e s = record { moves = subst (Moved 3 k g r x r′ x′) e (s .moves); none = λ f. absurd (subst T f tt) }
 
 pub swept-then : {k : ℕ} {g : List (List ℤ)} {r x r′ x′ r″ x″ : List ℤ} {b c : Bool} → Known k g r → length x ≡ 3 → Swept k g r x r′ x′ b → Stepped k g r′ x′ r″ x″ c → Stepped k g r x r″ x″ c
 swept-then {k} {g} {r} {c} w l s t = record { moves = moved-then k g r w c (λ e. inr e) l (s .moves) (t .moves); none = t .none }

@@ -26,18 +26,18 @@ or-false false b e = (refl, e)
 
 -- where nothing moved, or there was but one vector, nothing is left to take along one vector
 pub record Swept (k : ℕ) (g : List (List ℤ)) (r x r′ x′ : List ℤ) (b : Bool) : Type 0 where
-  pub moves : Moved k g r x r′ x′ b
+  pub moves : Moved 3 k g r x r′ x′ b
   pub settled : (b ≡ false) ⊎ (k < 2) → SettledAlong k g r′
   pub small : Bounded 20000000000 x′
 
 -- on the way: the vectors from i on are done
 pub record Sweeping (k i : ℕ) (g : List (List ℤ)) (r₀ x₀ r x : List ℤ) (b : Bool) : Type 0 where
-  pub moves : Moved k g r₀ x₀ r x b
+  pub moves : Moved 3 k g r₀ x₀ r x b
   pub settled : (b ≡ false) ⊎ (k < 2) → (j : ℕ) → i ≤ j → j < k → Still (nth (getD g j []) j) (nth r j)
-  pub small : Bounded (10000000 + (k - i) * 5000000000) x
+  pub small : Bounded (30000000 + (k - i) * 5000000000) x
 
-pub sweeping-start : (k : ℕ) (g : List (List ℤ)) (r x : List ℤ) → length x ≡ 3 → Bounded 10000000 x → Sweeping k k g r x r x false
-sweeping-start k g r x l b = record { moves = moved-none k g r x l; settled = λ e j h m. absurd (omega arith); small = λ j. within-le (omega arith) (b j) }
+pub sweeping-start : (k : ℕ) (g : List (List ℤ)) (r x : List ℤ) → length x ≡ 3 → Bounded 30000000 x → Sweeping k k g r x r x false
+sweeping-start k g r x l b = record { moves = moved-none 3 k g r x l; settled = λ e j h m. absurd (omega arith); small = λ j. within-le (omega arith) (b j) }
 
 pub sweeping-next : {k i : ℕ} {g : List (List ℤ)} {r₀ x₀ r x r′ x′ : List ℤ} {a b : Bool} → 0 < i → i ≤ k → Known k g r₀ → length x₀ ≡ 3
     → Sweeping k i g r₀ x₀ r x b → Along (i - 1) g r x r′ x′ a → Sweeping k (i - 1) g r₀ x₀ r′ x′ (a || b)

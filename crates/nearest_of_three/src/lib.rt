@@ -47,7 +47,7 @@ fn multiple(n: i64, p: i64) -> i64
 }
 
 // r loses q times a row.
-fn lose(r: &mut [i64; 4], q: i64, row: [i64; 4])
+pub fn lose(r: &mut [i64; 4], q: i64, row: [i64; 4])
     requires { ⌜ length (now r) ≡ 4 ⌝ }
     requires { ⌜ ((i : ℕ) → natAbs (nth (now r) i) + natAbs (q *ℤ nth row i) ≤ room) ⌝ }
     ensures { λ _. ⌜ now (r .exit) ≡ now (r .entry) ⊖ q ⊙ row ⌝ }
@@ -110,7 +110,7 @@ fn sweep(g: &[[i64; 4]; 4], k: usize, r: &mut [i64; 4], x: &mut [i64; 3]) -> boo
     requires { ⌜ length (now r) ≡ 4 ⌝ }
     requires { ⌜ length (now x) ≡ 3 ⌝ }
     requires { ⌜ Known k (now g) (now r) ⌝ }
-    requires { ⌜ Bounded 10000000 (now x) ⌝ }
+    requires { ⌜ Bounded 30000000 (now x) ⌝ }
     ensures { λ b. ⌜ Swept k (now (g .entry)) (now (r .entry)) (now (x .entry)) (now (r .exit)) (now (x .exit)) b ⌝ }
 {
     let mut moved = false;
@@ -303,7 +303,7 @@ fn improve(g: &[[i64; 4]; 4], k: usize, r: &mut [i64; 4], x: &mut [i64; 3]) -> b
     requires { ⌜ length (now r) ≡ 4 ⌝ }
     requires { ⌜ length (now x) ≡ 3 ⌝ }
     requires { ⌜ Known k (now g) (now r) ⌝ }
-    requires { ⌜ Bounded 10000000 (now x) ⌝ }
+    requires { ⌜ Bounded 30000000 (now x) ⌝ }
     ensures { λ b. ⌜ Stepped k (now (g .entry)) (now (r .entry)) (now (x .entry)) (now (r .exit)) (now (x .exit)) b ⌝ }
 {
     if sweep(g, k, r, x) {
@@ -335,7 +335,7 @@ pub fn among(g: &[[i64; 4]; 4], k: usize, r: &mut [i64; 4], x: &mut [i64; 3])
 }
 
 // The inner products of the first k vectors with v, zeros behind, to where they are kept.
-fn products(b: &[[i64; 4]; 4], k: usize, v: [i64; 4], r: &mut [i64; 4])
+pub fn products(b: &[[i64; 4]; 4], k: usize, v: [i64; 4], r: &mut [i64; 4])
     requires { ⌜ k ≤ 4 ⌝ }
     requires { ⌜ ((i : ℕ) → i < k → Bounded 100000 (getD (now b) i [])) ⌝ }
     requires { ⌜ Bounded 100000 v ⌝ }
@@ -348,7 +348,7 @@ fn products(b: &[[i64; 4]; 4], k: usize, v: [i64; 4], r: &mut [i64; 4])
 }
 
 // The Gram matrix of the first k vectors, zeros behind.
-fn gram(b: &[[i64; 4]; 4], k: usize) -> [[i64; 4]; 4]
+pub fn gram(b: &[[i64; 4]; 4], k: usize) -> [[i64; 4]; 4]
     requires { ⌜ k ≤ 4 ⌝ }
     requires { ⌜ ((i : ℕ) → i < k → Bounded 100000 (getD (now b) i [])) ⌝ }
     ensures { λ r. ⌜ GramOf (take k (now (b .entry))) r ⌝ }

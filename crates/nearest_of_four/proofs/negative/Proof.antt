@@ -8,7 +8,7 @@ use mir.Val.{SFits}
 use mir.Facts.{toZ-ofZ}
 use Rattle.lattices.specs.Vector.{nth}
 use Rattle.nearest_of_three.specs.Numbers.{negative}
-use Rattle.nearest_of_three.specs.Signs.{negative-end, negative-below, negative-above, negative-next}
+use Rattle.nearest_of_four.specs.Signs.{negative-end, negative-below, negative-above, negative-next}
 use Rattle.nearest_of_four.proofs.negative.Statement.{statement}
 use Rattle.nearest_of_four.proofs.negative.Tie as tie
 

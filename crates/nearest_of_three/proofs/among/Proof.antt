@@ -17,14 +17,14 @@ use Rattle.nearest_of_three.proofs.improve.Reads as improve-reads
 use Rattle.nearest_of_three.proofs.sweep.Reads as sweep-reads
 
 abbrev Inv-loop : tie.InvT-loop
-Inv-loop g k r₀ x₀ r x = Moved k g r₀ (replicate 3 (pos 0)) r x false
+Inv-loop g k r₀ x₀ r x = Moved 3 k g r₀ (replicate 3 (pos 0)) r x false
 
 abbrev μ-loop : tie.MeasureT-loop
 μ-loop g k r₀ x₀ r x = measure g r₀ x
 
 -- at the start nothing is taken
-start : (s : tie.Start Inv-loop μ-loop) → Moved (s .args .k) (now (s .args .g)) (now (s .args .r)) (replicate 3 (pos 0)) (now (s .args .r)) (now (s .args .x)) false
-start s = subst (λ x. Moved (s .args .k) (now (s .args .g)) (now (s .args .r)) (replicate 3 (pos 0)) (now (s .args .r)) x false) (sym (s .pre .1 .1 .1 .0)) (moved-none (s .args .k) (now (s .args .g)) (now (s .args .r)) (replicate 3 (pos 0)) refl)
+start : (s : tie.Start Inv-loop μ-loop) → Moved 3 (s .args .k) (now (s .args .g)) (now (s .args .r)) (replicate 3 (pos 0)) (now (s .args .r)) (now (s .args .x)) false
+start s = subst (λ x. Moved 3 (s .args .k) (now (s .args .g)) (now (s .args .r)) (replicate 3 (pos 0)) (now (s .args .r)) x false) (sym (s .pre .1 .1 .1 .0)) (moved-none 3 (s .args .k) (now (s .args .g)) (now (s .args .r)) (replicate 3 (pos 0)) refl)
 
 sweep-requires : tie.Need-sweep-requires Inv-loop μ-loop
 sweep-requires c κs =
@@ -32,7 +32,7 @@ sweep-requires c κs =
       s .pre .0,
       (
         s .pre .1 .0,
-        (s .pre .1 .1 .0, (ap length (s .pre .1 .1 .1 .0), (s .pre .1 .1 .1 .1, small (s .pre .0) (s .pre .1 .1 .1 .1 .meant) (start s)))),
+        (s .pre .1 .1 .0, (ap length (s .pre .1 .1 .1 .0), (s .pre .1 .1 .1 .1, small (s .pre .1 .1 .1 .1 .meant) (start s) (omega (arith, s .pre .0)) (s .pre .0)))),
       ),
     )
 
@@ -42,7 +42,7 @@ returns c =
     let s = t .before in
     let w = c .sweep .ensures in
     let m = moved-then (s .args .k) (now (s .args .g)) (now (s .args .r)) (s .pre .1 .1 .1 .1) (c .sweep .result) (λ e. inr e) refl (start s) (w .moves) in
-    (left-is (s .pre .0) (s .pre .1 .1 .1 .1) m, λ F vs t′ n. nearest-is (s .pre .0) n m (one (s .args .k) (t .if1 .taken) (w .settled (inr (t .if1 .taken)))))
+    (left-is (s .pre .1 .1 .1 .1) m, λ F vs t′ n. nearest-is (s .pre .0) n m (one (s .args .k) (t .if1 .taken) (w .settled (inr (t .if1 .taken)))))
 
 loop-holds : tie.Need-loop-holds Inv-loop μ-loop
 loop-holds c = start (c .before)
@@ -58,7 +58,7 @@ improve-requires c κs =
         omega (arith, l .before .if1 .left),
         (
           s .pre .1 .0,
-          (m .width ∙ s .pre .1 .1 .0, (moved-length refl m, (known-moved w m, small (s .pre .0) (w .meant) m))),
+          (m .width ∙ s .pre .1 .1 .0, (moved-length refl m, (known-moved w m, small (w .meant) m (omega (arith, s .pre .0)) (s .pre .0)))),
         ),
       ),
     )
@@ -68,7 +68,7 @@ start-of i = i .before .before .before .before .before
 
 -- the steps so far and the one just made
 whole : (i : tie.After-improve Inv-loop μ-loop) → let s = start-of i in
-    Moved (s .args .k) (now (s .args .g)) (now (s .args .r)) (replicate 3 (pos 0)) (i .improve .last .1 .1 .0) (i .improve .last .1 .1 .1 .0) false
+    Moved 3 (s .args .k) (now (s .args .g)) (now (s .args .r)) (replicate 3 (pos 0)) (i .improve .last .1 .1 .0) (i .improve .last .1 .1 .1 .0) false
 whole i =
     let s = start-of i in
     moved-then (s .args .k) (now (s .args .g)) (now (s .args .r)) (s .pre .1 .1 .1 .1) false (λ e. inl e) refl (i .before .before .before .loop .inv) (i .improve .ensures .moves)
@@ -77,13 +77,13 @@ returns-2 : tie.Need-returns-2 Inv-loop μ-loop
 returns-2 c =
     let i = c .before in
     let s = start-of i in
-    (left-is (s .pre .0) (s .pre .1 .1 .1 .1) (whole i), λ F vs t n. nearest-is (s .pre .0) n (whole i) (i .improve .ensures .none (not-true _ (c .if2 .taken))))
+    (left-is (s .pre .1 .1 .1 .1) (whole i), λ F vs t n. nearest-is (s .pre .0) n (whole i) (i .improve .ensures .none (not-true _ (c .if2 .taken))))
 
 loop-less : tie.Need-loop-less Inv-loop μ-loop
 loop-less c =
     let i = c .before in
     let s = start-of i in
-    descends (s .pre .0) (s .pre .1 .1 .1 .1) (i .before .before .before .loop .inv) (subst (Moved _ _ _ _ _ _) (not-false _ (c .if2 .left)) (i .improve .ensures .moves))
+    descends (omega (arith, s .pre .0)) (s .pre .0) (s .pre .1 .1 .1 .1) (i .before .before .before .loop .inv) (subst (Moved 3 _ _ _ _ _ _) (not-false _ (c .if2 .left)) (i .improve .ensures .moves))
 
 loop-again : tie.Need-loop-again Inv-loop μ-loop
 loop-again c = whole (c .before)

@@ -9,7 +9,7 @@ use Rattle.nearest_of_three.specs.Multiples.{within-twice}
 use Rattle.nearest_of_three.specs.Steps.{pairs}
 use Rattle.nearest_of_three.specs.Pairs.{squaresIn, sumsIn}
 use Rattle.nearest_of_three.specs.PairFits.{NumbersFit, numbers-fit, squares-small}
-use Rattle.nearest_of_three.specs.Places.{Walked, placed}
+use Rattle.nearest_of_three.specs.Places.{walked-as, placed}
 use Rattle.nearest_of_three.specs.State.{sized}
 use borrow.Author.Needs.{needs}
 use Rattle.nearest_of_three.proofs.place.Statement.{statement}
@@ -114,7 +114,7 @@ returns c =
     let q = c .before .before in
     let s = start q in
     placed (s .args .k) (s .pre .0) (s .pre .1 .0) _ _ (s .pre .1 .1 .1 .1 .0) (s .pre .1 .1 .1 .1 .1) (c .walk .result)
-    (rw (squared q, summed (q .before .before .before .before .before .before .before .before .before .before), two (c .before)) at (c .walk .ensures))
+    (walked-as (two (c .before)) (squared q) (summed (q .before .before .before .before .before .before .before .before .before .before)) (c .walk .ensures))
 
 walk-requires-2 : tie.Need-walk-requires-2
 walk-requires-2 c κs = (omega arith, (omega arith, rw (squared (c .before)) (squares-small (size (start (c .before))))))
@@ -124,7 +124,7 @@ returns-2 c =
     let q = c .before .before in
     let s = start q in
     placed (s .args .k) (s .pre .0) (s .pre .1 .0) _ _ (s .pre .1 .1 .1 .1 .0) (s .pre .1 .1 .1 .1 .1) (c .walk2 .result)
-    (rw (squared q, summed (q .before .before .before .before .before .before .before .before .before .before), three (c .before)) at (c .walk2 .ensures))
+    (walked-as (three (c .before)) (squared q) (summed (q .before .before .before .before .before .before .before .before .before .before)) (c .walk2 .ensures))
 
 pub place-spec : {M : Type 1} → statement M
 place-spec =

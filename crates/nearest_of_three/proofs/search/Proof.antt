@@ -3,20 +3,16 @@ use mathlib.Core.Path.{refl, ap, _∙_}
 use native.Mathlib.Nat.{le-refl}
 use native.Mathlib.Omega.{arith}
 use denote.Ref.{now}
-use lib.ListN.{take}
 use lib.Seq.{take-take}
 use Rattle.lattices.specs.Nearest.{nearest}
 use Rattle.lattices.specs.Answer.{padded}
-use Rattle.nearest_of_three.specs.Searchable.{Given, given, coordinates, rows-bounded}
+use Rattle.nearest_of_three.specs.Searchable.{coordinates, rows-bounded}
 use Rattle.nearest_of_three.specs.Formed.{meant-formed, known-formed}
 use Rattle.nearest_of_three.proofs.search.Statement.{statement}
 use Rattle.nearest_of_three.proofs.search.Tie as tie
 use Rattle.nearest_of_three.proofs.among.Reads as among-reads
 use Rattle.nearest_of_three.proofs.gram.Reads as gram-reads
 use Rattle.nearest_of_three.proofs.products.Reads as products-reads
-
-vectors : (s : tie.Start) → Given (s .args .k) (take (s .args .k) (now (s .args .b))) (s .args .t)
-vectors s = given (s .args .k) (now (s .args .b)) (s .args .t) (s .pre .0) (s .pre .1)
 
 gram-requires : tie.Need-gram-requires
 gram-requires c κs = (omega (arith, c .pre .0), rows-bounded (c .pre .1))
@@ -31,14 +27,14 @@ among-requires c κs =
     let p = c .before .before .before in
     let q = p .before .before in
     let s = q .before in
-    (s .pre .0, (q .gram .ensures .count, (p .products .ensures .long, (refl, known-formed (s .args .k) (now (s .args .b)) (s .args .t) (vectors s) (q .gram .ensures) (p .products .ensures)))))
+    (s .pre .0, (q .gram .ensures .count, (p .products .ensures .long, (refl, known-formed (s .args .k) (now (s .args .b)) (s .args .t) (s .pre .1) (q .gram .ensures) (p .products .ensures)))))
 
 returns : tie.Need-returns
 returns c =
     let p = c .before .before .before .before in
     let q = p .before .before in
     let s = q .before in
-    c .among .ensures .1 _ _ _ (meant-formed (s .args .k) (now (s .args .b)) (s .args .t) (vectors s) (q .gram .ensures) (p .products .ensures))
+    c .among .ensures .1 _ _ _ (meant-formed (s .args .k) (now (s .args .b)) (s .args .t) (s .pre .1) (q .gram .ensures) (p .products .ensures))
     ∙ ap (λ bs. padded 3 (nearest bs (s .args .t))) (take-take (s .args .k) (s .args .k) (now (s .args .b)) (le-refl (s .args .k)))
 
 pub search-spec : {M : Type 1} → statement M
