@@ -29,6 +29,7 @@ use gram_matrix::Work;
 use row_operations::Basis;
 use row_operations::TableRow;
 use row_operations::Vector;
+use row_operations::VectorRow;
 use row_operations::WIDTH;
 
 // Steps 4 and 5 for row k, the rows before it being reduced: the vector nearest to it in their lattice is subtracted from it.
@@ -88,9 +89,9 @@ fn reduce_first(gram: Table, vectors: Basis, us: Table, vs: Table, n: usize, bef
 pub struct Reduction {
     pub refusal: u64,
     pub place: u64,
-    pub vectors: [row_operations::VectorRow; 4],
-    pub u: [row_operations::TableRow; 4],
-    pub v: [row_operations::TableRow; 4],
+    pub vectors: [VectorRow; 4],
+    pub u: [TableRow; 4],
+    pub v: [TableRow; 4],
     pub squares: [i64; 4],
     pub passes: u64,
 }
@@ -102,9 +103,9 @@ fn refused(n: u64) -> Reduction
     Reduction {
         refusal: n,
         place: 0,
-        vectors: [row_operations::VectorRow { at: [0; 4] }; 4],
-        u: [row_operations::TableRow { at: [0; 4] }; 4],
-        v: [row_operations::TableRow { at: [0; 4] }; 4],
+        vectors: [VectorRow { at: [0; WIDTH] }; 4],
+        u: [TableRow { at: [0; 4] }; 4],
+        v: [TableRow { at: [0; 4] }; 4],
         squares: [0; 4],
         passes: 0,
     }
@@ -163,7 +164,7 @@ pub fn reduce(numbers: &[i64], d: usize, m: usize) -> Reduction
 pub struct NearestVector {
     pub refusal: u64,
     pub place: u64,
-    pub vector: [i64; 4],
+    pub vector: Vector,
     pub coefficients: [i64; 4],
     pub square: i64,
 }
@@ -175,7 +176,7 @@ fn refused_nearest(n: u64) -> NearestVector
     NearestVector {
         refusal: n,
         place: 0,
-        vector: [0; 4],
+        vector: [0; WIDTH],
         coefficients: [0; 4],
         square: 0,
     }
@@ -193,7 +194,7 @@ fn reduced(numbers: &[i64], d: usize, m: usize) -> Work
 }
 
 // The answer from the coefficients and what the nearest vector leaves of the target t.
-fn named(t: [i64; 4], x: [i64; 4], rest: [i64; 4]) -> NearestVector
+fn named(t: Vector, x: [i64; 4], rest: Vector) -> NearestVector
     requires { ⌜ Bounded 20000 t ⌝ }
     requires { ⌜ Bounded 100000 rest ⌝ }
     ensures { λ r. ⌜ r ≡ named t x rest ⌝ }

@@ -25,7 +25,7 @@ use Rattle.row_operations.specs.declared.VectorRow.{VectorRow}
 use Rattle.row_operations.specs.declared.TableRow.{TableRow}
 use Rattle.row_operations.specs.Rows.{transposed, Tables, rowsOf-tables, firstFour, map-four}
 use Rattle.row_operations.specs.RowStructs.{vectorRow, tableRow}
-use Rattle.gram_matrix.specs.declared.Work.{Work}
+use Rattle.gram_matrix.specs.declared.work.Work.{Work}
 use Rattle.gram_matrix.specs.Gram.{gramOf}
 use Rattle.gram_matrix.specs.Formed.{formed, formed-is}
 use Rattle.gram_matrix.specs.Tied.{whole, Tied, tied-diagonal, tied-length-gram, tied-square}
