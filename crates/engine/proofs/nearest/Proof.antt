@@ -9,7 +9,7 @@ use Rattle.lattices.specs.Vector.{comb, _⊖_}
 use Rattle.lattices.specs.Laws.Vector.{_≈_}
 use Rattle.lattices.specs.Nearest.{nearest}
 use Rattle.lattices.specs.Answer.{padded}
-use Rattle.lattices.specs.Refusal.{Input, firstOf, vectorChecks, targetChecks}
+use Rattle.lattices.specs.Refusal.{Input, firstOf, vectorChecks, targetChecks, mostVectors, mostCoordinates}
 use Rattle.greedy_reduction.specs.Accepted.{accepted, targeted}
 use Rattle.greedy_reduction.specs.Demand.{first-refused, first-passed}
 use Rattle.nearest_of_four.specs.Near.{Near}
@@ -101,7 +101,7 @@ vector-requires c κs =
 searched-requires : tie.Need-searched-requires
 searched-requires c κs =
     let v = c .before .before in
-    (accepted (input (start v)) (one v) .most, (ap length (vectors-are v) ∙ length-table 4 4 (vectors (R (input (start v)) (one v))), (near-here v, subst (λ b. GramOf (take (start v .args .d) b) (v .before .tables-of .result)) (sym (vectors-are v)) (gram-is v))))
+    (accepted (input (start v)) (one v) .most, (ap length (vectors-are v) ∙ length-table mostVectors mostCoordinates (vectors (R (input (start v)) (one v))), (near-here v, subst (λ b. GramOf (take (start v .args .d) b) (v .before .tables-of .result)) (sym (vectors-are v)) (gram-is v))))
 
 returns-3 : tie.Need-returns-3
 returns-3 c =
