@@ -2,7 +2,7 @@
 ghost use mathlib.Core.Path.{_≡_};
 ghost use Prim.Native.Nat.{ℕ, _+_, _-_, _≤_, _<_};
 ghost use mathlib.Core.List.{[]};
-ghost use lib.ListN.{take};
+ghost use lib.ListN.{length, take};
 ghost use Rattle.lattices.specs.Refusal.{firstOf, vectorChecks};
 ghost use Rattle.engine.specs.Laws.Begin.{first};
 ghost use Rattle.gram_matrix.specs.Tied.{Held, Tied, whole};
@@ -16,9 +16,9 @@ ghost use Rattle.engine.specs.Laws.Room.{PassReady};
 ghost use Rattle.engine.specs.Packed.{packed, packedNearest};
 ghost use Rattle.successive_minima.specs.Laws.Digits.{Bounded};
 ghost use Rattle.nearest_of_four.specs.Near.{Near};
-ghost use Rattle.successive_minima.specs.Member.{isMember};
 ghost use Rattle.lattices.specs.Answer.{noReduction, reductionOf, noNearest, nearestOf};
-ghost use Rattle.engine.specs.Laws.Named.{named};
+ghost use Rattle.engine.specs.Laws.Named.{named, Answered};
+ghost use Rattle.nearest_of_three.specs.Formed.{GramOf};
 pub use lattice::MemberAnswer;
 pub use lattice::membership;
 
@@ -28,6 +28,9 @@ use gram_matrix::Table;
 use gram_matrix::Work;
 use row_operations::Basis;
 use row_operations::TableRow;
+use row_operations::Vector;
+use row_operations::VectorRow;
+use row_operations::WIDTH;
 
 // Steps 4 and 5 for row k, the rows before it being reduced: the vector nearest to it in their lattice is subtracted from it.
 // The search leaves the inner products of what is left, which are the new row of the Gram matrix.
@@ -86,9 +89,9 @@ fn reduce_first(gram: Table, vectors: Basis, us: Table, vs: Table, n: usize, bef
 pub struct Reduction {
     pub refusal: u64,
     pub place: u64,
-    pub vectors: [row_operations::VectorRow; 4],
-    pub u: [row_operations::TableRow; 4],
-    pub v: [row_operations::TableRow; 4],
+    pub vectors: [VectorRow; 4],
+    pub u: [TableRow; 4],
+    pub v: [TableRow; 4],
     pub squares: [i64; 4],
     pub passes: u64,
 }
@@ -100,9 +103,9 @@ fn refused(n: u64) -> Reduction
     Reduction {
         refusal: n,
         place: 0,
-        vectors: [row_operations::VectorRow { at: [0; 4] }; 4],
-        u: [row_operations::TableRow { at: [0; 4] }; 4],
-        v: [row_operations::TableRow { at: [0; 4] }; 4],
+        vectors: [VectorRow { at: [0; WIDTH] }; 4],
+        u: [TableRow { at: [0; 4] }; 4],
+        v: [TableRow { at: [0; 4] }; 4],
         squares: [0; 4],
         passes: 0,
     }
@@ -146,11 +149,11 @@ fn finished(w: Work) -> Reduction
 pub fn reduce(numbers: &[i64], d: usize, m: usize) -> Reduction
     ensures { λ r. ⌜ r ≡ packed (reductionOf (record { numbers = now (numbers .entry); d = d; m = m; target = [] })) ⌝ }
 {
-    let number = input_checks::refusal(numbers, d, m);
+    let mut b = [[0; WIDTH]; 4];
+    let number = input_checks::checked(numbers, d, m, &mut b);
     if number != 0 {
         return refused(number);
     }
-    let b = input_checks::basis(numbers, d, m);
     let g = gram_matrix::formed(&b, d);
     let e = row_operations::unit_table(d);
     finished(reduce_first(g, b, e, e, d, 0))
@@ -161,7 +164,7 @@ pub fn reduce(numbers: &[i64], d: usize, m: usize) -> Reduction
 pub struct NearestVector {
     pub refusal: u64,
     pub place: u64,
-    pub vector: [i64; 4],
+    pub vector: Vector,
     pub coefficients: [i64; 4],
     pub square: i64,
 }
@@ -173,7 +176,7 @@ fn refused_nearest(n: u64) -> NearestVector
     NearestVector {
         refusal: n,
         place: 0,
-        vector: [0; 4],
+        vector: [0; WIDTH],
         coefficients: [0; 4],
         square: 0,
     }
@@ -191,7 +194,7 @@ fn reduced(numbers: &[i64], d: usize, m: usize) -> Work
 }
 
 // The answer from the coefficients and what the nearest vector leaves of the target t.
-fn named(t: [i64; 4], x: [i64; 4], rest: [i64; 4]) -> NearestVector
+fn named(t: Vector, x: [i64; 4], rest: Vector) -> NearestVector
     requires { ⌜ Bounded 20000 t ⌝ }
     requires { ⌜ Bounded 100000 rest ⌝ }
     ensures { λ r. ⌜ r ≡ named t x rest ⌝ }
@@ -205,7 +208,26 @@ fn named(t: [i64; 4], x: [i64; 4], rest: [i64; 4]) -> NearestVector
     }
 }
 
-// Nearest: d vectors of m coordinates each, vector by vector, and a target of m coordinates. The basis is reduced first.
+// The vector nearest to t in the lattice of the first d vectors of b, found on their Gram matrix g.
+fn searched(g: &Table, b: &Basis, d: usize, t: Vector) -> NearestVector
+    requires { ⌜ d ≤ 4 ⌝ }
+    requires { ⌜ length (now b) ≡ 4 ⌝ }
+    requires { ⌜ Near d (now b) t ⌝ }
+    requires { ⌜ GramOf (take d (now b)) (now g) ⌝ }
+    ensures { λ r. ⌜ Answered d (now (b .entry)) t r ⌝ }
+{
+    let mut r = [0; 4];
+    nearest_of_three::products(b, d, t, &mut r);
+    let n = row_operations::dot(t, t);
+    let mut x = [0; 4];
+    nearest_of_four::among(g, d, n, &mut r, &mut x);
+    let mut rest = t;
+    nearest_of_four::take_all(b, d, x, &mut rest);
+    named(t, x, rest)
+}
+
+// Nearest: d vectors of m coordinates each, vector by vector, and a target of m coordinates. The basis is reduced first, and the search goes
+// on the Gram matrix that the reduction leaves.
 pub fn nearest(numbers: &[i64], d: usize, m: usize, target: &[i64]) -> NearestVector
     ensures { λ r. ⌜ r ≡ packedNearest (nearestOf (record { numbers = now (numbers .entry); d = d; m = m; target = now (target .entry) })) ⌝ }
 {
@@ -219,19 +241,9 @@ pub fn nearest(numbers: &[i64], d: usize, m: usize, target: &[i64]) -> NearestVe
     }
     let w = reduced(numbers, d, m);
     let vectors = w.vectors;
+    let gram = w.gram;
     let b = row_operations::vectors_of(vectors);
+    let g = row_operations::tables_of(gram);
     let t = input_checks::vector(target, 0, m);
-    let c = nearest_of_four::closest(b, d, t);
-    let x = c.list;
-    let rest = c.rest;
-    named(t, x, rest)
-}
-
-// Membership: whether v is in the lattice of the first d vectors, which are reduced already, so that many vectors can be tested on one basis.
-pub fn member(b: [[i64; 4]; 4], d: usize, v: [i64; 4]) -> bool
-    requires { ⌜ d ≤ 4 ⌝ }
-    requires { ⌜ Near d b v ⌝ }
-    ensures { λ r. ⌜ r ≡ isMember (take d b) v ⌝ }
-{
-    nearest_of_four::member(b, d, v)
+    searched(&g, &b, d, t)
 }

@@ -47,7 +47,20 @@ pub fn vector(numbers: &[i64], at: usize, m: usize) -> Vector
     v
 }
 
-// d vectors of m coordinates each; zeros elsewhere.
+// d vectors of m coordinates each, to where there are zeros.
+fn fill(numbers: &[i64], d: usize, m: usize, b: &mut Basis)
+    requires { ⌜ d ≤ mostVectors ⌝ }
+    requires { ⌜ m ≤ mostCoordinates ⌝ }
+    requires { ⌜ length (now numbers) ≡ d * m ⌝ }
+    requires { ⌜ now b ≡ table mostVectors mostCoordinates [] ⌝ }
+    ensures { λ _. ⌜ now (b .exit) ≡ table mostVectors mostCoordinates (vectorsOf d m (now (numbers .entry))) ⌝ }
+{
+    for i in 0..d {
+        b[i] = vector(numbers, i * m, m);
+    }
+}
+
+// The same as an array; zeros elsewhere.
 pub fn basis(numbers: &[i64], d: usize, m: usize) -> Basis
     requires { ⌜ d ≤ mostVectors ⌝ }
     requires { ⌜ m ≤ mostCoordinates ⌝ }
@@ -55,9 +68,7 @@ pub fn basis(numbers: &[i64], d: usize, m: usize) -> Basis
     ensures { λ r. ⌜ r ≡ table mostVectors mostCoordinates (vectorsOf d m (now (numbers .entry))) ⌝ }
 {
     let mut b = [[0; WIDTH]; 4];
-    for i in 0..d {
-        b[i] = vector(numbers, i * m, m);
-    }
+    fill(numbers, d, m, &mut b);
     b
 }
 
@@ -180,9 +191,12 @@ pub fn one_to(most: usize, n: usize) -> bool
     1 <= n && n <= most
 }
 
-// The first refusal that applies to d vectors of m coordinates, and 0 for none. The counts come first: then d * m cannot overflow.
-pub fn refusal(numbers: &[i64], d: usize, m: usize) -> u64
+// The first refusal that applies to d vectors of m coordinates, and 0 for none; then b holds them. The counts come first: then d * m cannot
+// overflow.
+pub fn checked(numbers: &[i64], d: usize, m: usize, b: &mut Basis) -> u64
+    requires { ⌜ now b ≡ table mostVectors mostCoordinates [] ⌝ }
     ensures { λ r. ⌜ r ≡ firstOf vectorChecks (record { numbers = now (numbers .entry); d = d; m = m; target = [] }) ⌝ }
+    ensures { λ r. ⌜ (r ≡ 0 → now (b .exit) ≡ table mostVectors mostCoordinates (vectorsOf d m (now (numbers .entry)))) ⌝ }
 {
     if !one_to(MOST_VECTORS, d) {
         return 1;
@@ -193,14 +207,22 @@ pub fn refusal(numbers: &[i64], d: usize, m: usize) -> u64
     if numbers.len() != d * m {
         return 3;
     }
-    let b = basis(numbers, d, m);
-    if any_long(b, d) {
+    fill(numbers, d, m, b);
+    if any_long(*b, d) {
         return 4;
     }
-    if dependent(b, d) {
+    if dependent(*b, d) {
         return 5;
     }
     ACCEPTED
+}
+
+// The refusal alone.
+pub fn refusal(numbers: &[i64], d: usize, m: usize) -> u64
+    ensures { λ r. ⌜ r ≡ firstOf vectorChecks (record { numbers = now (numbers .entry); d = d; m = m; target = [] }) ⌝ }
+{
+    let mut b = [[0; WIDTH]; 4];
+    checked(numbers, d, m, &mut b)
 }
 
 // The first refusal that applies to a target of vectors of m coordinates, and 0 for none.

@@ -39,12 +39,12 @@ element-copy-out-r : tie.Need-element-copy-out-r
 element-copy-out-r c = search needs
 
 among-requires : tie.Need-among-requires
-among-requires c κs =     let s = c .before .before .before .before in
+among-requires c κs = let s = c .before .before .before .before in
     let t = given s .tied in
     (s .pre .0, (s .pre .1 .0 .gram, (row-four t (given s .ready) (s .pre .0) (s .pre .1 .0 .us), (refl, known t (given s .ready) (s .pre .0) (s .pre .1 .0 .us)))))
 
 lose-combination-requires : tie.Need-lose-combination-requires
-lose-combination-requires c κs =     let a = c .before .before .before .before in
+lose-combination-requires c κs = let a = c .before .before .before .before in
     let s = a .before .before .before .before .before in
     let t = given s .tied in
     let r = given s .ready in
@@ -52,7 +52,7 @@ lose-combination-requires c κs =     let a = c .before .before .before .before 
     rw (x-here a) (s .pre .0, (length-padded 3 (coefficients (s .args .k) (given s .rows)), (vectors-lose t r (s .pre .0) f, (us-lose t r (s .pre .0) f, vs-gain t r (s .pre .0) f))))
 
 cross-requires : tie.Need-cross-requires
-cross-requires c κs =     let a = c .before .before .before .before .before .before .before .before in
+cross-requires c κs = let a = c .before .before .before .before .before .before .before .before in
     let s = a .before .before .before .before .before in
     let t = given s .tied in
     let r = given s .ready in
@@ -60,19 +60,21 @@ cross-requires c κs =     let a = c .before .before .before .before .before .be
     rw (a .among .ensures .0) (rw (x-here a) (s .pre .0, (s .pre .1 .0 .gram, (left-room t r (s .pre .0) f, square-room t r (s .pre .0) f))))
 
 returns : tie.Need-returns
-returns c =     let a = c .before .before .before .before .before .before .before .before .before in
+returns c = let a = c .before .before .before .before .before .before .before .before .before in
     let s = a .before .before .before .before .before in
     let h = s .pre .1 .0 in
     let k = s .args .k in
     let y = take k (found-list a) in
     let e = c .before .before .before .before .lose-combination .ensures in
-    let eg = c .cross .ensures ∙ ap (λ r. crossed y k r (now (s .args .g))) (a .among .ensures .0) in
-    (record {
-      gram = ap length eg ∙ length-set (entered k _ (now (s .args .g))) k _ ∙ length-entered k _ (now (s .args .g)) ∙ h .gram;
-      vectors = ap length (e .0) ∙ length-set (now (s .args .b)) k _ ∙ h .vectors;
-      us = ap length (e .1 .0) ∙ length-set (now (s .args .u)) k _ ∙ h .us;
-      vs = ap length (e .1 .1) ∙ length-map (now (s .args .v)) _ ∙ h .vs;
-    }, λ p. rw (eg, e .0, e .1 .0, e .1 .1) (rw (x-of a p) (tied-after (p .tied) (p .ready) (s .pre .0) (h .us))))
+    let eg = c .cross .ensures ∙ ap (λ r. crossed y k r (now (s .args .g))) (a .among .ensures .0) in (
+      record {
+        gram = ap length eg ∙ length-set (entered k _ (now (s .args .g))) k _ ∙ length-entered k _ (now (s .args .g)) ∙ h .gram;
+        vectors = ap length (e .0) ∙ length-set (now (s .args .b)) k _ ∙ h .vectors;
+        us = ap length (e .1 .0) ∙ length-set (now (s .args .u)) k _ ∙ h .us;
+        vs = ap length (e .1 .1) ∙ length-map (now (s .args .v)) _ ∙ h .vs;
+      },
+      λ p. rw (eg, e .0, e .1 .0, e .1 .1) (rw (x-of a p) (tied-after (p .tied) (p .ready) (s .pre .0) (h .us))),
+    )
 
 pub pass-spec : {M : Type 1} → statement M
 pass-spec =

@@ -5,7 +5,7 @@ use Rattle.gram_matrix.specs.Tied.{whole}
 use lib.ListN.{length, take}
 use denote.Ref.{now}
 use borrow.Author.Needs.{needs}
-use Rattle.lattices.specs.Refusal.{Input, basis, firstOf, vectorChecks}
+use Rattle.lattices.specs.Refusal.{Input, basis, firstOf, vectorChecks, mostVectors, mostCoordinates}
 use Rattle.lattices.specs.Answer.{table}
 use Rattle.greedy_reduction.specs.Accepted.{Accepted, accepted}
 use Rattle.gram_matrix.specs.Formed.{formed}
@@ -26,13 +26,13 @@ basis-requires c κs = let a = facts c in (a .most, (a .few, a .count))
 formed-requires : tie.Need-formed-requires
 formed-requires c κs =
     let s = c .before .before in
-    (facts s .most, (ap length (c .before .basis .ensures) ∙ length-table 4 4 (basis (input s)), λ j k. rw (c .before .basis .ensures) (begun-small (input s) (s .pre) j k)))
+    (facts s .most, (ap length (c .before .basis .ensures) ∙ length-table mostVectors mostCoordinates (basis (input s)), λ j k. rw (c .before .basis .ensures) (begun-small (input s) (s .pre) j k)))
 
 unit-table-requires : tie.Need-unit-table-requires
 unit-table-requires c κs = facts (c .before .before .before) .most
 
 -- the tables are those with which the definition begins
-gram-is : (c : tie.After-unit-table) → let s = c .before .before .before .before in c .before .formed .result ≡ formed (take (s .args .d) (table 4 4 (basis (input s))))
+gram-is : (c : tie.After-unit-table) → let s = c .before .before .before .before in c .before .formed .result ≡ formed (take (s .args .d) (table mostVectors mostCoordinates (basis (input s))))
 gram-is c = let s = c .before .before .before .before in c .before .formed .ensures ∙ ap (λ t. formed (take (s .args .d) t)) (c .before .before .before .basis .ensures)
 
 abbrev start : (c : tie.After-unit-table) → let s = c .before .before .before .before in firstOf vectorChecks (input s) ≡ 0 → Reducible (s .args .d) 0 (c .before .formed .result) (c .before .before .before .basis .result) (c .unit-table .result) (c .unit-table .result)

@@ -27,7 +27,7 @@ use Rattle.gram_matrix.specs.Passed.{tied-left}
 use Rattle.engine.specs.Laws.State.{blank}
 use Rattle.engine.specs.Laws.Limits.{longest}
 use Rattle.engine.specs.Laws.Room as Room
-use Rattle.engine.specs.Laws.Room.{PassReady, short-rows}
+use Rattle.engine.specs.Laws.Room.{PassReady, rows-short}
 use Rattle.engine.specs.Laws.Products.{schwarz}
 
 -- the coefficients of the vector nearest to row k
@@ -70,7 +70,7 @@ module _ {K : Kind} (positive : pos 0 <ℤ K .factor) (k : ℕ) (rows : List Row
   front-is = take-map (λ s. s .vector) k rows
 
   pub short : (i : ℕ) → N (getD bs i []) ≤ℤ longest K
-  short i = short-rows positive (r .fine) i
+  short i = rows-short positive (r .fine) i
 
   pub short-last : N t ≤ℤ longest K
   short-last = subst (λ v. N v ≤ℤ longest K) last-is (short k)
@@ -121,12 +121,12 @@ module _ {K : Kind} (positive : pos 0 <ℤ K .factor) (k : ℕ) (rows : List Row
         pick : Dec (j < k) → natAbs (nth x j *ℤ nth left j) ≤ 2000000000000000000
         pick (yes h) =
             let m : natAbs (nth x j *ℤ nth left j) ≤ 20800000000 = lower (nth x j *ℤ nth left j) 20800000000 (subst (λ z. natAbs z ≤ natAbs F * 20800000000)
-                (sym (swap (nth x j) (nth left j) ∙ ap (λ z. nth x j *ℤ z) (entry-is j ∙ ap (λ v. dot v rest) (sym (getD-take k bs j [] h) ∙ ap (λ l. getD l j []) front-is)))) (terms j)) in
+            (sym (swap (nth x j) (nth left j) ∙ ap (λ z. nth x j *ℤ z) (entry-is j ∙ ap (λ v. dot v rest) (sym (getD-take k bs j [] h) ∙ ap (λ l. getD l j []) front-is)))) (terms j)) in
             omega (arith, m)
         pick (no h) = subst (λ y. natAbs (y *ℤ nth left j) ≤ 2000000000000000000) (sym (List·getD-eq-default x (pos 0) (omega (arith, x-count, h)))) (subst (λ z. natAbs z ≤ 2000000000000000000) (sym (zero-* (nth left j))) (omega arith))
 
     pub square-room : Within 1000000000000000000 (nth left k)
     square-room =
         let m : natAbs (nth left k) ≤ 400000000 = lower (nth left k) 400000000 (subst₂ _≤_ (ap natAbs (sym (entry-is k))) (size-mul F (pos 400000000))
-            (root (dot (getD bs k []) rest) (longest K) (≤ℤ-trans (schwarz (getD bs k []) rest) (*ℤ-mono-both (N-nonneg (getD bs k [])) (≤ℤ-of-<ℤ positive ⊠ nn-pos 400000000) (short k) rest-short)))) in
+        (root (dot (getD bs k []) rest) (longest K) (≤ℤ-trans (schwarz (getD bs k []) rest) (*ℤ-mono-both (N-nonneg (getD bs k [])) (≤ℤ-of-<ℤ positive ⊠ nn-pos 400000000) (short k) rest-short)))) in
         record { within = omega (arith, m) }

@@ -19,7 +19,7 @@ use Rattle.exterior_algebra.specs.Hadamard.{*ℤ-mono-both}
 pub schwarz : (u v : Vec) → (dot u v *ℤ dot u v) ≤ℤ (N u *ℤ N v)
 schwarz u v = ⊎-elim
     (λ h. let z = definite v (≤ℤ-antisymm h (N-nonneg v)) in
-      ≤ℤ-trans (≤ℤ-of-≡ (ap (λ d. d *ℤ d) (dot-comm u v ∙ zero-dot v z u))) (N-nonneg u ⊠ N-nonneg v))
+    ≤ℤ-trans (≤ℤ-of-≡ (ap (λ d. d *ℤ d) (dot-comm u v ∙ zero-dot v z u))) (N-nonneg u ⊠ N-nonneg v))
     (λ h. *ℤ-cancel-≤ h (by-nn (N u ∷ N v ∷ dot u v ∷ N (N v ⊙ u ⊖ dot u v ⊙ v) ∷ []) (N-nonneg (N v ⊙ u ⊖ dot u v ⊙ v) ⊞ eq (negsuc 0) square) (search reads depth 20) (search reads depth 20) tt))
     (≤ℤ-or-<ℤ (N v) (pos 0))
   where
@@ -34,7 +34,3 @@ product-size A y u v h k = root (y *ℤ dot u v) (pos (A * 400000000))
   where
     regroup : (A : ℕ) → 400000000 * (A * A * 400000000) ≡ A * 400000000 * (A * 400000000)
     regroup A = omega arith
-
--- vectors within the limit have inner products within it
-pub product-within : (u v : Vec) → N u ≤ℤ pos 400000000 → N v ≤ℤ pos 400000000 → natAbs (dot u v) ≤ 400000000
-product-within u v h k = root (dot u v) (pos 400000000) (≤ℤ-trans (schwarz u v) (*ℤ-mono-both (N-nonneg u) (nn-pos 400000000) h k))

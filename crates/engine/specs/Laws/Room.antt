@@ -96,12 +96,16 @@ module _ {K : Kind} (k : ℕ) (rows : List Row) (f : Fine K (suc k) rows) (three
   terms-room j = f .limits .on-gram (take k rows) (getD rows k blank) rest moved few red j
 
 -- no vector is over the limit, place by place
-pub short-rows : {K : Kind} {n : ℕ} {rows : List Row} → pos 0 <ℤ K .factor → Fine K n rows → (i : ℕ) → N (getD (map (λ r. r .vector) rows) i []) ≤ℤ longest K
-short-rows {K} {rows = rows} p f i = short-of (longest K) (≤ℤ-of-<ℤ p ⊠ nn-pos 400000000) rows (fine-short f) i
+pub rows-short : {K : Kind} {n : ℕ} {rows : List Row} → pos 0 <ℤ K .factor → Fine K n rows → (i : ℕ) → N (getD (map (λ r. r .vector) rows) i []) ≤ℤ longest K
+rows-short {K} {rows = rows} p f i = short-of (longest K) (≤ℤ-of-<ℤ p ⊠ nn-pos 400000000) rows (fine-short f) i
+
+-- vectors as they are
+pub short-rows : {n : ℕ} {rows : List Row} → Fine whole n rows → (i : ℕ) → N (getD (map (λ r. r .vector) rows) i []) ≤ℤ pos 400000000
+short-rows f i = rows-short (ltZ-yes tt) f i
 
 -- the coordinates of vectors are small
 pub small-rows : {n : ℕ} {rows : List Row} → Fine whole n rows → (i j : ℕ) → Within 100000 (nth (getD (map (λ r. r .vector) rows) i []) j)
-small-rows {rows = rows} f i j = record { within = omega (arith, coordinate 1 (getD (map (λ r. r .vector) rows) i []) (short-rows (ltZ-yes tt) f i) j) }
+small-rows {rows = rows} f i j = record { within = omega (arith, coordinate 1 (getD (map (λ r. r .vector) rows) i []) (short-rows f i) j) }
 
 -- ready for a pass: the rows before row k are reduced
 pub record PassReady (K : Kind) (k : ℕ) (rows : List Row) : Type 0 where

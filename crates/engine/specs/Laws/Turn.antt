@@ -154,9 +154,10 @@ module _ {K : Kind} (j : ℕ) (rows : List Row) (f : Fine K (suc (suc j)) rows) 
   -- or the steps repeat
   pub turn-repeats : test ≡ true → (greedyRows n rows ≡ greedyRows n (turnRows k rows)) × (greedyPasses n rows ≡ suc (greedyPasses k (orderRows n rows)) + greedyPasses n (turnRows k rows))
   turn-repeats q =
-      let e = steps ∙ ap (λ b. cond b (again P (greedy n (joined P))) (stop P)) q in
-      (ap (λ c. c .rows ++ drop n rows) e ∙ sym (ap₂ (λ a b. greedy n a .rows ++ b) (turn-take k rows f) (turn-drop k rows f)),
-        ap (λ c. c .passes) e ∙ ap₂ (λ a b. a + greedy n b .passes) (sym (turn-passes k rows f)) (sym (turn-take k rows f)))
+      let e = steps ∙ ap (λ b. cond b (again P (greedy n (joined P))) (stop P)) q in (
+        ap (λ c. c .rows ++ drop n rows) e ∙ sym (ap₂ (λ a b. greedy n a .rows ++ b) (turn-take k rows f) (turn-drop k rows f)),
+        ap (λ c. c .passes) e ∙ ap₂ (λ a b. a + greedy n b .passes) (sym (turn-passes k rows f)) (sym (turn-take k rows f)),
+      )
 
   first-count : length (P .first) ≡ k
   first-count = omega (arith, joined-count k rows f, length-append (P .first) (P .last ∷ []))

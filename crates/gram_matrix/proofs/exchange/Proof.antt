@@ -31,19 +31,21 @@ exchange-columns-requires-2 : tie.Need-exchange-columns-requires-2
 exchange-columns-requires-2 c κs = (c .before .before .before .before .before .before .before .before .before .pre .1 .vs, c .before .before .before .before .before .before .before .before .before .pre .0)
 
 returns : tie.Need-returns
-returns c =     let s = c .before .before .before .before .before .before .before .before .before .before in
+returns c = let s = c .before .before .before .before .before .before .before .before .before .before in
     let j = s .args .j in
     let h = s .pre .1 in
     let g = c .before .before .before .before .before .before .exchange-rows .ensures ∙ ap (exchanged j) (c .before .before .before .before .before .before .before .before .exchange-columns .ensures) in
     let b = c .before .before .before .before .exchange-vectors .ensures in
     let u = c .before .before .exchange-rows2 .ensures in
-    let v = c .exchange-columns2 .ensures in
-    (record {
-      gram = ap length g ∙ length-exchanged j (map (swapped j) (now (s .args .g))) ∙ length-map (now (s .args .g)) (swapped j) ∙ h .gram;
-      vectors = ap length b ∙ length-exchanged j (now (s .args .b)) ∙ h .vectors;
-      us = ap length u ∙ length-exchanged j (now (s .args .u)) ∙ h .us;
-      vs = ap length v ∙ length-map (now (s .args .v)) (swapped j) ∙ h .vs;
-    }, λ K rows t. rw (g, b, u, v) (tied-exchanged j (omega (arith, tied-length t, h .us, s .pre .0)) t))
+    let v = c .exchange-columns2 .ensures in (
+      record {
+        gram = ap length g ∙ length-exchanged j (map (swapped j) (now (s .args .g))) ∙ length-map (now (s .args .g)) (swapped j) ∙ h .gram;
+        vectors = ap length b ∙ length-exchanged j (now (s .args .b)) ∙ h .vectors;
+        us = ap length u ∙ length-exchanged j (now (s .args .u)) ∙ h .us;
+        vs = ap length v ∙ length-map (now (s .args .v)) (swapped j) ∙ h .vs;
+      },
+      λ K rows t. rw (g, b, u, v) (tied-exchanged j (omega (arith, tied-length t, h .us, s .pre .0)) t),
+    )
 
 pub exchange-spec : {M : Type 1} → statement M
 exchange-spec =

@@ -43,7 +43,7 @@ element-set-from-row : tie.Need-element-set-from-row
 element-set-from-row c = search needs
 
 returns : tie.Need-returns
-returns c =     let s = c .before .before in
+returns c = let s = c .before .before in
     let h : suc (s .args .j) < length (now (s .args .b)) = omega (arith, s .pre .0) in
     rw add-one (exchanged-set [] (s .args .j) (now (s .args .b)) h)
 

@@ -37,7 +37,7 @@ element-copy-out-products : tie.Need-element-copy-out-products Inv-loop μ-loop
 element-copy-out-products c = search needs
 
 products-requires : tie.Need-products-requires Inv-loop μ-loop
-products-requires c κs =     let l = c .before .before in
+products-requires c κs = let l = c .before .before in
     let s = l .before in
     (omega (arith, s .pre .0), (s .pre .1 .0, (s .pre .1 .1, s .pre .1 .1 (l .loop .i))))
 
@@ -66,12 +66,14 @@ loop-again c =
     let s = l .before in
     let v = now (s .args .b) in
     let i = l .loop .i in
-    let e = p .products .ensures in
-    (search needs, c .enter .ensures ∙ ap₂ (λ g r. entered i r (set g i r)) (l .loop .inv .1) (e ∙ ap (λ n. products (take n v) (getD v i [])) (add-one i))
-    ∙ grown v i (omega (arith, s .pre .0, s .pre .1 .0)) (omega (arith, s .pre .1 .0)) ∙ ap (λ n. formed (take n v)) (sym (add-one i)))
+    let e = p .products .ensures in (
+      search needs,
+      c .enter .ensures ∙ ap₂ (λ g r. entered i r (set g i r)) (l .loop .inv .1) (e ∙ ap (λ n. products (take n v) (getD v i [])) (add-one i))
+          ∙ grown v i (omega (arith, s .pre .0, s .pre .1 .0)) (omega (arith, s .pre .1 .0)) ∙ ap (λ n. formed (take n v)) (sym (add-one i)),
+    )
 
 returns : tie.Need-returns Inv-loop μ-loop
-returns c =     let s = c .before .before in
+returns c = let s = c .before .before in
     let e : c .before .loop .i ≡ s .args .d = search needs in
     c .before .loop .inv .1 ∙ ap (λ i. formed (take i (now (s .args .b)))) e
 

@@ -33,7 +33,7 @@ index-1-gain-entry : tie.Need-index-1-gain-entry Inv-loop μ-loop
 index-1-gain-entry c = search needs
 
 gain-entry-requires : tie.Need-gain-entry-requires Inv-loop μ-loop
-gain-entry-requires c κs =     let l = c .before .before in
+gain-entry-requires c κs = let l = c .before .before in
     let s = l .before in
     let e = row-kept (gainedAt (s .args .j) (toZ w64 (ofZ w64 (s .args .q))) (s .args .k)) (now (s .args .t)) (l .loop .i) (l .loop .inv .1) [] (omega (arith, s .pre .1 .0)) in
     (s .pre .0, rw e (simp (toZ-ofZ, s .fits .q) (s .pre .1 .1 (l .loop .i))))
@@ -45,12 +45,12 @@ loop-less : tie.Need-loop-less Inv-loop μ-loop
 loop-less c = search needs
 
 loop-again : tie.Need-loop-again Inv-loop μ-loop
-loop-again c =     let l = c .before .before .before in
+loop-again c = let l = c .before .before .before in
     let s = l .before in
     (search needs, row-mapped (gainedAt (s .args .j) (toZ w64 (ofZ w64 (s .args .q))) (s .args .k)) (now (s .args .t)) (l .loop .i) (l .loop .inv .1) [] (omega (arith, s .pre .1 .0)) (c .gain-entry .ensures))
 
 returns : tie.Need-returns Inv-loop μ-loop
-returns c =     let s = c .before .before in
+returns c = let s = c .before .before in
     rows-mapped (gainedAt (s .args .j) (toZ w64 (ofZ w64 (s .args .q))) (s .args .k)) (now (s .args .t)) (c .before .loop .i) (c .before .loop .inv .1) (omega (arith, s .pre .1 .0))
     ∙ ap (λ q. map (gainedAt (s .args .j) q (s .args .k)) (now (s .args .t))) (toZ-ofZ (s .fits .q))
 

@@ -35,16 +35,18 @@ shorter-requires : tie.Need-shorter-requires Inv-loop μ-loop
 shorter-requires c κs = ((search needs, search needs), c .before .before .loop .inv .1 .0 .gram)
 
 returns : tie.Need-returns Inv-loop μ-loop
-returns c =     let a = c .before .before .before .before in
+returns c = let a = c .before .before .before .before in
     let l = a .loop in
     let f = l .inv .1 .0 in
     let n = a .before .args .n in
     let q = sym (c .before .shorter .ensures) ∙ not-true _ (c .if1 .taken) in
-    let h : l .j + 1 < n = search needs in
-    (f, λ K rows t.
-      let k = l .inv .1 .1 K rows t in
-      let m : n ≤ length (k .now) = omega (arith, tied-length (k .tied), f .us, a .before .pre .0 .1) in
-      subst (λ r. Tied K r (l .g) (l .b) (l .u) (l .v)) (sym (tied-stop (k .tied) n (l .j) h m q) ∙ k .same) (k .tied))
+    let h : l .j + 1 < n = search needs in (
+      f,
+      λ K rows t.
+          let k = l .inv .1 .1 K rows t in
+          let m : n ≤ length (k .now) = omega (arith, tied-length (k .tied), f .us, a .before .pre .0 .1) in
+          subst (λ r. Tied K r (l .g) (l .b) (l .u) (l .v)) (sym (tied-stop (k .tied) n (l .j) h m q) ∙ k .same) (k .tied),
+    )
 
 exchange-requires : tie.Need-exchange-requires Inv-loop μ-loop
 exchange-requires c κs = (search needs, c .before .before .before .before .before .before .before .before .loop .inv .1 .0)
@@ -56,25 +58,32 @@ loop-less : tie.Need-loop-less Inv-loop μ-loop
 loop-less c = search needs
 
 loop-again : tie.Need-loop-again Inv-loop μ-loop
-loop-again c =     let a = c .before .before .before .before .before .before .before .before .before in
+loop-again c = let a = c .before .before .before .before .before .before .before .before .before in
     let l = a .loop in
     let f = l .inv .1 .0 in
     let n = a .before .args .n in
     let e = c .exchange .ensures in
     let q = sym (c .before .before .before .before .before .before .shorter .ensures) ∙ not-false _ (c .before .before .before .before .before .if1 .left) in
-    let h : l .j + 1 < n = search needs in
-    (search needs, (e .0, λ K rows t.
-      let k = l .inv .1 .1 K rows t in
-      let m : n ≤ length (k .now) = omega (arith, tied-length (k .tied), f .us, a .before .pre .0 .1) in
-      record { now = exchanged (l .j) (k .now); tied = e .1 K (k .now) (k .tied); same = tied-go (k .tied) n (l .j) h m q ∙ k .same }))
+    let h : l .j + 1 < n = search needs in (
+      search needs,
+      (
+        e .0,
+        λ K rows t.
+            let k = l .inv .1 .1 K rows t in
+            let m : n ≤ length (k .now) = omega (arith, tied-length (k .tied), f .us, a .before .pre .0 .1) in
+            record { now = exchanged (l .j) (k .now); tied = e .1 K (k .now) (k .tied); same = tied-go (k .tied) n (l .j) h m q ∙ k .same },
+      ),
+    )
 
 returns-2 : tie.Need-returns-2 Inv-loop μ-loop
-returns-2 c =     let l = c .before .loop in
+returns-2 c = let l = c .before .loop in
     let n = c .before .before .args .n in
-    let h : n ≤ l .j + 1 = search needs in
-    (l .inv .1 .0, λ K rows t.
-      let k = l .inv .1 .1 K rows t in
-      subst (λ r. Tied K r (l .g) (l .b) (l .u) (l .v)) (sym (insertAt-done n (l .j) (k .now) h) ∙ k .same) (k .tied))
+    let h : n ≤ l .j + 1 = search needs in (
+      l .inv .1 .0,
+      λ K rows t.
+          let k = l .inv .1 .1 K rows t in
+          subst (λ r. Tied K r (l .g) (l .b) (l .u) (l .v)) (sym (insertAt-done n (l .j) (k .now) h) ∙ k .same) (k .tied),
+    )
 
 pub insert-spec : {M : Type 1} → statement M
 insert-spec =

@@ -49,7 +49,7 @@ array-set-from-s : tie.Need-array-set-from-s
 array-set-from-s c = search needs
 
 returns : tie.Need-returns
-returns c =     let s = c .before .before .before in
+returns c = let s = c .before .before .before in
     simp (toZ-ofZ, entry c, sum c, left c) (ap (λ z. set (now (s .args .r)) (s .args .k) (nth (now (s .args .r)) (s .args .k) -ℤ z)) (c .dot-first .ensures))
 
 pub less-entry-spec : {M : Type 1} → statement M

@@ -63,9 +63,13 @@ loop-again c =
     let w = now (s .args .b) in
     let q = toZ w64 (ofZ w64 (s .args .q)) in
     let h : i < length a = omega (arith, l .loop .inv .1 .0) in
-    let e = c .before .lose-entry .ensures ∙ ap₂ (λ n z. set (l .loop .a) i (n -ℤ q *ℤ z)) (kept l h) (toZ-ofZ {w = w64} (read x)) in
-    (search needs, (ap length e ∙ length-set (l .loop .a) i _ ∙ l .loop .inv .1 .0,
-      rw add-one (e ∙ ap (λ t. set t i (nth a i -ℤ q *ℤ nth w i)) (l .loop .inv .1 .1) ∙ minus-next a q w i (s .pre .0) h)))
+    let e = c .before .lose-entry .ensures ∙ ap₂ (λ n z. set (l .loop .a) i (n -ℤ q *ℤ z)) (kept l h) (toZ-ofZ {w = w64} (read x)) in (
+      search needs,
+      (
+        ap length e ∙ length-set (l .loop .a) i _ ∙ l .loop .inv .1 .0,
+        rw add-one (e ∙ ap (λ t. set t i (nth a i -ℤ q *ℤ nth w i)) (l .loop .inv .1 .1) ∙ minus-next a q w i (s .pre .0) h),
+      ),
+    )
 
 same-length : tie.Need-same-length Inv-loop μ-loop
 same-length c = c .before .loop .inv .1 .0

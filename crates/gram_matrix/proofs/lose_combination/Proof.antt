@@ -41,10 +41,13 @@ element-copy-out-lose-multiple c = search needs
 -- the tables keep their four rows, and the coefficient fits
 here : (l : tie.At-loop Inv-loop μ-loop) → (length (l .loop .b) ≡ 4) × ((length (l .loop .u) ≡ 4) × (length (l .loop .v) ≡ 4))
 here l =
-    let s = l .before in
-    (ap length (l .loop .inv .1 .0) ∙ length-set (now (s .args .b)) (s .args .k) _ ∙ s .pre .1 .1 .0 .four,
-      (ap length (l .loop .inv .1 .1 .0) ∙ length-set (now (s .args .u)) (s .args .k) _ ∙ s .pre .1 .1 .1 .0 .four,
-        ap length (l .loop .inv .1 .1 .1) ∙ length-map (now (s .args .v)) _ ∙ s .pre .1 .1 .1 .1 .four))
+    let s = l .before in (
+      ap length (l .loop .inv .1 .0) ∙ length-set (now (s .args .b)) (s .args .k) _ ∙ s .pre .1 .1 .0 .four,
+      (
+        ap length (l .loop .inv .1 .1 .0) ∙ length-set (now (s .args .u)) (s .args .k) _ ∙ s .pre .1 .1 .1 .0 .four,
+        ap length (l .loop .inv .1 .1 .1) ∙ length-map (now (s .args .v)) _ ∙ s .pre .1 .1 .1 .1 .four,
+      ),
+    )
 
 read : (c : tie.After-lose-multiple-arg4 Inv-loop μ-loop) → SFits w64 (nth (now (c .before .before .before .before .before .before .args .x)) (c .before .before .before .before .before .loop .j))
 read c = record { sfits = c .lose-multiple-arg4 .given }
@@ -59,10 +62,16 @@ lose-multiple-requires c κs =
     let h : j < k = omega arith in
     let n = s .pre .1 .0 in
     let m = here l in
-    rw (toZ-ofZ {w = w64} (read c)) ((h, s .pre .0),
-      (losable k x (now (s .args .b)) (s .pre .0) n (s .pre .1 .1 .0) j h (l .loop .inv .1 .0) (m .0),
-        (losable k x (now (s .args .u)) (s .pre .0) n (s .pre .1 .1 .1 .0) j h (l .loop .inv .1 .1 .0) (m .1 .0),
-          gainable k x (now (s .args .v)) (s .pre .0) n (s .pre .1 .1 .1 .1) j h (l .loop .inv .1 .1 .1) (m .1 .1))))
+    rw (toZ-ofZ {w = w64} (read c)) (
+      (h, s .pre .0),
+      (
+        losable k x (now (s .args .b)) (s .pre .0) n (s .pre .1 .1 .0) j h (l .loop .inv .1 .0) (m .0),
+        (
+          losable k x (now (s .args .u)) (s .pre .0) n (s .pre .1 .1 .1 .0) j h (l .loop .inv .1 .1 .0) (m .1 .0),
+          gainable k x (now (s .args .v)) (s .pre .0) n (s .pre .1 .1 .1 .1) j h (l .loop .inv .1 .1 .1) (m .1 .1),
+        ),
+      ),
+    )
 
 add-j : tie.Need-add-j Inv-loop μ-loop
 add-j c = search needs
@@ -82,9 +91,16 @@ loop-again c =
     let n = s .pre .1 .0 in
     let e = toZ-ofZ {w = w64} (read a) in
     let f = c .lose-multiple .ensures in
-    rw add-one (omega arith, (f .0 ∙ ap (λ q. lost k j q (l .loop .b)) e ∙ lost-next k x (now (s .args .b)) (s .pre .0) n (s .pre .1 .1 .0) j h (l .loop .inv .1 .0),
-      (f .1 .0 ∙ ap (λ q. lost k j q (l .loop .u)) e ∙ lost-next k x (now (s .args .u)) (s .pre .0) n (s .pre .1 .1 .1 .0) j h (l .loop .inv .1 .1 .0),
-        f .1 .1 ∙ ap (λ q. map (gainedAt j q k) (l .loop .v)) e ∙ gained-next k x (now (s .args .v)) (s .pre .0) n (s .pre .1 .1 .1 .1) j h (l .loop .inv .1 .1 .1))))
+    rw add-one (
+      omega arith,
+      (
+        f .0 ∙ ap (λ q. lost k j q (l .loop .b)) e ∙ lost-next k x (now (s .args .b)) (s .pre .0) n (s .pre .1 .1 .0) j h (l .loop .inv .1 .0),
+        (
+          f .1 .0 ∙ ap (λ q. lost k j q (l .loop .u)) e ∙ lost-next k x (now (s .args .u)) (s .pre .0) n (s .pre .1 .1 .1 .0) j h (l .loop .inv .1 .1 .0),
+          f .1 .1 ∙ ap (λ q. map (gainedAt j q k) (l .loop .v)) e ∙ gained-next k x (now (s .args .v)) (s .pre .0) n (s .pre .1 .1 .1 .1) j h (l .loop .inv .1 .1 .1),
+        ),
+      ),
+    )
 
 returns : tie.Need-returns Inv-loop μ-loop
 returns c =
@@ -92,10 +108,13 @@ returns c =
     let s = l .before in
     let x = now (s .args .x) in
     let k = s .args .k in
-    let e : l .loop .j ≡ k = search needs in
-    (l .loop .inv .1 .0 ∙ ap (λ j. set (now (s .args .b)) k (left x (now (s .args .b)) k j)) e,
-      (l .loop .inv .1 .1 .0 ∙ ap (λ j. set (now (s .args .u)) k (left x (now (s .args .u)) k j)) e,
-        l .loop .inv .1 .1 .1 ∙ ap (λ j. gainedColumns (take j x) k (now (s .args .v))) e))
+    let e : l .loop .j ≡ k = search needs in (
+      l .loop .inv .1 .0 ∙ ap (λ j. set (now (s .args .b)) k (left x (now (s .args .b)) k j)) e,
+      (
+        l .loop .inv .1 .1 .0 ∙ ap (λ j. set (now (s .args .u)) k (left x (now (s .args .u)) k j)) e,
+        l .loop .inv .1 .1 .1 ∙ ap (λ j. gainedColumns (take j x) k (now (s .args .v))) e,
+      ),
+    )
 
 pub lose-combination-spec : {M : Type 1} → statement M
 lose-combination-spec =

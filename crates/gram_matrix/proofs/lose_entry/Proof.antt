@@ -21,7 +21,7 @@ kept : (c : tie.After-a) → SFits w64 (nth (now (c .before .before .args .a)) (
 kept c = record { sfits = c .a .given }
 
 returns : tie.Need-returns
-returns c =     let s = c .before in
+returns c = let s = c .before in
     let e : s .args .z ≡ pos 0 = sym (toZ-ofZ (s .fits .z)) ∙ ap (toZ w64) (c .if1 .taken) in
     sym (ap (λ z. set (now (s .args .a)) (s .args .i) (nth (now (s .args .a)) (s .args .i) -ℤ s .args .q *ℤ z)) e ∙ lose-nothing (now (s .args .a)) (s .args .i) (s .args .q))
 

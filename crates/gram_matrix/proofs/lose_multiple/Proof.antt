@@ -20,13 +20,16 @@ use Rattle.gram_matrix.proofs.gain_column.Reads as gain-column-reads
 use Rattle.gram_matrix.proofs.lose.Reads as lose-reads
 
 returns : tie.Need-returns
-returns c =     let s = c .before in
+returns c = let s = c .before in
     let e : s .args .q ≡ pos 0 = sym (toZ-ofZ (s .fits .q)) ∙ ap (toZ w64) (c .if1 .taken) in
     let k = s .args .k in
-    let j = s .args .j in
-    (sym (ap (λ q. lost k j q (now (s .args .b))) e ∙ lost-nothing k j (now (s .args .b)) (omega (arith, s .pre .1 .0 .same))),
-      (sym (ap (λ q. lost k j q (now (s .args .u))) e ∙ lost-nothing k j (now (s .args .u)) (omega (arith, s .pre .1 .1 .0 .same))),
-        sym (ap (λ q. map (gainedAt j q k) (now (s .args .v))) e ∙ gained-nothing j k (now (s .args .v)))))
+    let j = s .args .j in (
+      sym (ap (λ q. lost k j q (now (s .args .b))) e ∙ lost-nothing k j (now (s .args .b)) (omega (arith, s .pre .1 .0 .same))),
+      (
+        sym (ap (λ q. lost k j q (now (s .args .u))) e ∙ lost-nothing k j (now (s .args .u)) (omega (arith, s .pre .1 .1 .0 .same))),
+        sym (ap (λ q. map (gainedAt j q k) (now (s .args .v))) e ∙ gained-nothing j k (now (s .args .v))),
+      ),
+    )
 
 mul-vector : tie.Need-mul-vector
 mul-vector c = search needs
@@ -74,10 +77,13 @@ returns-2 c =
     let s = c .before .before .before .before .before .before .before .before .before .before .before in
     let k = s .args .k in
     let j = s .args .j in
-    let e = toZ-ofZ (s .fits .q) in
-    (ap (set (now (s .args .b)) k) (c .before .before .before .before .before .before .lose .ensures ∙ ap (λ q. getD (now (s .args .b)) k [] ⊖ q ⊙ getD (now (s .args .b)) j []) e),
-      (ap (set (now (s .args .u)) k) (c .before .before .lose2 .ensures ∙ ap (λ q. getD (now (s .args .u)) k [] ⊖ q ⊙ getD (now (s .args .u)) j []) e),
-        c .gain-column .ensures ∙ ap (λ q. map (gainedAt j q k) (now (s .args .v))) e))
+    let e = toZ-ofZ (s .fits .q) in (
+      ap (set (now (s .args .b)) k) (c .before .before .before .before .before .before .lose .ensures ∙ ap (λ q. getD (now (s .args .b)) k [] ⊖ q ⊙ getD (now (s .args .b)) j []) e),
+      (
+        ap (set (now (s .args .u)) k) (c .before .before .lose2 .ensures ∙ ap (λ q. getD (now (s .args .u)) k [] ⊖ q ⊙ getD (now (s .args .u)) j []) e),
+        c .gain-column .ensures ∙ ap (λ q. map (gainedAt j q k) (now (s .args .v))) e,
+      ),
+    )
 
 pub lose-multiple-spec : {M : Type 1} → statement M
 lose-multiple-spec =

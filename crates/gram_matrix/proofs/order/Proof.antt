@@ -22,9 +22,14 @@ abbrev μ-loop : tie.MeasureT-loop
 μ-loop g₀ b₀ u₀ v₀ n i₀ g b u v i = i
 
 loop-holds : tie.Need-loop-holds Inv-loop μ-loop
-loop-holds c =     let f = c .pre .1 in
-    (search needs, (f, λ K rows t.
-      subst (λ l. Tied K l (now (c .args .g)) (now (c .args .b)) (now (c .args .u)) (now (c .args .v))) (sym (orderedFrom-begin (c .args .n) rows (omega (arith, tied-length t, f .us, c .pre .0)))) t))
+loop-holds c = let f = c .pre .1 in (
+  search needs,
+  (
+    f,
+    λ K rows t.
+        subst (λ l. Tied K l (now (c .args .g)) (now (c .args .b)) (now (c .args .u)) (now (c .args .v))) (sym (orderedFrom-begin (c .args .n) rows (omega (arith, tied-length t, f .us, c .pre .0)))) t,
+  ),
+)
 
 sub-i : tie.Need-sub-i Inv-loop μ-loop
 sub-i c = search needs
@@ -39,20 +44,25 @@ loop-less : tie.Need-loop-less Inv-loop μ-loop
 loop-less c = search needs
 
 loop-again : tie.Need-loop-again Inv-loop μ-loop
-loop-again c =     let a = c .before .before .before .before .before .before in
+loop-again c = let a = c .before .before .before .before .before .before in
     let s = a .before in
     let n = s .args .n in
     let k = a .loop .i - 1 - 1 in
     let e : a .loop .i - 1 ≡ suc k = search needs in
     let p = c .insert .ensures in
-    let o = c .insert .last in
-    (search needs, (p .0, λ K rows t.
-      let m : n ≤ length rows = omega (arith, tied-length t, s .pre .1 .us, s .pre .0) in
-      subst (λ l. Tied K l (o .0) (o .1 .0) (o .1 .1 .0) (o .1 .1 .1 .0)) (orderedFrom-next k (n - suc k) n rows (omega arith) m)
-      (p .1 K (orderedFrom n (suc k) rows) (subst (λ i. Tied K (orderedFrom n i rows) (a .loop .g) (a .loop .b) (a .loop .u) (a .loop .v)) e (a .loop .inv .1 .1 K rows t)))))
+    let o = c .insert .last in (
+      search needs,
+      (
+        p .0,
+        λ K rows t.
+            let m : n ≤ length rows = omega (arith, tied-length t, s .pre .1 .us, s .pre .0) in
+            subst (λ l. Tied K l (o .0) (o .1 .0) (o .1 .1 .0) (o .1 .1 .1 .0)) (orderedFrom-next k (n - suc k) n rows (omega arith) m)
+            (p .1 K (orderedFrom n (suc k) rows) (subst (λ i. Tied K (orderedFrom n i rows) (a .loop .g) (a .loop .b) (a .loop .u) (a .loop .v)) e (a .loop .inv .1 .1 K rows t))),
+      ),
+    )
 
 returns : tie.Need-returns Inv-loop μ-loop
-returns c =     let a = c .before in
+returns c = let a = c .before in
     let e : a .loop .i - 1 ≡ 0 = search needs in
     (a .loop .inv .1 .0, λ K rows t. subst (λ i. Tied K (orderedFrom (a .before .args .n) i rows) (a .loop .g) (a .loop .b) (a .loop .u) (a .loop .v)) e (a .loop .inv .1 .1 K rows t))
 

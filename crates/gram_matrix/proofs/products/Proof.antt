@@ -34,7 +34,7 @@ element-copy-out-dot : tie.Need-element-copy-out-dot Inv-loop μ-loop
 element-copy-out-dot c = search needs
 
 dot-requires : tie.Need-dot-requires Inv-loop μ-loop
-dot-requires c κs =     let l = c .before .before in
+dot-requires c κs = let l = c .before .before in
     let s = l .before in
     (s .pre .1 .1 .0 (l .loop .j), s .pre .1 .1 .1)
 
@@ -51,13 +51,15 @@ loop-less : tie.Need-loop-less Inv-loop μ-loop
 loop-less c = search needs
 
 loop-again : tie.Need-loop-again Inv-loop μ-loop
-loop-again c =     let l = c .before .before .before in
-    let s = l .before in
-    (search needs, ap₂ (λ r n. set r (l .loop .j) n) (l .loop .inv .1) (toZ-ofZ {w = w64} (record { sfits = c .dot .ok }) ∙ c .dot .ensures)
-    ∙ filled-more (pos 0) 4 (λ w. dot w (s .args .v)) (now (s .args .b)) (l .loop .j) [] (omega (arith, s .pre .0)) (omega (arith, s .pre .0, s .pre .1 .0)))
+loop-again c = let l = c .before .before .before in
+    let s = l .before in (
+      search needs,
+      ap₂ (λ r n. set r (l .loop .j) n) (l .loop .inv .1) (toZ-ofZ {w = w64} (record { sfits = c .dot .ok }) ∙ c .dot .ensures)
+          ∙ filled-more (pos 0) 4 (λ w. dot w (s .args .v)) (now (s .args .b)) (l .loop .j) [] (omega (arith, s .pre .0)) (omega (arith, s .pre .0, s .pre .1 .0)),
+    )
 
 returns : tie.Need-returns Inv-loop μ-loop
-returns c =     let s = c .before .before in
+returns c = let s = c .before .before in
     let e : c .before .loop .j ≡ s .args .d = search needs in
     c .before .loop .inv .1 ∙ ap (λ j. products (take j (now (s .args .b))) (s .args .v)) e
 

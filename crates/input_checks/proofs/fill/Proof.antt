@@ -7,8 +7,8 @@ use borrow.Author.Needs.{needs}
 use Rattle.lattices.specs.Refusal.{vectorsOf, mostVectors, mostCoordinates}
 use Rattle.lattices.specs.Answer.{table}
 use Rattle.input_checks.specs.Padded.{table-more}
-use Rattle.input_checks.proofs.basis.Statement.{statement}
-use Rattle.input_checks.proofs.basis.Tie as tie
+use Rattle.input_checks.proofs.fill.Statement.{statement}
+use Rattle.input_checks.proofs.fill.Tie as tie
 
 abbrev Inv-loop : tie.InvT-loop
 Inv-loop numbers d m b₀ i₀ b i = (i ≤ d) × (b ≡ table mostVectors mostCoordinates (vectorsOf i m numbers))
@@ -17,7 +17,7 @@ abbrev μ-loop : tie.MeasureT-loop
 μ-loop numbers d m b₀ i₀ b i = d - i
 
 loop-holds : tie.Need-loop-holds Inv-loop μ-loop
-loop-holds c = search needs
+loop-holds c = (search needs, c .pre .1 .1 .1)
 
 -- the next row ends within the numbers
 ends : (c : tie.In-loop Inv-loop μ-loop) → (c .before .loop .i + 1) * c .before .before .args .m ≤ c .before .before .args .d * c .before .before .args .m
@@ -29,11 +29,11 @@ mul-vector c = omega (arith, ends c)
 vector-requires : tie.Need-vector-requires Inv-loop μ-loop
 vector-requires c κs = (search needs, omega (arith, ends c))
 
-mul-b : tie.Need-mul-b Inv-loop μ-loop
-mul-b c = search needs
+mul-t9 : tie.Need-mul-t9 Inv-loop μ-loop
+mul-t9 c = search needs
 
-array-set-from-b : tie.Need-array-set-from-b Inv-loop μ-loop
-array-set-from-b c = search needs
+element-set-from-b : tie.Need-element-set-from-b Inv-loop μ-loop
+element-set-from-b c = search needs
 
 add-i : tie.Need-add-i Inv-loop μ-loop
 add-i c = search needs
@@ -53,8 +53,8 @@ returns c =
     let end : c .before .loop .i ≡ a .d = omega arith in
     c .before .loop .inv .1 ∙ ap (λ i. table mostVectors mostCoordinates (vectorsOf i (a .m) (a .numbers .now))) end
 
-pub basis-spec : {M : Type 1} → statement M
-basis-spec =
+pub fill-spec : {M : Type 1} → statement M
+fill-spec =
     tie.close
     (tie.spec
     Inv-loop
@@ -62,8 +62,8 @@ basis-spec =
     loop-holds
     mul-vector
     vector-requires
-    mul-b
-    array-set-from-b
+    mul-t9
+    element-set-from-b
     add-i
     loop-less
     loop-again

@@ -9,13 +9,13 @@ use Rattle.row_operations.specs.Front.{front}
 use Rattle.row_operations.specs.Packing.{blanks, row-packed, rows-packed}
 use Rattle.gram_matrix.specs.Work.{work-packed}
 use borrow.Author.Needs.{needs}
-use Rattle.gram_matrix.proofs.packed.Statement.{statement}
-use Rattle.gram_matrix.proofs.packed.Tie as tie
-use Rattle.gram_matrix.proofs.packed.Reads as reads
-use Rattle.gram_matrix.proofs.packed.Lts as lts
+use Rattle.gram_matrix.proofs.work.packed.Statement.{statement}
+use Rattle.gram_matrix.proofs.work.packed.Tie as tie
+use Rattle.gram_matrix.proofs.work.packed.Reads as reads
+use Rattle.gram_matrix.proofs.work.packed.Lts as lts
 
 abbrev Inv-loop : tie.InvT-loop
-Inv-loop g b u v passes w₀ i₀ w i = 
+Inv-loop g b u v passes w₀ i₀ w i =
     (i ≤ 4)
     × ((w .gram ≡ front i (map tableRow g) (blanks tableRow))
     × ((w .vectors ≡ front i (map vectorRow b) (blanks vectorRow))
@@ -87,14 +87,22 @@ loop-again c =
     let a = c .before .before .before .before .before in
     let f = a .before .pre in
     let i = a .loop .i in
-    let h : i < 4 = search needs in
-    (search needs, (rw add-one (row-packed tableRow (now (a .before .args .g)) i (a .loop .inv .1 .0) (f .gram) h),
-      (rw add-one (row-packed vectorRow (now (a .before .args .b)) i (a .loop .inv .1 .1 .0) (f .vectors) h),
-        (rw add-one (row-packed tableRow (now (a .before .args .u)) i (a .loop .inv .1 .1 .1 .0) (f .us) h),
-          (rw add-one (row-packed tableRow (now (a .before .args .v)) i (a .loop .inv .1 .1 .1 .1 .0) (f .vs) h), a .loop .inv .1 .1 .1 .1 .1)))))
+    let h : i < 4 = search needs in (
+      search needs,
+      (
+        rw add-one (row-packed tableRow (now (a .before .args .g)) i (a .loop .inv .1 .0) (f .gram) h),
+        (
+          rw add-one (row-packed vectorRow (now (a .before .args .b)) i (a .loop .inv .1 .1 .0) (f .vectors) h),
+          (
+            rw add-one (row-packed tableRow (now (a .before .args .u)) i (a .loop .inv .1 .1 .1 .0) (f .us) h),
+            (rw add-one (row-packed tableRow (now (a .before .args .v)) i (a .loop .inv .1 .1 .1 .1 .0) (f .vs) h), a .loop .inv .1 .1 .1 .1 .1),
+          ),
+        ),
+      ),
+    )
 
 returns : tie.Need-returns Inv-loop μ-loop
-returns c =     let s = c .before .before in
+returns c = let s = c .before .before in
     let f = s .pre in
     let l = c .before .loop in
     let e : l .i ≡ 4 = search needs in
