@@ -7,7 +7,7 @@ use native.Mathlib.Decide.{decLt}
 use lib.IntN.{ℤ, pos, _*ℤ_}
 use lib.ListN.{length, getD, take, replicate, length-take, length-replicate, List·getD-eq-default}
 use lib.Seq.{getD-take, take-take}
-use lib.Signed.{_≤ℤ_, _<ℤ_, ltZ-yes}
+use lib.Signed.{_≤ℤ_, ltZ-yes}
 use Rattle.integers.specs.Certificate.{nn-pos}
 use Rattle.integers.specs.Ring.{pos-one-*ℤ}
 use Rattle.integers.specs.ListLaws.{nth-replicate}

@@ -10,9 +10,8 @@ use lib.Seq.{take-take}
 use mir.Syntax.{w64}
 use mir.Val.{SFits}
 use mir.Facts.{toZ-ofZ}
-use Rattle.integers.specs.Order.{≤ℤ-trans}
 use Rattle.integers.specs.Ring.{pos-one-*ℤ}
-use Rattle.integers.specs.Size.{Within, within-le}
+use Rattle.integers.specs.Size.{within-le}
 use Rattle.lattices.specs.Vector.{N}
 use Rattle.lattices.specs.Nearest.{nearest}
 use Rattle.lattices.specs.Answer.{padded}
