@@ -4,7 +4,7 @@ use mathlib.Core.Logic.{_≢_}
 use mathlib.Core.List.{List}
 use Prim.Native.Nat.{ℕ, _≤_}
 use Rattle.catalogue_rules.specs.Catalogue as definition
-use Rattle.catalogue_rules.specs.Catalogue.{Outcome, refused, accepted}
+use Rattle.catalogue_rules.specs.Catalogue.{Outcome, refused, accepted, mostEntries}
 use Rattle.catalogue_rules.specs.Read.{read, checked}
 use Rattle.catalogue_rules.specs.Form.{WellFormed}
 use Rattle.catalogue_rules.specs.Output.{untouched, filledWith, lentRows, output}
@@ -43,8 +43,8 @@ module _ (c : Catalogue) (r : WasRead c) where
   back = entries-back ps (form .entered .few) (form .entered .fits)
 
   module _ {f : Catalogue} (is : f ≡ foldedOf c) where
-    pub few-folded : f .count ≤ 256
-    few-folded = subst (λ f. f .count ≤ 256) (sym is) (form .entered .few)
+    pub few-folded : f .count ≤ mostEntries
+    few-folded = subst (λ f. f .count ≤ mostEntries) (sym is) (form .entered .few)
 
     pub formed-folded : WellFormed (entriesIn f)
     formed-folded = subst WellFormed (sym (ap entriesIn is ∙ back)) form

@@ -48,8 +48,6 @@ pub fn lookup(bytes: &[u8], number: u32) -> Found
             standing: 0,
         };
     }
-    let list = catalogue_standing::reduced_entry::reduce_all(c);
-    let standing = catalogue_standing::standing_places::closed(list, c.count);
     let numbers = catalogue_records::numbers(c);
     let k = catalogue_standing::standing_places::place_of(&numbers, c.count, number);
     if k == c.count {
@@ -59,7 +57,7 @@ pub fn lookup(bytes: &[u8], number: u32) -> Found
             standing: 0,
         };
     }
-    let s = standing[k];
+    let s = catalogue_standing::standing_entry::standing_place(c, k);
     Found {
         refusal: 0,
         place: 0,

@@ -14,7 +14,7 @@ use lib.Seq.{take-suc, take-all}
 use borrow.Author.Tests.{eq-eqb, ne-eqb}
 use Rattle.integers.specs.AllLaws.{map-append}
 use Rattle.catalogue_rules.specs.Catalogue as definition
-use Rattle.catalogue_rules.specs.Catalogue.{See, coordinates, seeNumber}
+use Rattle.catalogue_rules.specs.Catalogue.{See, coordinates, seeNumber, mostEntries, mostNumbers}
 use Rattle.catalogue_rules.specs.Form.{WellFormed}
 use Rattle.fold_rules.specs.Fold.{standing, Stood, stoodOf, closedList, stands, standingIn, followed, printed, printedIn}
 use Rattle.fold_rules.specs.Laws.SameLattice.{Sound}
@@ -92,7 +92,7 @@ pub record Folds (es : List definition.Entry) (k n : ℕ) (entries : List Entry)
   pub count : n ≡ length (prints es k)
   pub array : entries ≡ stored (prints es k)
 
-pub folds-none : (es : List definition.Entry) → Folds es 0 0 (replicate 256 noEntry)
+pub folds-none : (es : List definition.Entry) → Folds es 0 0 (replicate mostEntries noEntry)
 folds-none es = record { few = omega arith; count = refl; array = refl }
 
 module _ (es : List definition.Entry) (o : definition.Entry) (w : WellFormed es) {list : List ReducedEntry} {places : List ℕ} (held : Held es o list places) {k n : ℕ} {entries : List Entry}
@@ -108,18 +108,18 @@ module _ (es : List definition.Entry) (o : definition.Entry) (w : WellFormed es)
       let more = sym (prints-yes es o w held k here h) in
       let ps = prints es k in
       let long : n ≡ length (map entryOf ps) = p .count ∙ sym (length-map ps entryOf) in
-      let room : length (map entryOf ps) < 256 = omega (arith, long, p .few, here, w .entered .few) in
+      let room : length (map entryOf ps) < mostEntries = omega (arith, long, p .few, here, w .entered .few) in
       record {
         few = omega (arith, p .few);
         count = omega (arith, p .count, length-append ps (f ∷ [])) ∙ ap length more;
         array = ap₂ (λ l m. set l m q) (p .array) long ∙ ap (set (stored ps) (length (map entryOf ps))) is
-            ∙ filled-next noEntry 256 (map entryOf ps) (entryOf f) room ∙ ap (filled noEntry 256) (map-snoc entryOf ps f) ∙ ap stored more;
+            ∙ filled-next noEntry mostEntries (map entryOf ps) (entryOf f) room ∙ ap (filled noEntry mostEntries) (map-snoc entryOf ps f) ∙ ap stored more;
       }
 
 -- ---- an entry as the code prints it
 module _ (es : List definition.Entry) (e : Entry) (s : Sound (entryIn e)) (own : standing es (entryIn e) .head .number ≡ e .number) where
   made : List ℤ → Option See → Entry
-  made l o = record { number = e .number; d = e .d; m = e .m; place = e .place; sees = sees o; see = seeNumber o; at = seePlace o; coordinates = filled (pos 0) 16 l }
+  made l o = record { number = e .number; d = e .d; m = e .m; place = e .place; sees = sees o; see = seeNumber o; at = seePlace o; coordinates = filled (pos 0) mostNumbers l }
 
   pub printed-is : {k : ReducedEntry} {w : Way} → k ≡ reducedEntry (entryIn e) → w ≡ wayOf (followed (closedList es) (e .number) (entryIn e .see))
       → printedAs e k w ≡ entryOf (printed (closedList es) (stoodOf es (entryIn e)))

@@ -9,7 +9,7 @@ use lib.Dec.{eqb}
 use lib.IntN.{pos}
 use lib.ListN.{length, getD, take}
 use Rattle.catalogue_rules.specs.Catalogue as definition
-use Rattle.catalogue_rules.specs.Catalogue.{See, coordinates, seeNumber}
+use Rattle.catalogue_rules.specs.Catalogue.{See, coordinates, seeNumber, mostNumbers}
 use Rattle.catalogue_rules.specs.Form.{WellFormed}
 use Rattle.fold_rules.specs.Fold.{closedList, lookup, led, followed}
 use Rattle.fold_rules.specs.Laws.Lookup.{led-own, led-other}
@@ -38,7 +38,7 @@ printedAs e k w = record {
   sees = w .sees;
   see = w .number;
   at = w .at;
-  coordinates = filled (pos 0) 16 (coordinates (map (take (k .m)) (basisIn k)));
+  coordinates = filled (pos 0) mostNumbers (coordinates (map (take (k .m)) (basisIn k)));
 }
 
 -- r is the way of e's see word in every list of entries that the numbers and places are of
@@ -60,7 +60,7 @@ module _ (e : Entry) (own : ℕ) (numbers places : List ℕ) (count : ℕ) where
     pub word-lost : k ≡ count → Led e own numbers places count (wayOf none)
     word-lost h = record {
       leads = λ es o list w held named n.
-          ap wayOf (sym (goes es (lookup-lost es o w held named (e .see) (subst (λ n. First (λ k. eqb (getD numbers k 0) (e .see)) n k) (sym n) first) (h ∙ sym n))));
+          ap wayOf (sym (goes es (lookup-lost es o w named (e .see) (subst (λ n. First (λ k. eqb (getD numbers k 0) (e .see)) n k) (sym n) first) (h ∙ sym n))));
     }
 
     abbrev there : ℕ
@@ -69,11 +69,11 @@ module _ (e : Entry) (own : ℕ) (numbers places : List ℕ) (count : ℕ) where
     pub word-own : k < count → there ≡ own → Led e own numbers places count (wayOf none)
     word-own h q = record {
       leads = λ es o list w held named n.
-          ap wayOf (sym (goes es (lookup-found es o w held named (e .see) (subst (λ n. First (λ k. eqb (getD numbers k 0) (e .see)) n k) (sym n) first) (subst (λ n. k < n) (sym n) h)) ∙ led-own own _ there q));
+          ap wayOf (sym (goes es (lookup-found es o w named (e .see) (subst (λ n. First (λ k. eqb (getD numbers k 0) (e .see)) n k) (sym n) first) (subst (λ n. k < n) (sym n) h) held) ∙ led-own own _ there q));
     }
 
     pub word-other : k < count → there ≢ own → Led e own numbers places count (record { sees = true; number = there; at = e .at })
     word-other h q = record {
       leads = λ es o list w held named n.
-          ap wayOf (sym (goes es (lookup-found es o w held named (e .see) (subst (λ n. First (λ k. eqb (getD numbers k 0) (e .see)) n k) (sym n) first) (subst (λ n. k < n) (sym n) h)) ∙ led-other own _ there q));
+          ap wayOf (sym (goes es (lookup-found es o w named (e .see) (subst (λ n. First (λ k. eqb (getD numbers k 0) (e .see)) n k) (sym n) first) (subst (λ n. k < n) (sym n) h) held) ∙ led-other own _ there q));
     }

@@ -8,21 +8,19 @@ use lib.IntN.{ℤ, pos}
 use lib.ListN.{length, getD, set, take, length-append, length-set}
 use lib.Seq.{sets, length-sets, append-snoc, take-suc, length-take-le}
 use Rattle.lattices.specs.Vector.{Vec}
-use Rattle.lattices.specs.Greedy.{vectors}
 use Rattle.lattices.specs.Laws.Refusal.{one-to}
 use Rattle.lattices.specs.Answer.{padded, table}
 use Rattle.lattices.specs.Laws.Answer.{length-padded, take-padded}
 use Rattle.greedy_reduction.specs.Start.{Coordinates}
-use Rattle.engine.specs.Laws.Finish.{R}
-use Rattle.catalogue_rules.specs.Catalogue.{Entry, coordinates, inputOf}
+use Rattle.catalogue_rules.specs.Catalogue.{Entry, coordinates}
 use Rattle.catalogue_rules.specs.Laws.RoundTrip.{coordinates-snoc}
-use Rattle.catalogue_rules.specs.Laws.EntriesAccepted.{is-basis}
 use Rattle.fold_rules.specs.Fold.{reducedOf}
 use Rattle.fold_rules.specs.Laws.SameLattice.{Sound, entry-full}
 use Rattle.integers.specs.Filled.{filled}
 use Rattle.integers.specs.FilledLaws.{filled-next, map-snoc}
 use Rattle.catalogue_standing.specs.declared.reduced_entry.ReducedEntry.{ReducedEntry}
 use Rattle.catalogue_standing.specs.ReducedEntry.{reducedEntry, rowsIn, basisIn, basis-are, rows-table, length-table}
+use Rattle.lattices.specs.Refusal.{mostVectors, mostCoordinates}
 
 sets-snoc : (out : List ℤ) (n : ℕ) (l : List ℤ) (x : ℤ) → set (sets out n l) (n + length l) x ≡ sets out n (l ++ (x ∷ []))
 sets-snoc out n [] x = ap (λ k. set out k x) (omega arith)
@@ -48,9 +46,9 @@ put-filled z n l (x ∷ v) h =
 -- ---- what is kept: rows of four numbers
 
 pub record Full (k : ReducedEntry) : Type 0 where
-  pub few : k .d ≤ 4
-  pub narrow : k .m ≤ 4
-  pub rows : (i : ℕ) → i < k .d → length (getD (rowsIn k) i []) ≡ 4
+  pub few : k .d ≤ mostVectors
+  pub narrow : k .m ≤ mostCoordinates
+  pub rows : (i : ℕ) → i < k .d → length (getD (rowsIn k) i []) ≡ mostCoordinates
   pub count : k .d ≤ length (rowsIn k)
 
 -- the first i rows, cut to m numbers
@@ -74,12 +72,12 @@ module _ (m : ℕ) (rows : List Vec) where
       ∙ omega (arith, length-cut i (omega arith) (λ j l. w j (omega arith)), length-take-le m (getD rows i []) (w i (omega arith)))
 
 -- of an entry: its reduced vectors
-back : (m : ℕ) → m ≤ 4 → (vs : List Vec) → Coordinates m vs → map (take m) (map (padded 4) vs) ≡ vs
+back : (m : ℕ) → m ≤ mostCoordinates → (vs : List Vec) → Coordinates m vs → map (take m) (map (padded mostCoordinates) vs) ≡ vs
 back m h [] c = refl
-back m h (v ∷ vs) c = ap₂ _∷_ (take-padded m 4 v (c .0) h) (back m h vs (c .1))
+back m h (v ∷ vs) c = ap₂ _∷_ (take-padded m mostCoordinates v (c .0) h) (back m h vs (c .1))
 
 pub kept-vectors : (e : Entry) → Sound e → map (take (e .head .m)) (basisIn (reducedEntry e)) ≡ reducedOf e
-kept-vectors e s = ap (map (take (e .head .m))) (basis-are e s) ∙ back (e .head .m) (one-to 4 (e .head .m) (s .fits .head .m) .1) (reducedOf e) (entry-full e s)
+kept-vectors e s = ap (map (take (e .head .m))) (basis-are e s) ∙ back (e .head .m) (one-to mostCoordinates (e .head .m) (s .fits .head .m) .1) (reducedOf e) (entry-full e s)
 
 -- and its rows are full
 length-row : (h w : ℕ) (rows : List Vec) (i : ℕ) → i < h → length (getD (table h w rows) i []) ≡ w
@@ -91,12 +89,12 @@ length-row (suc h) w (r ∷ rows) (suc i) l = length-row h w rows i (omega arith
 
 pub kept-full : (e : Entry) → Sound e → Full (reducedEntry e)
 kept-full e s =
-    let few : e .head .d ≤ 4 = one-to 4 (e .head .d) (s .fits .head .d) .1 in
-    let vs = vectors (R (inputOf e) (is-basis e (s .fits) (s .independent))) in
+    let few : e .head .d ≤ mostVectors = one-to mostVectors (e .head .d) (s .fits .head .d) .1 in
+    let vs = reducedOf e in
     let same = rows-table e s in
     record {
       few = few;
-      narrow = one-to 4 (e .head .m) (s .fits .head .m) .1;
-      rows = λ i h. ap (λ l. length (getD l i [])) same ∙ length-row 4 4 vs i (omega arith);
-      count = omega (arith, ap length same ∙ length-table 4 4 vs);
+      narrow = one-to mostCoordinates (e .head .m) (s .fits .head .m) .1;
+      rows = λ i h. ap (λ l. length (getD l i [])) same ∙ length-row mostVectors mostCoordinates vs i (omega arith);
+      count = omega (arith, ap length same ∙ length-table mostVectors mostCoordinates vs);
     }

@@ -12,7 +12,7 @@ pub mod printing;
 // Of a catalogue that was read; the list of standing entries is closed before any see word is led.
 pub fn folded(
     c: catalogue_records::Catalogue,
-    list: [ReducedEntry; 256],
+    list: [ReducedEntry; catalogue_records::Catalogue::MOST_ENTRIES],
     standing: &[usize],
 ) -> catalogue_records::Catalogue
     requires { ⌜ WasRead c ⌝ }

@@ -5,20 +5,22 @@ ghost use mathlib.Core.List.{map};
 ghost use Prim.Native.Nat.{ℕ, _+_, _≤_, _<_};
 ghost use lib.IntN.{pos};
 ghost use lib.ListN.{length, getD, take};
-ghost use Rattle.catalogue_rules.specs.Catalogue.{coordinates};
+ghost use Rattle.catalogue_rules.specs.Catalogue.{coordinates, mostEntries, mostNumbers};
 ghost use Rattle.integers.specs.Filled.{filled};
+ghost use Rattle.lattices.specs.Refusal.{mostCoordinates};
 ghost use Rattle.catalogue_standing.specs.ReducedEntry.{basisIn};
 ghost use lib.Seq.{sets};
 ghost use Rattle.catalogue_fold.specs.Spread.{Full};
 ghost use Rattle.catalogue_fold.specs.Printing.{Led, printedAs};
+use catalogue_records::NUMBERS;
 use catalogue_standing::reduced_entry::ReducedEntry;
 use catalogue_standing::standing_places::place_of;
 
 // The first m coordinates of a vector, from place n on.
-fn put_row(out: &mut [i64], n: usize, v: [i64; 4], m: usize)
-    requires { ⌜ m ≤ 4 ⌝ }
+fn put_row(out: &mut [i64], n: usize, v: row_operations::Vector, m: usize)
+    requires { ⌜ m ≤ mostCoordinates ⌝ }
     requires { ⌜ n + m ≤ length (now out) ⌝ }
-    requires { ⌜ length (now out) ≤ 16 ⌝ }
+    requires { ⌜ length (now out) ≤ mostNumbers ⌝ }
     ensures { λ _. ⌜ now (out .exit) ≡ sets (now (out .entry)) n (take m v) ⌝ }
 {
     for j in 0..m {
@@ -27,13 +29,13 @@ fn put_row(out: &mut [i64], n: usize, v: [i64; 4], m: usize)
 }
 
 // The coordinates of the reduced vectors, vector by vector, then zeros.
-fn spread(k: ReducedEntry) -> [i64; 16]
+fn spread(k: ReducedEntry) -> [i64; NUMBERS]
     requires { ⌜ Full k ⌝ }
-    ensures { λ r. ⌜ r ≡ filled (pos 0) 16 (coordinates (map (take (k .m)) (basisIn k))) ⌝ }
+    ensures { λ r. ⌜ r ≡ filled (pos 0) mostNumbers (coordinates (map (take (k .m)) (basisIn k))) ⌝ }
 {
     let of_k = k.vectors;
     let rows = row_operations::vectors_of(of_k);
-    let mut out = [0i64; 16];
+    let mut out = [0i64; NUMBERS];
     for i in 0..k.d {
         let v = rows[i];
         put_row(&mut out, i * k.m, v, k.m);
@@ -68,7 +70,7 @@ pub fn way_of(
     count: usize,
 ) -> Way
     requires { ⌜ (count ≤ length (now numbers)) × (count ≤ length (now standing)) ⌝ }
-    requires { ⌜ count ≤ 256 ⌝ }
+    requires { ⌜ count ≤ mostEntries ⌝ }
     requires { ⌜ ((k : ℕ) → k < count → getD (now standing) k 0 ≤ k) ⌝ }
     ensures { λ r. ⌜ Led e own (now (numbers .entry)) (now (standing .entry)) count r ⌝ }
 {

@@ -7,6 +7,7 @@ pub mod Readings
 pub mod Turns
 pub mod States
 pub mod Room
+pub mod Cells
 pub mod Store
 pub mod Progress
 pub mod Ended

@@ -1,23 +1,17 @@
 -- An entry while it is read, as the code stores it: what each operation does to the stored fields.
 use mathlib.Core.Bool.{Bool}
+use mathlib.Core.List.{List}
+use mathlib.Core.Option.{Option, none, some}
 use Prim.Native.Nat.{ℕ, _+_}
-use lib.IntN.{ℤ, pos}
-use lib.ListN.{set, replicate}
+use lib.IntN.{ℤ, pos, _+ℤ_, _*ℤ_}
+use Rattle.catalogue_rules.specs.Word.{Word, head, coordinate, see, end, other}
+use Rattle.catalogue_rules.specs.Catalogue.{See, seeNumber}
 use Rattle.catalogue_records.specs.declared.Entry.{Entry}
+use Rattle.catalogue_records.specs.Stored.{sees, seePlace}
 use Rattle.catalogue_reader.specs.declared.parts.Part.{Part}
 
 abbrev pub started : ℕ → ℕ → ℕ → ℕ → Part
-started number d m place = record {
-  number = number;
-  d = d;
-  m = m;
-  place = place;
-  row = 0;
-  column = 0;
-  vector = replicate 4 (pos 0);
-  filled = 0;
-  coordinates = replicate 16 (pos 0);
-}
+started number d m place = record { number = number; d = d; m = m; place = place; row = 0; column = 0; square = pos 0; filled = 0 }
 
 abbrev pub noPart : Part
 noPart = started 0 0 0 0
@@ -30,9 +24,8 @@ putCoordinate p x = record {
   place = p .place;
   row = p .row;
   column = p .column + 1;
-  vector = set (p .vector) (p .column) x;
+  square = p .square +ℤ x *ℤ x;
   filled = p .filled + 1;
-  coordinates = set (p .coordinates) (p .filled) x;
 }
 
 abbrev pub putVector : Part → Part
@@ -43,19 +36,31 @@ putVector p = record {
   place = p .place;
   row = p .row + 1;
   column = 0;
-  vector = replicate 4 (pos 0);
+  square = pos 0;
   filled = p .filled;
-  coordinates = p .coordinates;
 }
 
-abbrev pub whole : Part → Bool → ℕ → ℕ → Entry
-whole p sees see place = record {
+-- with its coordinates; whether it has a see word, its number and where it stands
+abbrev pub whole : Part → List ℤ → Bool → ℕ → ℕ → Entry
+whole p cs t n i = record {
   number = p .number;
   d = p .d;
   m = p .m;
   place = p .place;
-  sees = sees;
-  see = see;
-  at = place;
-  coordinates = p .coordinates;
+  sees = t;
+  see = n;
+  at = i;
+  coordinates = cs;
 }
+
+-- the see word that a word at index i is
+abbrev pub seeAt : ℕ → Word → Option See
+seeAt i (head number d m) = none
+seeAt i (coordinate l) = none
+seeAt i (see number) = some (record { number = number; place = i })
+seeAt i (end count) = none
+seeAt i (other k l) = none
+
+-- the entry that it makes whole
+abbrev pub wholeAt : Part → List ℤ → ℕ → Word → Entry
+wholeAt p cs i w = whole p cs (sees (seeAt i w)) (seeNumber (seeAt i w)) (seePlace (seeAt i w))

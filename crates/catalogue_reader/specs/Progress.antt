@@ -6,12 +6,13 @@ use mathlib.Core.List.{List, []}
 use Prim.Native.Nat.{ℕ, suc, _+_, _≤_, _<_}
 use native.Mathlib.Numerals.{add-one}
 use native.Mathlib.Omega.{arith}
-use lib.ListN.{length, getD, set, drop, drop-of-length-le}
+use lib.IntN.{ℤ, pos}
+use lib.ListN.{length, getD, set, take, drop, length-take, drop-of-length-le}
 use lib.Seq.{drop-cons}
 use borrow.Author.Tests.{lt-ltb, le-ltb}
 use Rattle.catalogue_rules.specs.Word.{Word, decode}
 use Rattle.catalogue_rules.specs.Laws.Word.{InRange, decode-range}
-use Rattle.catalogue_rules.specs.Catalogue.{Outcome, refused}
+use Rattle.catalogue_rules.specs.Catalogue.{Outcome, refused, mostEntries, mostNumbers}
 use Rattle.catalogue_rules.specs.Read.{State, outside, inside, after, closed, Step, next, stop, step, atLast, readWords}
 use Rattle.catalogue_rules.specs.Laws.Moves.{Moves, by-head, by-coordinate, by-see, by-end, Going, moved}
 use Rattle.catalogue_rules.specs.Laws.WellFormed.{Known, known-moves, nothing-read}
@@ -20,7 +21,9 @@ use Rattle.catalogue_reader.specs.declared.reading.Reading.{Reading}
 use Rattle.integers.specs.Filled.{filled}
 use Rattle.catalogue_records.specs.Catalogues.{noCatalogue, stored, holding, catalogueOf}
 use Rattle.catalogue_reader.specs.Readings.{isClosed, stopped, stepRead, ReadyFor}
-use Rattle.catalogue_reader.specs.States.{readingOf, stepOf, numbersOf, step-shown}
+use Rattle.catalogue_reader.specs.Parts.{wholeAt}
+use Rattle.catalogue_reader.specs.States.{readingOf, stepOf, numbersOf, Fine, step-shown}
+use Rattle.catalogue_reader.specs.Cells.{placed, Place, cellsOf, Cells, cells-none, cells-moves}
 use Rattle.catalogue_reader.specs.Room.{Due, due-moves, fine, ready}
 use Rattle.catalogue_reader.specs.Store.{wholeIn, put, store-moves, Space, noted, numbers-moves}
 
@@ -31,20 +34,22 @@ pub record Onward (words : List ℕ) (i : ℕ) (s : State) : Type 0 where
   pub rest : readWords s i (drop i words) ≡ readWords (outside []) 0 words
 
 -- what the code holds after i words shows such a state
-pub record Reached (words : List ℕ) (i : ℕ) (entries : List Entry) (numbers : List ℕ) (s : Reading) : Type 0 where
+pub record Reached (words : List ℕ) (i : ℕ) (entries : List Entry) (numbers : List ℕ) (coordinates : List ℤ) (s : Reading) : Type 0 where
   pub state : State
   pub onward : Onward words i state
   pub shown : s ≡ readingOf state
   pub stores : entries ≡ stored (wholeIn state)
-  pub notes : numbers ≡ filled 0 256 (numbersOf state)
+  pub notes : numbers ≡ filled 0 mostEntries (numbersOf state)
+  pub cells : Cells state coordinates
 
-pub at-start : (words : List ℕ) → Reached words 0 (stored []) (filled 0 256 []) (stopped 0)
-at-start words = record {
+pub at-start : (words : List ℕ) (coordinates : List ℤ) → length coordinates ≡ mostNumbers → Reached words 0 (stored []) (filled 0 mostEntries []) coordinates (stopped 0)
+at-start words coordinates long = record {
   state = outside [];
   onward = record { known = nothing-read; due = tt; rest = refl };
   shown = refl;
   stores = refl;
   notes = refl;
+  cells = cells-none [] coordinates long;
 }
 
 -- ---- a turn
@@ -61,7 +66,13 @@ whole-count (inside es h vs v) = refl
 whole-count (after es h vs) = refl
 whole-count (closed es) = refl
 
-few : (s : State) → Known s → length (wholeIn s) ≤ 256
+filled-count : (s : State) → readingOf s .part .filled ≡ length (cellsOf s)
+filled-count (outside es) = refl
+filled-count (inside es h vs v) = refl
+filled-count (after es h vs) = refl
+filled-count (closed es) = refl
+
+few : (s : State) → Known s → length (wholeIn s) ≤ mostEntries
 few (outside es) k = k .few
 few (inside es h vs v) k = k .0 .entered .few
 few (after es h vs) k = k .0 .entered .few
@@ -74,6 +85,13 @@ head-few (by-coordinate es h vs v l p) k = tt
 head-few (by-see es h vs s) k = tt
 head-few (by-end b) k = tt
 
+-- a coordinate has room
+cell-few : {s t : State} {i : ℕ} {w : Word} → Moves s i w t → Fine s → Place (length (cellsOf s)) w
+cell-few (by-head h b p) k = tt
+cell-few (by-coordinate es h vs v l p) k = k .1
+cell-few (by-see es h vs s) k = tt
+cell-few (by-end b) k = tt
+
 -- the outcome after a step
 abbrev after-step : ℕ → List ℕ → Step → Outcome
 after-step i words r = elim r [ next t ↦ readWords t (suc i) words | stop n ↦ refused n i ]
@@ -85,9 +103,16 @@ pub record Moved (words : List ℕ) (i : ℕ) (s : State) (w : Word) (t : Readin
   pub onward : Onward words (suc i) state
   pub shown : t ≡ readingOf state
 
-module _ (words : List ℕ) (i : ℕ) {entries : List Entry} {numbers : List ℕ} {s : Reading} (r : Reached words i entries numbers s) where
+module _ (words : List ℕ) (i : ℕ) {entries : List Entry} {numbers : List ℕ} {coordinates : List ℤ} {s : Reading} (r : Reached words i entries numbers coordinates s) where
+  -- the array holds all coordinates of the entry being read
+  cells-count : s .part .filled ≡ length (cellsOf (r .state))
+  cells-count = ap (λ x. x .part .filled) (r .shown) ∙ filled-count (r .state)
+
+  pub cells-room : (s .part .filled ≤ mostNumbers) × (length coordinates ≡ mostNumbers)
+  cells-room = (omega (arith, cells-count, length-take (length (cellsOf (r .state))) coordinates, ap length (r .cells .first), r .cells .long), r .cells .long)
+
   pub reached-ready : ReadyFor numbers s
-  reached-ready = subst (λ l. ReadyFor l s) (sym (r .notes)) (subst (ReadyFor (filled 0 256 (numbersOf (r .state)))) (sym (r .shown)) (ready (r .state) (r .onward .known) (r .onward .due)))
+  reached-ready = subst (λ l. ReadyFor l s) (sym (r .notes)) (subst (ReadyFor (filled 0 mostEntries (numbersOf (r .state)))) (sym (r .shown)) (ready (r .state) (r .onward .known) (r .onward .due)))
 
   module _ (here : i < length words) {t : Reading} {w : Word} (word : w ≡ decode (getD words i 0)) (read : t ≡ stepRead numbers s i w) where
     turned : t ≡ stepOf (step (r .state) i w)
@@ -117,29 +142,37 @@ module _ (words : List ℕ) (i : ℕ) {entries : List Entry} {numbers : List ℕ
         go (stop n) e o m = absurd (m (sym (ap (λ t. t .refusal) e) ∙ goes))
 
     -- what the turn has stored and noted
-    pub keeps : (goes : t .refusal ≡ 0) {l : List Entry} {ns : List ℕ} → l ≡ put entries s t → ns ≡ noted numbers (t .count) w → Reached words (i + 1) l ns t
-    keeps goes {l} {ns} e f =
+    pub keeps : (goes : t .refusal ≡ 0) {l : List Entry} {ns : List ℕ} {cs : List ℤ} → l ≡ put entries s t coordinates i w → ns ≡ noted numbers (t .count) w → cs ≡ placed coordinates (s .part .filled) w
+        → Reached words (i + 1) l ns cs t
+    keeps goes {l} {ns} {cs} e f g =
         let m = moves-on goes in
-        subst (λ k. Reached words k l ns t) (sym (add-one i)) (record {
+        let k = fine (r .state) (r .onward .known) (r .onward .due) in
+        subst (λ n. Reached words n l ns cs t) (sym (add-one i)) (record {
           state = m .state;
           onward = m .onward;
           shown = m .shown;
           stores =
               e
-              ∙ ap₂ (λ x y. put entries x y) (r .shown) (m .shown)
-              ∙ ap (λ l. put l (readingOf (r .state)) (readingOf (m .state))) (r .stores)
-              ∙ store-moves (m .moves) (fine (r .state) (r .onward .known) (r .onward .due));
+              ∙ ap₂ (λ x y. put entries x y coordinates i w) (r .shown) (m .shown)
+              ∙ ap (λ l. put l (readingOf (r .state)) (readingOf (m .state)) coordinates i w) (r .stores)
+              ∙ store-moves (m .moves) k (r .cells);
           notes =
               f
               ∙ ap₂ (λ l n. noted l n w) (r .notes) (ap (λ x. x .count) (m .shown) ∙ whole-count (m .state))
               ∙ numbers-moves (m .moves);
+          cells = subst (Cells (m .state)) (sym (g ∙ ap (λ n. placed coordinates n w) cells-count)) (cells-moves (m .moves) k (r .cells));
         })
 
     -- there is room for one entry more, and for a head's number
-    pub counted : t .refusal ≡ 0 → t .count ≤ 256
+    pub counted : t .refusal ≡ 0 → t .count ≤ mostEntries
     counted goes =
         let m = moves-on goes in
         omega (arith, ap (λ x. x .count) (m .shown), whole-count (m .state), few (m .state) (m .onward .known))
+
+    pub counted-cell : t .refusal ≡ 0 → Place (s .part .filled) w
+    counted-cell goes =
+        let m = moves-on goes in
+        subst (λ n. Place n w) (sym cells-count) (cell-few (m .moves) (fine (r .state) (r .onward .known) (r .onward .due)))
 
     pub counted-head : t .refusal ≡ 0 → Space (t .count) w
     counted-head goes =
@@ -147,15 +180,19 @@ module _ (words : List ℕ) (i : ℕ) {entries : List Entry} {numbers : List ℕ
         subst (λ n. Space n w) (sym (ap (λ x. x .count) (m .shown) ∙ whole-count (m .state))) (head-few (m .moves) (m .onward .known))
 
 -- what is stored, as the code decides it
-pub stores-one : (l : List Entry) (s t : Reading) → s .count < t .count → set l (s .count) (t .last) ≡ put l s t
-stores-one l s t h = sym (ap (λ b. cond b (set l (s .count) (t .last)) l) (lt-ltb _ _ h))
+module _ (l : List Entry) (s t : Reading) (cs : List ℤ) (i : ℕ) (w : Word) where
+  abbrev new : Entry
+  new = wholeAt (s .part) (filled (pos 0) mostNumbers (take (s .part .filled) cs)) i w
 
-pub stores-none : (l : List Entry) (s t : Reading) → t .count ≤ s .count → l ≡ put l s t
-stores-none l s t h = sym (ap (λ b. cond b (set l (s .count) (t .last)) l) (le-ltb _ _ h))
+  pub stores-one : s .count < t .count → set l (s .count) new ≡ put l s t cs i w
+  stores-one h = sym (ap (λ b. cond b (set l (s .count) new) l) (lt-ltb _ _ h))
+
+  pub stores-none : t .count ≤ s .count → l ≡ put l s t cs i w
+  stores-none h = sym (ap (λ b. cond b (set l (s .count) new) l) (le-ltb _ _ h))
 
 -- ---- the end
 
-module _ (words : List ℕ) (i : ℕ) {entries : List Entry} {numbers : List ℕ} {s : Reading} (r : Reached words i entries numbers s) (over : length words ≤ i) where
+module _ (words : List ℕ) (i : ℕ) {entries : List Entry} {numbers : List ℕ} {coordinates : List ℤ} {s : Reading} (r : Reached words i entries numbers coordinates s) (over : length words ≤ i) where
   last : atLast (r .state) i ≡ readWords (outside []) 0 words
   unfolding readWords
   last = sym (ap (readWords (r .state) i) (drop-of-length-le words over)) ∙ r .onward .rest

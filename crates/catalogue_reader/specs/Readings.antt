@@ -4,37 +4,39 @@ use mathlib.Core.List.{List, [], _∷_}
 use Prim.Native.Nat.{ℕ, _+_, _≤_, _<_}
 use lib.Dec.{leb, ltb, eqb}
 use lib.ListN.{length, take}
+use lib.IntN.{pos}
+use lib.Signed.{ltZ}
 use Rattle.integers.specs.Every.{any}
-use Rattle.lattices.specs.Refusal.{oneTo, tooLong}
+use Rattle.integers.specs.Size.{Within}
+use Rattle.lattices.specs.Refusal.{oneTo, mostSquare, mostVectors, mostCoordinates}
 use Rattle.catalogue_rules.specs.Word.{Word, head, coordinate, see, end, other}
 use Rattle.catalogue_rules.specs.Read.{checked, coordinateOf}
 use Rattle.catalogue_reader.specs.declared.reading.Phase.{Phase}
 use Rattle.catalogue_reader.specs.declared.reading.Phase.the-variants.{Outside, Inside, After, Closed}
-use Rattle.catalogue_records.specs.declared.Entry.{Entry}
 use Rattle.catalogue_reader.specs.declared.parts.Part.{Part}
 use Rattle.catalogue_reader.specs.declared.reading.Reading.{Reading}
-use Rattle.catalogue_records.specs.Stored.{noEntry}
-use Rattle.catalogue_reader.specs.Parts.{noPart, started, putCoordinate, putVector, whole}
+use Rattle.catalogue_reader.specs.Parts.{noPart, started, putCoordinate, putVector}
+use Rattle.catalogue_rules.specs.Catalogue.{mostEntries, mostNumbers}
 
 abbrev pub isNumber : ℕ → ℕ → Bool
 isNumber n k = eqb k n
 
-abbrev pub going : Phase → ℕ → Part → Entry → Reading
-going phase count part last = record { refusal = 0; phase = phase; count = count; part = part; last = last }
+abbrev pub going : Phase → ℕ → Part → Reading
+going phase count part = record { refusal = 0; phase = phase; count = count; part = part }
 
 -- a refusal: all else is empty
 abbrev pub stopped : ℕ → Reading
-stopped n = record { refusal = n; phase = Outside; count = 0; part = noPart; last = noEntry }
+stopped n = record { refusal = n; phase = Outside; count = 0; part = noPart }
 
 abbrev pub headRead : List ℕ → Reading → ℕ → ℕ → ℕ → ℕ → Reading
 headRead numbers s number d m i =
     checked stopped
-    ((leb 256 (s .count), 15)
-    ∷ (not (oneTo 4 d), 1)
-    ∷ (not (oneTo 4 m), 2)
+    ((leb mostEntries (s .count), 15)
+    ∷ (not (oneTo mostVectors d), 1)
+    ∷ (not (oneTo mostCoordinates m), 2)
     ∷ (eqb number 0 || any (isNumber number) (take (s .count) numbers), 11)
     ∷ [])
-    (going Inside (s .count) (started number d m i) (s .last))
+    (going Inside (s .count) (started number d m i))
 
 -- the phase after a whole vector
 abbrev pub vectorPhase : Bool → Phase
@@ -43,23 +45,23 @@ vectorPhase false = Inside
 
 abbrev pub vectorRead : Reading → Part → Reading
 vectorRead s p =
-    checked stopped ((tooLong (p .vector), 4) ∷ [])
-    (going (vectorPhase (eqb (putVector p .row) (putVector p .d))) (s .count) (putVector p) (s .last))
+    checked stopped ((ltZ (pos mostSquare) (p .square), 4) ∷ [])
+    (going (vectorPhase (eqb (putVector p .row) (putVector p .d))) (s .count) (putVector p))
 
 abbrev pub columnRead : Bool → Reading → Part → Reading
 columnRead true s p = vectorRead s p
-columnRead false s p = going Inside (s .count) p (s .last)
+columnRead false s p = going Inside (s .count) p
 
 abbrev pub coordinateRead : Reading → ℕ → Reading
 coordinateRead s l =
     let p = putCoordinate (s .part) (coordinateOf l) in
     checked stopped ((ltb 40000 l, 4) ∷ []) (columnRead (eqb (p .column) (p .m)) s p)
 
-abbrev pub entryRead : Reading → Bool → ℕ → ℕ → Reading
-entryRead s sees number at = going Outside (s .count + 1) noPart (whole (s .part) sees number at)
+abbrev pub entryRead : Reading → Reading
+entryRead s = going Outside (s .count + 1) noPart
 
 abbrev pub endRead : Reading → ℕ → Reading
-endRead s count = checked stopped ((not (eqb count (s .count)), 13) ∷ []) (going Closed (s .count) noPart (s .last))
+endRead s count = checked stopped ((not (eqb count (s .count)), 13) ∷ []) (going Closed (s .count) noPart)
 
 abbrev pub outsideRead : List ℕ → Reading → ℕ → Word → Reading
 outsideRead numbers s i (head number d m) = headRead numbers s number d m i
@@ -76,10 +78,10 @@ insideRead s (end count) = stopped 10
 insideRead s (other k l) = stopped 10
 
 abbrev pub afterRead : List ℕ → Reading → ℕ → Word → Reading
-afterRead numbers s i (head number d m) = headRead numbers (entryRead s false 0 0) number d m i
+afterRead numbers s i (head number d m) = headRead numbers (entryRead s) number d m i
 afterRead numbers s i (coordinate l) = stopped 10
-afterRead numbers s i (see number) = entryRead s true number i
-afterRead numbers s i (end count) = endRead (entryRead s false 0 0) count
+afterRead numbers s i (see number) = entryRead s
+afterRead numbers s i (end count) = endRead (entryRead s) count
 afterRead numbers s i (other k l) = stopped 10
 
 -- the word at index i, by what may come next
@@ -95,8 +97,8 @@ stepRead numbers s i w = phaseRead (s .phase) numbers s i w
 -- there is room for what may come next
 abbrev pub RoomIn : Phase → List ℕ → Reading → Type 0
 RoomIn Outside numbers s = s .count ≤ length numbers
-RoomIn Inside numbers s = (s .part .row < 4) × ((s .part .column < 4) × (s .part .filled < 16))
-RoomIn After numbers s = (s .count < 256) × (s .count < length numbers)
+RoomIn Inside numbers s = (s .part .row < mostVectors) × ((s .part .column < mostCoordinates) × ((s .part .filled < mostNumbers) × Within 4000000000 (s .part .square)))
+RoomIn After numbers s = (s .count < mostEntries) × (s .count < length numbers)
 RoomIn Closed numbers s = Unit {0}
 
 pub record ReadyFor (numbers : List ℕ) (s : Reading) : Type 0 where

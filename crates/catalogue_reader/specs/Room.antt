@@ -14,15 +14,18 @@ use Rattle.lattices.specs.Vector.{Vec}
 use Rattle.lattices.specs.Laws.Refusal.{one-to}
 use Rattle.catalogue_rules.specs.Word.{Word}
 use Rattle.catalogue_rules.specs.Catalogue as definition
-use Rattle.catalogue_rules.specs.Catalogue.{Head, coordinates}
+use Rattle.catalogue_rules.specs.Catalogue.{Head, coordinates, mostEntries, mostNumbers}
 use Rattle.catalogue_rules.specs.Read.{State, outside, inside, after, closed, coordinateOf, withVector, withCoordinate}
 use Rattle.catalogue_rules.specs.Laws.Moves.{Moves, by-head, by-coordinate, by-see, by-end}
 use Rattle.catalogue_rules.specs.Laws.WellFormed.{Known}
 use Rattle.catalogue_rules.specs.Laws.EntriesAccepted.{length-coordinates}
 use Rattle.integers.specs.Filled.{filled}
 use Rattle.integers.specs.FilledLaws.{length-filled}
+use Rattle.integers.specs.Size.{within-le}
+use Rattle.catalogue_reader.specs.Shown.{square-within}
 use Rattle.catalogue_reader.specs.Readings.{ReadyFor}
 use Rattle.catalogue_reader.specs.States.{readingOf, numbersOf, Fine}
+use Rattle.lattices.specs.Refusal.{mostVectors, mostCoordinates}
 
 -- within an entry a vector and a coordinate are still to come
 abbrev pub Due : State → Type 0
@@ -53,29 +56,29 @@ module _ (es : List definition.Entry) (h : Head) (vs : List Vec) (u : Vec) (some
           (rows, omega (arith, columns, n))
 
 pub due-moves : {s t : State} {i : ℕ} {w : Word} → Moves s i w t → Known s → Due s → Due t
-due-moves (by-head h b p) k d = (one-to 4 (h .d) (not-false _ (p .1 .0)) .0, one-to 4 (h .m) (not-false _ (p .1 .1 .0)) .0)
+due-moves (by-head h b p) k d = (one-to mostVectors (h .d) (not-false _ (p .1 .0)) .0, one-to mostCoordinates (h .m) (not-false _ (p .1 .1 .0)) .0)
 due-moves (by-coordinate es h vs v l p) k d =
-    due-coordinate es h vs (v ++ (coordinateOf l ∷ [])) (one-to 4 (h .m) (k .0 .head .m) .0) (d .0) (omega (arith, length-append v (coordinateOf l ∷ []), d .1))
+    due-coordinate es h vs (v ++ (coordinateOf l ∷ [])) (one-to mostCoordinates (h .m) (k .0 .head .m) .0) (d .0) (omega (arith, length-append v (coordinateOf l ∷ []), d .1))
 due-moves (by-see es h vs s) k d = tt
 due-moves (by-end b) k d = tt
 
 -- ---- so there is room
 
-places : (es : List definition.Entry) (h : Head) (vs : List Vec) (v : Vec) → Known (inside es h vs v) → Due (inside es h vs v) → length (coordinates vs ++ v) < 16
+places : (es : List definition.Entry) (h : Head) (vs : List Vec) (v : Vec) → Known (inside es h vs v) → Due (inside es h vs v) → length (coordinates vs ++ v) < mostNumbers
 places es h vs v k d =
-    let dm = one-to 4 (h .d) (k .0 .head .d) .1 in
-    let mm = one-to 4 (h .m) (k .0 .head .m) .1 in
+    let dm = one-to mostVectors (h .d) (k .0 .head .d) .1 in
+    let mm = one-to mostCoordinates (h .m) (k .0 .head .m) .1 in
     let r : length vs ≤ 3 = omega (arith, d .0, dm) in
     omega (arith, length-append (coordinates vs) v, length-coordinates (h .m) vs (k .1), mul-le-mul-right (h .m) r, d .1, mm)
 
 pub fine : (s : State) → Known s → Due s → Fine s
 fine (outside es) k d = k .few
-fine (inside es h vs v) k d = (omega (arith, d .1, one-to 4 (h .m) (k .0 .head .m) .1), places es h vs v k d, k .2)
+fine (inside es h vs v) k d = (omega (arith, d .1, one-to mostCoordinates (h .m) (k .0 .head .m) .1), places es h vs v k d, k .2)
 fine (after es h vs) k d = k .0 .few
 fine (closed es) k d = k .few
 
-pub ready : (s : State) → Known s → Due s → ReadyFor (filled 0 256 (numbersOf s)) (readingOf s)
-ready (outside es) k d = record { room = omega (arith, length-filled 0 256 (numbersOf (outside es)), k .few) }
-ready (inside es h vs v) k d = record { room = (omega (arith, d .0, one-to 4 (h .d) (k .0 .head .d) .1), (omega (arith, d .1, one-to 4 (h .m) (k .0 .head .m) .1), places es h vs v k d)) }
-ready (after es h vs) k d = record { room = (k .0 .few, omega (arith, length-filled 0 256 (numbersOf (after es h vs)), k .0 .few)) }
+pub ready : (s : State) → Known s → Due s → ReadyFor (filled 0 mostEntries (numbersOf s)) (readingOf s)
+ready (outside es) k d = record { room = omega (arith, length-filled 0 mostEntries (numbersOf (outside es)), k .few) }
+ready (inside es h vs v) k d = record { room = (omega (arith, d .0, one-to mostVectors (h .d) (k .0 .head .d) .1), (omega (arith, d .1, one-to mostCoordinates (h .m) (k .0 .head .m) .1), (places es h vs v k d, within-le (omega (arith, d .1, one-to mostCoordinates (h .m) (k .0 .head .m) .1)) (square-within v (k .2))))) }
+ready (after es h vs) k d = record { room = (k .0 .few, omega (arith, length-filled 0 mostEntries (numbersOf (after es h vs)), k .0 .few)) }
 ready (closed es) k d = record { room = tt }

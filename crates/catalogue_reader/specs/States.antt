@@ -9,34 +9,25 @@ use lib.Dec.{leb, ltb, eqb}
 use lib.IntN.{pos, natAbs}
 use lib.ListN.{length, take, length-append}
 use lib.Signed.{ltZ}
-use Rattle.lattices.specs.Vector.{Vec, N}
+use Rattle.lattices.specs.Vector.{Vec, N, dot}
 use Rattle.integers.specs.Every.{any}
-use Rattle.lattices.specs.Refusal.{oneTo, tooLong, mostSize, mostSquare}
-use Rattle.input_checks.specs.Padded.{tooLong-padded}
+use Rattle.lattices.specs.Refusal.{oneTo, mostSize, mostSquare, mostVectors, mostCoordinates}
 use Rattle.catalogue_rules.specs.Word.{Word, head, coordinate, see, end, other}
 use Rattle.catalogue_rules.specs.Catalogue as definition
-use Rattle.catalogue_rules.specs.Catalogue.{Head, See, coordinates, seeNumber}
+use Rattle.catalogue_rules.specs.Catalogue.{Head, See, coordinates, mostEntries, mostNumbers}
 use Rattle.catalogue_rules.specs.Read.{State, outside, inside, after, closed, Step, next, stop, checked, isNumbered, withEntry, headRows, atHead, coordinateOf, withVector, atCoordinate, atEnd, step}
-use Rattle.catalogue_rules.specs.Laws.WellFormed.{any-snoc, load-within}
 use Rattle.catalogue_reader.specs.declared.reading.Phase.{Phase}
 use Rattle.catalogue_reader.specs.declared.reading.Phase.the-variants.{Outside, Inside, After, Closed}
-use Rattle.catalogue_records.specs.declared.Entry.{Entry}
 use Rattle.catalogue_reader.specs.declared.parts.Part.{Part}
 use Rattle.catalogue_reader.specs.declared.reading.Reading.{Reading}
 use Rattle.integers.specs.Filled.{filled}
 use Rattle.integers.specs.FilledLaws.{take-filled, map-snoc, any-map}
-use Rattle.catalogue_records.specs.Stored.{noEntry, sees, seePlace, entryOf}
-use Rattle.catalogue_reader.specs.Parts.{noPart, started, whole}
-use Rattle.catalogue_reader.specs.Shown.{partOf, part-coordinate, part-vector, whole-entry}
+use Rattle.catalogue_reader.specs.Parts.{noPart, started}
+use Rattle.catalogue_reader.specs.Shown.{partOf, part-coordinate, part-vector}
 use Rattle.catalogue_reader.specs.Readings.{isNumber, going, stopped, headRead, vectorPhase, vectorRead, columnRead, coordinateRead, endRead, stepRead}
 
--- the last of some entries, or z
-abbrev pub lastOf : Entry → List definition.Entry → Entry
-lastOf z [] = z
-lastOf z (e ∷ es) = lastOf (entryOf e) es
-
 abbrev pub reading : Phase → List definition.Entry → Part → Reading
-reading phase es p = going phase (length es) p (lastOf noEntry es)
+reading phase es p = going phase (length es) p
 
 abbrev pub readingOf : State → Reading
 readingOf (outside es) = reading Outside es noPart
@@ -60,10 +51,10 @@ numbersOf (closed es) = numbers es
 
 -- what a step relies on
 abbrev pub Fine : State → Type 0
-Fine (outside es) = length es ≤ 256
-Fine (inside es h vs v) = (length v < 4) × (length (coordinates vs ++ v) < 16) × (any (λ x. ltb mostSize (natAbs x)) v ≡ false)
-Fine (after es h vs) = length es < 256
-Fine (closed es) = length es ≤ 256
+Fine (outside es) = length es ≤ mostEntries
+Fine (inside es h vs v) = (length v < mostCoordinates) × (length (coordinates vs ++ v) < mostNumbers) × (any (λ x. ltb mostSize (natAbs x)) v ≡ false)
+Fine (after es h vs) = length es < mostEntries
+Fine (closed es) = length es ≤ mostEntries
 
 -- ---- rows
 
@@ -82,19 +73,20 @@ pub length-numbers : (es : List definition.Entry) → length (numbers es) ≡ le
 length-numbers [] = refl
 length-numbers (e ∷ es) = ap suc (length-numbers es)
 
-used-numbers : (n : ℕ) (es : List definition.Entry) → length es ≤ 256 → any (isNumber n) (take (length es) (filled 0 256 (numbers es))) ≡ any (isNumbered n) es
+used-numbers : (n : ℕ) (es : List definition.Entry) → length es ≤ mostEntries → any (isNumber n) (take (length es) (filled 0 mostEntries (numbers es))) ≡ any (isNumbered n) es
 used-numbers n es h =
-    ap (λ k. any (isNumber n) (take k (filled 0 256 (numbers es)))) (sym (length-numbers es))
-    ∙ ap (any (isNumber n)) (take-filled 0 256 (numbers es) (omega (arith, length-numbers es)))
+    ap (λ k. any (isNumber n) (take k (filled 0 mostEntries (numbers es)))) (sym (length-numbers es))
+    ∙ ap (any (isNumber n)) (take-filled 0 mostEntries (numbers es) (omega (arith, length-numbers es)))
     ∙ any-map (isNumber n) (λ e. e .head .number) es
 
 -- ---- a head and the end, after entries
 
-head-step : (es : List definition.Entry) (f : Phase) (p : Part) (number d m i : ℕ) → length es ≤ 256
-    → headRead (filled 0 256 (numbers es)) (reading f es p) number d m i ≡ stepOf (atHead es (record { number = number; d = d; m = m; place = i }))
+head-step : (es : List definition.Entry) (f : Phase) (p : Part) (number d m i : ℕ) → length es ≤ mostEntries
+    → headRead (filled 0 mostEntries (numbers es)) (reading f es p) number d m i ≡ stepOf (atHead es (record { number = number; d = d; m = m; place = i }))
+unfolding dot
 head-step es f p number d m i h =
-    let rows : Bool → List (Bool × ℕ) = λ t. (leb 256 (length es), 15) ∷ (not (oneTo 4 d), 1) ∷ (not (oneTo 4 m), 2) ∷ (eqb number 0 || t, 11) ∷ [] in
-    ap (λ t. checked stopped (rows t) (going Inside (length es) (started number d m i) (lastOf noEntry es))) (used-numbers number es h)
+    let rows : Bool → List (Bool × ℕ) = λ t. (leb mostEntries (length es), 15) ∷ (not (oneTo mostVectors d), 1) ∷ (not (oneTo mostCoordinates m), 2) ∷ (eqb number 0 || t, 11) ∷ [] in
+    ap (λ t. checked stopped (rows t) (going Inside (length es) (started number d m i))) (used-numbers number es h)
     ∙ step-rows (headRows es (record { number = number; d = d; m = m; place = i })) (inside es (record { number = number; d = d; m = m; place = i }) [] [])
 
 end-step : (es : List definition.Entry) (f : Phase) (p : Part) (count : ℕ) → endRead (reading f es p) count ≡ stepOf (atEnd es count)
@@ -102,49 +94,38 @@ end-step es f p count = step-rows ((not (eqb count (length es)), 13) ∷ []) (cl
 
 -- ---- a whole entry
 
-pub last-snoc : (z : Entry) (es : List definition.Entry) (e : definition.Entry) → entryOf e ≡ lastOf z (es ++ (e ∷ []))
-last-snoc z [] e = refl
-last-snoc z (x ∷ es) e = last-snoc (entryOf x) es e
-
-entry-step : (es : List definition.Entry) (h : Head) (vs : List Vec) (s : Option See)
-    → going Outside (length es + 1) noPart (whole (partOf h vs []) (sees s) (seeNumber s) (seePlace s)) ≡ readingOf (outside (withEntry es h vs s))
-entry-step es h vs s =
-    let e : definition.Entry = record { head = h; vectors = vs; see = s } in
-    ap₂ (λ n l. going Outside n noPart l) (sym (length-append es (e ∷ []))) (whole-entry h vs s ∙ last-snoc noEntry es e)
+entry-step : (es : List definition.Entry) (h : Head) (vs : List Vec) (s : Option See) → going Outside (length es + 1) noPart ≡ readingOf (outside (withEntry es h vs s))
+entry-step es h vs s = ap (λ n. going Outside n noPart) (sym (length-append es (record { head = h; vectors = vs; see = s } ∷ [])))
 
 -- ---- a coordinate
 
 module _ (es : List definition.Entry) (h : Head) (vs : List Vec) where
-  vector-step : (u : Vec) → length u ≤ 4 → any (λ x. ltb mostSize (natAbs x)) u ≡ false
-      → vectorRead (reading Inside es (partOf h vs u)) (partOf h vs u) ≡ stepOf (checked stop ((ltZ (pos mostSquare) (N u), 4) ∷ []) (next (withVector es h (vs ++ (u ∷ [])))))
-  vector-step u short within =
-      let long : tooLong (filled (pos 0) 4 u) ≡ ltZ (pos mostSquare) (N u) = tooLong-padded 4 u short ∙ ap (λ t. t || ltZ (pos mostSquare) (N u)) within in
-      ap₂ (λ t p. checked stopped ((t, 4) ∷ []) (going (vectorPhase (eqb (p .row) (p .d))) (length es) p (lastOf noEntry es))) long (part-vector h vs u)
+  vector-step : (u : Vec) → vectorRead (reading Inside es (partOf h vs u)) (partOf h vs u) ≡ stepOf (checked stop ((ltZ (pos mostSquare) (N u), 4) ∷ []) (next (withVector es h (vs ++ (u ∷ [])))))
+  vector-step u =
+      ap (λ p. checked stopped ((ltZ (pos mostSquare) (N u), 4) ∷ []) (going (vectorPhase (eqb (p .row) (p .d))) (length es) p)) (part-vector h vs u)
       ∙ ap (λ s. checked stopped ((ltZ (pos mostSquare) (N u), 4) ∷ []) s) (go (eqb (length (vs ++ (u ∷ []))) (h .d)))
       ∙ step-rows ((ltZ (pos mostSquare) (N u), 4) ∷ []) (withVector es h (vs ++ (u ∷ [])))
     where
-      go : (t : Bool) → going (vectorPhase t) (length es) (partOf h (vs ++ (u ∷ [])) []) (lastOf noEntry es) ≡ readingOf (elim t [ true ↦ after es h (vs ++ (u ∷ [])) | false ↦ inside es h (vs ++ (u ∷ [])) [] ])
+      go : (t : Bool) → going (vectorPhase t) (length es) (partOf h (vs ++ (u ∷ [])) []) ≡ readingOf (elim t [ true ↦ after es h (vs ++ (u ∷ [])) | false ↦ inside es h (vs ++ (u ∷ [])) [] ])
       go true = refl
       go false = refl
 
-  coordinate-step : (v : Vec) (l : ℕ) → Fine (inside es h vs v) → coordinateRead (readingOf (inside es h vs v)) l ≡ stepOf (atCoordinate es h vs v l)
-  coordinate-step v l fine =
+  coordinate-step : (v : Vec) (l : ℕ) → coordinateRead (readingOf (inside es h vs v)) l ≡ stepOf (atCoordinate es h vs v l)
+  coordinate-step v l =
       let u = v ++ (coordinateOf l ∷ []) in
-      ap (λ p. checked stopped ((ltb 40000 l, 4) ∷ []) (columnRead (eqb (p .column) (p .m)) (readingOf (inside es h vs v)) p)) (part-coordinate h vs v (coordinateOf l) (fine .0) (fine .1))
-      ∙ go (ltb 40000 l) (eqb (length u) (h .m)) refl
+      ap (λ p. checked stopped ((ltb 40000 l, 4) ∷ []) (columnRead (eqb (p .column) (p .m)) (readingOf (inside es h vs v)) p)) (part-coordinate h vs v (coordinateOf l))
+      ∙ go (ltb 40000 l) (eqb (length u) (h .m))
     where
-      go : (a b : Bool) → ltb 40000 l ≡ a
+      go : (a b : Bool)
           → checked stopped ((a, 4) ∷ []) (columnRead b (readingOf (inside es h vs v)) (partOf h vs (v ++ (coordinateOf l ∷ []))))
           ≡ stepOf (checked stop ((a || (b && ltZ (pos mostSquare) (N (v ++ (coordinateOf l ∷ [])))), 4) ∷ []) (next (elim b [ true ↦ withVector es h (vs ++ ((v ++ (coordinateOf l ∷ [])) ∷ [])) | false ↦ inside es h vs (v ++ (coordinateOf l ∷ [])) ])))
-      go true b e = refl
-      go false true e =
-          vector-step (v ++ (coordinateOf l ∷ [])) (omega (arith, length-append v (coordinateOf l ∷ []), fine .0))
-          (any-snoc (λ x. ltb mostSize (natAbs x)) v (coordinateOf l) (fine .2) (load-within l e))
-      go false false e = refl
+      go true b = refl
+      go false true = vector-step (v ++ (coordinateOf l ∷ []))
+      go false false = refl
 
 -- ---- every step
 
-pub step-shown : (s : State) (i : ℕ) (w : Word) → Fine s → stepRead (filled 0 256 (numbersOf s)) (readingOf s) i w ≡ stepOf (step s i w)
+pub step-shown : (s : State) (i : ℕ) (w : Word) → Fine s → stepRead (filled 0 mostEntries (numbersOf s)) (readingOf s) i w ≡ stepOf (step s i w)
 unfolding step
 step-shown (outside es) i (head number d m) fine = head-step es Outside noPart number d m i fine
 step-shown (outside es) i (coordinate l) fine = refl
@@ -152,13 +133,13 @@ step-shown (outside es) i (see number) fine = refl
 step-shown (outside es) i (end count) fine = end-step es Outside noPart count
 step-shown (outside es) i (other k l) fine = refl
 step-shown (inside es h vs v) i (head number d m) fine = refl
-step-shown (inside es h vs v) i (coordinate l) fine = coordinate-step es h vs v l fine
+step-shown (inside es h vs v) i (coordinate l) fine = coordinate-step es h vs v l
 step-shown (inside es h vs v) i (see number) fine = refl
 step-shown (inside es h vs v) i (end count) fine = refl
 step-shown (inside es h vs v) i (other k l) fine = refl
 step-shown (after es h vs) i (head number d m) fine =
     let e : definition.Entry = record { head = h; vectors = vs; see = none } in
-    ap₂ (λ ns s. headRead (filled 0 256 ns) s number d m i) (map-snoc (λ e. e .head .number) es e) (entry-step es h vs none)
+    ap₂ (λ ns s. headRead (filled 0 mostEntries ns) s number d m i) (map-snoc (λ e. e .head .number) es e) (entry-step es h vs none)
     ∙ head-step (withEntry es h vs none) Outside noPart number d m i (omega (arith, length-append es (e ∷ []), fine))
 step-shown (after es h vs) i (coordinate l) fine = refl
 step-shown (after es h vs) i (see number) fine = entry-step es h vs (some (record { number = number; place = i }))

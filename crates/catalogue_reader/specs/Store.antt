@@ -1,26 +1,30 @@
 -- The arrays beside the stored state, entries and numbers of heads, and how a step that goes on changes them.
 use mathlib.Core.Path.{_≡_, refl, sym, ap, ap₂, _∙_}
 use mathlib.Core.Bool.{Bool, true, false, cond}
-use mathlib.Core.List.{List, [], _∷_, _++_, map}
-use mathlib.Core.Option.{none, some}
+use mathlib.Core.List.{List, [], _∷_, _++_, map, append-nil}
+use mathlib.Core.Option.{Option, none, some}
 use Prim.Native.Nat.{ℕ, _<_}
 use native.Mathlib.Omega.{arith}
 use lib.Dec.{ltb, eqb}
-use lib.ListN.{length, set, length-append, length-map}
+use lib.IntN.{ℤ, pos}
+use lib.ListN.{length, set, take, length-append, length-map}
 use borrow.Author.Tests.{lt-ltb, le-ltb, leb-false}
 use Rattle.lattices.specs.Vector.{Vec}
 use Rattle.catalogue_rules.specs.Word.{Word, head, coordinate, see, end, other}
 use Rattle.catalogue_rules.specs.Catalogue as definition
-use Rattle.catalogue_rules.specs.Catalogue.{Head}
+use Rattle.catalogue_rules.specs.Catalogue.{Head, See, coordinates, seeNumber, mostEntries, mostNumbers}
 use Rattle.catalogue_rules.specs.Read.{State, outside, inside, after, closed, coordinateOf, withVector, withCoordinate}
 use Rattle.catalogue_rules.specs.Laws.Moves.{Moves, by-head, by-coordinate, by-see, by-end, Between, between, unreferred}
 use Rattle.catalogue_records.specs.declared.Entry.{Entry}
 use Rattle.catalogue_reader.specs.declared.reading.Reading.{Reading}
 use Rattle.integers.specs.Filled.{filled}
 use Rattle.integers.specs.FilledLaws.{filled-next, map-snoc}
-use Rattle.catalogue_records.specs.Stored.{noEntry, entryOf}
+use Rattle.catalogue_records.specs.Stored.{noEntry, sees, seePlace, entryOf}
 use Rattle.catalogue_records.specs.Catalogues.{stored}
-use Rattle.catalogue_reader.specs.States.{readingOf, lastOf, last-snoc, numbers, numbersOf, length-numbers, Fine}
+use Rattle.catalogue_reader.specs.Parts.{whole, wholeAt}
+use Rattle.catalogue_reader.specs.Shown.{partOf, whole-entry}
+use Rattle.catalogue_reader.specs.States.{readingOf, numbers, numbersOf, length-numbers, Fine}
+use Rattle.catalogue_reader.specs.Cells.{Cells}
 
 -- the whole entries of a state
 abbrev pub wholeIn : State → List definition.Entry
@@ -29,49 +33,56 @@ wholeIn (inside es h vs v) = es
 wholeIn (after es h vs) = es
 wholeIn (closed es) = es
 
--- what a step stores: the entry that its word made whole, if it did
-abbrev pub put : List Entry → Reading → Reading → List Entry
-put l s t = cond (ltb (s .count) (t .count)) (set l (s .count) (t .last)) l
+-- what a step stores: the entry that its word at index i made whole, if it did; l holds its coordinates
+abbrev pub put : List Entry → Reading → Reading → List ℤ → ℕ → Word → List Entry
+put es s t l i w = cond (ltb (s .count) (t .count)) (set es (s .count) (wholeAt (s .part) (filled (pos 0) mostNumbers (take (s .part .filled) l)) i w)) es
 
 -- no entry more, or one
-module _ (es : List definition.Entry) where
-  same : cond (ltb (length es) (length es)) (set (stored es) (length es) (lastOf noEntry es)) (stored es) ≡ stored es
-  same = ap (λ t. cond t (set (stored es) (length es) (lastOf noEntry es)) (stored es)) (le-ltb (length es) (length es) (omega arith))
+same : (es : List definition.Entry) (x : Entry) → cond (ltb (length es) (length es)) (set (stored es) (length es) x) (stored es) ≡ stored es
+same es x = ap (λ t. cond t (set (stored es) (length es) x) (stored es)) (le-ltb (length es) (length es) (omega arith))
 
-  more : (e : definition.Entry) → length es < 256
-      → cond (ltb (length es) (length (es ++ (e ∷ [])))) (set (stored es) (length es) (lastOf noEntry (es ++ (e ∷ [])))) (stored es) ≡ stored (es ++ (e ∷ []))
-  more e h =
-      ap (λ t. cond t (set (stored es) (length es) (lastOf noEntry (es ++ (e ∷ [])))) (stored es)) (lt-ltb (length es) (length (es ++ (e ∷ []))) (omega (arith, length-append es (e ∷ []))))
-      ∙ ap₂ (λ n x. set (stored es) n x) (sym (length-map es entryOf)) (sym (last-snoc noEntry es e))
-      ∙ filled-next noEntry 256 (map entryOf es) (entryOf e) (omega (arith, length-map es entryOf))
-      ∙ ap (filled noEntry 256) (map-snoc entryOf es e)
+module _ (es : List definition.Entry) (h : Head) (vs : List Vec) (s : Option See) (l : List ℤ) (c : Cells (after es h vs) l) (few : length es < mostEntries) where
+  abbrev new : definition.Entry
+  new = record { head = h; vectors = vs; see = s }
 
-module _ (es : List definition.Entry) (h : Head) (vs : List Vec) (v u : Vec) where
-  within-vector : put (stored es) (readingOf (inside es h vs v)) (readingOf (withVector es h (vs ++ (u ∷ [])))) ≡ stored (wholeIn (withVector es h (vs ++ (u ∷ []))))
+  entry-is : whole (partOf h vs []) (filled (pos 0) mostNumbers (take (length (coordinates vs ++ [])) l)) (sees s) (seeNumber s) (seePlace s) ≡ entryOf new
+  entry-is = ap (λ k. whole (partOf h vs []) (filled (pos 0) mostNumbers k) (sees s) (seeNumber s) (seePlace s)) (c .first ∙ append-nil (coordinates vs)) ∙ whole-entry h vs s
+
+  more : cond (ltb (length es) (length (es ++ (new ∷ []))))
+      (set (stored es) (length es) (whole (partOf h vs []) (filled (pos 0) mostNumbers (take (length (coordinates vs ++ [])) l)) (sees s) (seeNumber s) (seePlace s))) (stored es)
+      ≡ stored (es ++ (new ∷ []))
+  more =
+      ap₂ (λ t x. cond t (set (stored es) (length es) x) (stored es)) (lt-ltb (length es) (length (es ++ (new ∷ []))) (omega (arith, length-append es (new ∷ [])))) entry-is
+      ∙ ap (λ n. set (stored es) n (entryOf new)) (sym (length-map es entryOf))
+      ∙ filled-next noEntry mostEntries (map entryOf es) (entryOf new) (omega (arith, length-map es entryOf))
+      ∙ ap (filled noEntry mostEntries) (map-snoc entryOf es new)
+
+module _ (es : List definition.Entry) (h : Head) (vs : List Vec) (v u : Vec) (l : List ℤ) (i : ℕ) (w : Word) where
+  within-vector : put (stored es) (readingOf (inside es h vs v)) (readingOf (withVector es h (vs ++ (u ∷ [])))) l i w ≡ stored (wholeIn (withVector es h (vs ++ (u ∷ []))))
   within-vector = go (eqb (length (vs ++ (u ∷ []))) (h .d))
     where
-      go : (t : Bool) → put (stored es) (readingOf (inside es h vs v)) (readingOf (elim t [ true ↦ after es h (vs ++ (u ∷ [])) | false ↦ inside es h (vs ++ (u ∷ [])) [] ]))
+      go : (t : Bool) → put (stored es) (readingOf (inside es h vs v)) (readingOf (elim t [ true ↦ after es h (vs ++ (u ∷ [])) | false ↦ inside es h (vs ++ (u ∷ [])) [] ])) l i w
           ≡ stored (wholeIn (elim t [ true ↦ after es h (vs ++ (u ∷ [])) | false ↦ inside es h (vs ++ (u ∷ [])) [] ]))
-      go true = same es
-      go false = same es
+      go true = same es _
+      go false = same es _
 
-  within-entry : put (stored es) (readingOf (inside es h vs v)) (readingOf (withCoordinate es h vs u)) ≡ stored (wholeIn (withCoordinate es h vs u))
+  within-entry : put (stored es) (readingOf (inside es h vs v)) (readingOf (withCoordinate es h vs u)) l i w ≡ stored (wholeIn (withCoordinate es h vs u))
   within-entry = go (eqb (length u) (h .m)) within-vector
     where
-      go : (t : Bool) → put (stored es) (readingOf (inside es h vs v)) (readingOf (withVector es h (vs ++ (u ∷ [])))) ≡ stored (wholeIn (withVector es h (vs ++ (u ∷ []))))
-          → put (stored es) (readingOf (inside es h vs v)) (readingOf (elim t [ true ↦ withVector es h (vs ++ (u ∷ [])) | false ↦ inside es h vs u ]))
+      go : (t : Bool) → put (stored es) (readingOf (inside es h vs v)) (readingOf (withVector es h (vs ++ (u ∷ [])))) l i w ≡ stored (wholeIn (withVector es h (vs ++ (u ∷ []))))
+          → put (stored es) (readingOf (inside es h vs v)) (readingOf (elim t [ true ↦ withVector es h (vs ++ (u ∷ [])) | false ↦ inside es h vs u ])) l i w
           ≡ stored (wholeIn (elim t [ true ↦ withVector es h (vs ++ (u ∷ [])) | false ↦ inside es h vs u ]))
       go true e = e
-      go false e = same es
+      go false e = same es _
 
 -- every step
-pub store-moves : {s t : State} {i : ℕ} {w : Word} → Moves s i w t → Fine s → put (stored (wholeIn s)) (readingOf s) (readingOf t) ≡ stored (wholeIn t)
-store-moves (by-head h (between es) p) k = same es
-store-moves (by-head h (unreferred es g vs) p) k = more es (record { head = g; vectors = vs; see = none }) k
-store-moves (by-coordinate es h vs v l p) k = within-entry es h vs v (v ++ (coordinateOf l ∷ []))
-store-moves (by-see es h vs s) k = more es (record { head = h; vectors = vs; see = some s }) k
-store-moves (by-end (between es)) k = same es
-store-moves (by-end (unreferred es g vs)) k = more es (record { head = g; vectors = vs; see = none }) k
+pub store-moves : {s t : State} {i : ℕ} {w : Word} {l : List ℤ} → Moves s i w t → Fine s → Cells s l → put (stored (wholeIn s)) (readingOf s) (readingOf t) l i w ≡ stored (wholeIn t)
+store-moves (by-head h (between es) p) k c = same es _
+store-moves {l = l} (by-head h (unreferred es g vs) p) k c = more es g vs none l c k
+store-moves {i = i} {l = l} (by-coordinate es h vs v n p) k c = within-entry es h vs v (v ++ (coordinateOf n ∷ [])) l i (coordinate n)
+store-moves {l = l} (by-see es h vs s) k c = more es h vs (some s) l c k
+store-moves (by-end (between es)) k c = same es _
+store-moves {l = l} (by-end (unreferred es g vs)) k c = more es g vs none l c k
 
 -- ---- the numbers of heads: a head adds its own
 
@@ -84,16 +95,16 @@ noted l n (other k load) = l
 
 -- there is room for the number of a head
 abbrev pub Space : ℕ → Word → Type 0
-Space n (head number d m) = n < 256
+Space n (head number d m) = n < mostEntries
 Space n (coordinate load) = Unit {0}
 Space n (see number) = Unit {0}
 Space n (end count) = Unit {0}
 Space n (other k load) = Unit {0}
 
-new-number : (es : List definition.Entry) (n : ℕ) → length es < 256 → set (filled 0 256 (numbers es)) (length es) n ≡ filled 0 256 (numbers es ++ (n ∷ []))
+new-number : (es : List definition.Entry) (n : ℕ) → length es < mostEntries → set (filled 0 mostEntries (numbers es)) (length es) n ≡ filled 0 mostEntries (numbers es ++ (n ∷ []))
 new-number es n h =
-    ap (λ k. set (filled 0 256 (numbers es)) k n) (sym (length-numbers es))
-    ∙ filled-next 0 256 (numbers es) n (omega (arith, length-numbers es))
+    ap (λ k. set (filled 0 mostEntries (numbers es)) k n) (sym (length-numbers es))
+    ∙ filled-next 0 mostEntries (numbers es) n (omega (arith, length-numbers es))
 
 between-numbers : {s : State} {es : List definition.Entry} → Between s es → numbersOf s ≡ numbers es
 between-numbers (between es) = refl
@@ -105,11 +116,11 @@ coordinate-numbers es h vs u true true = refl
 coordinate-numbers es h vs u true false = refl
 coordinate-numbers es h vs u false b = refl
 
-pub numbers-moves : {s t : State} {i : ℕ} {w : Word} → Moves s i w t → noted (filled 0 256 (numbersOf s)) (length (wholeIn t)) w ≡ filled 0 256 (numbersOf t)
+pub numbers-moves : {s t : State} {i : ℕ} {w : Word} → Moves s i w t → noted (filled 0 mostEntries (numbersOf s)) (length (wholeIn t)) w ≡ filled 0 mostEntries (numbersOf t)
 numbers-moves (by-head {es} h b p) =
-    ap (λ ns. set (filled 0 256 ns) (length es) (h .number)) (between-numbers b) ∙ new-number es (h .number) (leb-false _ _ (p .0))
+    ap (λ ns. set (filled 0 mostEntries ns) (length es) (h .number)) (between-numbers b) ∙ new-number es (h .number) (leb-false _ _ (p .0))
 numbers-moves (by-coordinate es h vs v l p) =
     let u = v ++ (coordinateOf l ∷ []) in
-    ap (filled 0 256) (coordinate-numbers es h vs u (eqb (length u) (h .m)) (eqb (length (vs ++ (u ∷ []))) (h .d)))
-numbers-moves (by-see es h vs s) = ap (filled 0 256) (map-snoc (λ e. e .head .number) es (record { head = h; vectors = vs; see = some s }))
-numbers-moves (by-end b) = ap (filled 0 256) (between-numbers b)
+    ap (filled 0 mostEntries) (coordinate-numbers es h vs u (eqb (length u) (h .m)) (eqb (length (vs ++ (u ∷ []))) (h .d)))
+numbers-moves (by-see es h vs s) = ap (filled 0 mostEntries) (map-snoc (λ e. e .head .number) es (record { head = h; vectors = vs; see = some s }))
+numbers-moves (by-end b) = ap (filled 0 mostEntries) (between-numbers b)

@@ -2,25 +2,28 @@
 use mathlib.Core.Path.{_≡_, sym, ap, ap₂, _∙_, subst}
 use mathlib.Core.Bool.{Bool, true, false, not, _||_}
 use mathlib.Core.List.{List, [], _∷_}
-use Prim.Native.Nat.{ℕ, _+_, _^_, _<_}
+use Prim.Native.Nat.{ℕ, _+_, _^_, _≤_, _<_}
 use native.Mathlib.Omega.{arith}
 use lib.Dec.{leb, ltb, eqb}
 use lib.IntN.{pos, _-ℤ_}
 use lib.ListN.{take}
+use lib.Signed.{ltZ}
 use mir.Syntax.{w64}
 use mir.Val.{SFits, ofZ, toZ}
 use mir.Facts.{toZ-ofZ, toZ-pos}
-use borrow.Author.Tests.{eq-eqb, ne-eqb}
-use Rattle.integers.specs.Size.{within-sub, fits-within}
+use borrow.Author.Tests.{eq-eqb, ne-eqb, le-ltb, ltb-false}
+use Rattle.integers.specs.Size.{Within, within-sub, fits-within}
 use Rattle.integers.specs.Every.{any}
-use Rattle.lattices.specs.Refusal.{oneTo, tooLong}
+use Rattle.lattices.specs.Refusal.{oneTo, mostSize, mostSquare, mostVectors, mostCoordinates}
 use Rattle.catalogue_rules.specs.Read.{checked, coordinateOf}
+use Rattle.catalogue_rules.specs.Laws.WellFormed.{load-within}
 use Rattle.catalogue_reader.specs.declared.reading.Phase.{Phase}
 use Rattle.catalogue_reader.specs.declared.reading.Phase.the-variants.{Inside, After}
 use Rattle.catalogue_reader.specs.declared.parts.Part.{Part}
 use Rattle.catalogue_reader.specs.declared.reading.Reading.{Reading}
 use Rattle.catalogue_reader.specs.Parts.{started, putCoordinate, putVector}
 use Rattle.catalogue_reader.specs.Readings.{isNumber, going, stopped, headRead, vectorPhase, vectorRead, columnRead, coordinateRead}
+use Rattle.catalogue_rules.specs.Catalogue.{mostEntries}
 
 -- a row applies, or it does not
 pub applies : {t : Bool} (n : ℕ) (rows : List (Bool × ℕ)) (s : Reading) → t ≡ true → stopped n ≡ checked stopped ((t, n) ∷ rows) s
@@ -32,59 +35,59 @@ skips n rows s e = sym (ap (λ t. checked stopped ((t, n) ∷ rows) s) e)
 -- the rows of a head, each with what it has tested
 module _ (numbers : List ℕ) (s : Reading) (number d m i : ℕ) where
   full : Bool
-  full = leb 256 (s .count)
+  full = leb mostEntries (s .count)
 
   many : Bool
-  many = not (oneTo 4 d)
+  many = not (oneTo mostVectors d)
 
   wide : Bool
-  wide = not (oneTo 4 m)
+  wide = not (oneTo mostCoordinates m)
 
   used : Bool
   used = eqb number 0 || any (isNumber number) (take (s .count) numbers)
 
   by-rows : Bool → Bool → Bool → Bool → Reading
-  by-rows a b c e = checked stopped ((a, 15) ∷ (b, 1) ∷ (c, 2) ∷ (e, 11) ∷ []) (going Inside (s .count) (started number d m i) (s .last))
+  by-rows a b c e = checked stopped ((a, 15) ∷ (b, 1) ∷ (c, 2) ∷ (e, 11) ∷ []) (going Inside (s .count) (started number d m i))
 
-  pub head-15 : leb 256 (s .count) ≡ true → stopped 15 ≡ headRead numbers s number d m i
+  pub head-15 : leb mostEntries (s .count) ≡ true → stopped 15 ≡ headRead numbers s number d m i
   unfolding full many wide used by-rows
   head-15 e = sym (ap (λ a. by-rows a many wide used) e)
 
-  pub head-1 : leb 256 (s .count) ≡ false → not (oneTo 4 d) ≡ true → stopped 1 ≡ headRead numbers s number d m i
+  pub head-1 : leb mostEntries (s .count) ≡ false → not (oneTo mostVectors d) ≡ true → stopped 1 ≡ headRead numbers s number d m i
   unfolding full many wide used by-rows
   head-1 e f = sym (ap₂ (λ a b. by-rows a b wide used) e f)
 
-  pub head-2 : leb 256 (s .count) ≡ false → not (oneTo 4 d) ≡ false → not (oneTo 4 m) ≡ true → stopped 2 ≡ headRead numbers s number d m i
+  pub head-2 : leb mostEntries (s .count) ≡ false → not (oneTo mostVectors d) ≡ false → not (oneTo mostCoordinates m) ≡ true → stopped 2 ≡ headRead numbers s number d m i
   unfolding full many wide used by-rows
   head-2 e f g = sym (ap₂ (λ a b. by-rows a b wide used) e f ∙ ap (λ c. by-rows false false c used) g)
 
-  head-number : {t : Bool} → leb 256 (s .count) ≡ false → not (oneTo 4 d) ≡ false → not (oneTo 4 m) ≡ false
+  head-number : {t : Bool} → leb mostEntries (s .count) ≡ false → not (oneTo mostVectors d) ≡ false → not (oneTo mostCoordinates m) ≡ false
       → (eqb number 0 || any (isNumber number) (take (s .count) numbers)) ≡ t → by-rows false false false t ≡ headRead numbers s number d m i
   unfolding full many wide used by-rows
   head-number e f g h = sym (ap₂ (λ a b. by-rows a b wide used) e f ∙ ap₂ (λ c e. by-rows false false c e) g h)
 
-  pub head-11 : leb 256 (s .count) ≡ false → not (oneTo 4 d) ≡ false → not (oneTo 4 m) ≡ false
+  pub head-11 : leb mostEntries (s .count) ≡ false → not (oneTo mostVectors d) ≡ false → not (oneTo mostCoordinates m) ≡ false
       → (eqb number 0 || any (isNumber number) (take (s .count) numbers)) ≡ true → stopped 11 ≡ headRead numbers s number d m i
   unfolding by-rows
   head-11 e f g h = head-number e f g h
 
-  pub head-goes : leb 256 (s .count) ≡ false → not (oneTo 4 d) ≡ false → not (oneTo 4 m) ≡ false
-      → (eqb number 0 || any (isNumber number) (take (s .count) numbers)) ≡ false → going Inside (s .count) (started number d m i) (s .last) ≡ headRead numbers s number d m i
+  pub head-goes : leb mostEntries (s .count) ≡ false → not (oneTo mostVectors d) ≡ false → not (oneTo mostCoordinates m) ≡ false
+      → (eqb number 0 || any (isNumber number) (take (s .count) numbers)) ≡ false → going Inside (s .count) (started number d m i) ≡ headRead numbers s number d m i
   unfolding by-rows
   head-goes e f g h = head-number e f g h
 
 -- a whole vector
-module _ (s : Reading) (part p : Part) (is : p ≡ putVector part) (short : tooLong (part .vector) ≡ false) where
-  to-phase : (f : Phase) → f ≡ vectorPhase (eqb (p .row) (p .d)) → going f (s .count) p (s .last) ≡ vectorRead s part
+module _ (s : Reading) (part p : Part) (is : p ≡ putVector part) (short : ltZ (pos mostSquare) (part .square) ≡ false) where
+  to-phase : (f : Phase) → f ≡ vectorPhase (eqb (p .row) (p .d)) → going f (s .count) p ≡ vectorRead s part
   to-phase f e =
-      ap (λ g. going g (s .count) p (s .last)) e
-      ∙ ap (λ q. going (vectorPhase (eqb (q .row) (q .d))) (s .count) q (s .last)) is
+      ap (λ g. going g (s .count) p) e
+      ∙ ap (λ q. going (vectorPhase (eqb (q .row) (q .d))) (s .count) q) is
       ∙ skips 4 [] _ short
 
-  pub last-vector : p .row ≡ p .d → going After (s .count) p (s .last) ≡ vectorRead s part
+  pub last-vector : p .row ≡ p .d → going After (s .count) p ≡ vectorRead s part
   last-vector e = to-phase After (sym (ap vectorPhase (eq-eqb _ _ e)))
 
-  pub more-vectors : (p .row ≡ p .d → ⊥) → going Inside (s .count) p (s .last) ≡ vectorRead s part
+  pub more-vectors : (p .row ≡ p .d → ⊥) → going Inside (s .count) p ≡ vectorRead s part
   more-vectors e = to-phase Inside (sym (ap vectorPhase (ne-eqb _ _ e)))
 
 -- a coordinate within the limit
@@ -95,7 +98,7 @@ module _ (s : Reading) (l : ℕ) (p : Part) (is : p ≡ putCoordinate (s .part) 
   pub last-coordinate : p .column ≡ p .m → vectorRead s p ≡ coordinateRead s l
   last-coordinate e = sym (ap (λ t. columnRead t s p) (eq-eqb _ _ e)) ∙ by-column
 
-  pub more-coordinates : (p .column ≡ p .m → ⊥) → going Inside (s .count) p (s .last) ≡ coordinateRead s l
+  pub more-coordinates : (p .column ≡ p .m → ⊥) → going Inside (s .count) p ≡ coordinateRead s l
   more-coordinates e = sym (ap (λ t. columnRead t s p) (ne-eqb _ _ e)) ∙ by-column
 
 -- ---- a load less 20,000, as code computes it
@@ -105,7 +108,11 @@ coordinate-fits l h =
     let e : toZ w64 l ≡ pos l = toZ-pos w64 (omega arith) in
     subst (λ z. SFits w64 (z -ℤ pos 20000)) (sym e) (fits-within {B = 4294967296 + 20000} (within-sub {A = 4294967296} {B = 20000} {a = pos l} {b = pos 20000} (record { within = omega arith }) (record { within = omega arith })) tt)
 
-pub read-coordinate : (p : Part) (l : ℕ) → l < 2 ^ 32 → putCoordinate p (toZ w64 (ofZ w64 (toZ w64 l -ℤ pos 20000))) ≡ putCoordinate p (coordinateOf l)
-read-coordinate p l h =
+pub read-load : (l : ℕ) → l < 2 ^ 32 → toZ w64 (ofZ w64 (toZ w64 l -ℤ pos 20000)) ≡ coordinateOf l
+read-load l h =
     let e : toZ w64 l ≡ pos l = toZ-pos w64 (omega arith) in
-    ap (putCoordinate p) (toZ-ofZ {w = w64} (coordinate-fits l h) ∙ ap (λ z. z -ℤ pos 20000) e)
+    toZ-ofZ {w = w64} (coordinate-fits l h) ∙ ap (λ z. z -ℤ pos 20000) e
+
+-- within the limit of a load it is a coordinate within the limit of its size
+pub load-small : (l : ℕ) → l ≤ 40000 → Within 20000 (coordinateOf l)
+load-small l h = record { within = ltb-false mostSize _ (load-within l (le-ltb 40000 l h)) }

@@ -12,7 +12,7 @@ use borrow.Author.Tests.{eq-eqb, ne-eqb, lt-ltb, le-ltb}
 use Rattle.integers.specs.All.{All}
 use Rattle.catalogue_rules.specs.Word.{wordsOf}
 use Rattle.catalogue_rules.specs.Catalogue as definition
-use Rattle.catalogue_rules.specs.Catalogue.{Outcome, refused, accepted}
+use Rattle.catalogue_rules.specs.Catalogue.{Outcome, refused, accepted, mostEntries, mostBytes}
 use Rattle.catalogue_rules.specs.Read.{outside, checked, firstPlace, dependentAt, lostAt, readWords, afterWords, read}
 use Rattle.catalogue_rules.specs.Form.{EntryFits, Entered}
 use Rattle.catalogue_rules.specs.Laws.Moves.{WhenAccepted}
@@ -31,7 +31,7 @@ words bytes = readWords (outside []) 0 (wordsOf bytes)
 abbrev pub ended : Catalogue → Catalogue
 ended c = unless 5 (firstPlace dependentAt (entriesIn c)) (unless 12 (firstPlace (lostAt (entriesIn c)) (entriesIn c)) c)
 
-few : (o : Outcome) → WhenAccepted Entered o → catalogueOf o .count ≤ 256
+few : (o : Outcome) → WhenAccepted Entered o → catalogueOf o .count ≤ mostEntries
 few (refused n p) k = omega arith
 few (accepted es) k = k .few
 
@@ -55,8 +55,8 @@ ends (accepted es) k e =
     rows none none = refl
 
 module _ (o : Outcome) (k : WhenAccepted Entered o) {c : Catalogue} (is : c ≡ catalogueOf o) where
-  pub few-entries : c .count ≤ 256
-  few-entries = subst (λ c. c .count ≤ 256) (sym is) (few o k)
+  pub few-entries : c .count ≤ mostEntries
+  few-entries = subst (λ c. c .count ≤ mostEntries) (sym is) (few o k)
 
   pub entries-fit : All EntryFits (entriesIn c)
   entries-fit = subst (λ c. All EntryFits (entriesIn c)) (sym is) (fit o k)
@@ -91,12 +91,12 @@ module _ (bytes : List ℕ) where
 
   pub refused-8 : length bytes % 4 ≢ 0 → noCatalogue 8 0 ≡ catalogueOf (read bytes)
   unfolding by-rows read
-  refused-8 h = sym (ap (λ a. by-rows a (ltb 18436 (length bytes))) (ne-eqb _ 0 h))
+  refused-8 h = sym (ap (λ a. by-rows a (ltb mostBytes (length bytes))) (ne-eqb _ 0 h))
 
-  pub refused-9 : length bytes % 4 ≡ 0 → 18436 < length bytes → noCatalogue 9 0 ≡ catalogueOf (read bytes)
+  pub refused-9 : length bytes % 4 ≡ 0 → mostBytes < length bytes → noCatalogue 9 0 ≡ catalogueOf (read bytes)
   unfolding by-rows read
   refused-9 e h = sym (ap₂ by-rows (eq-eqb _ 0 e) (lt-ltb _ _ h))
 
-  pub by-words : length bytes % 4 ≡ 0 → length bytes ≤ 18436 → catalogueOf (afterWords (words bytes)) ≡ catalogueOf (read bytes)
+  pub by-words : length bytes % 4 ≡ 0 → length bytes ≤ mostBytes → catalogueOf (afterWords (words bytes)) ≡ catalogueOf (read bytes)
   unfolding by-rows read
   by-words e h = sym (ap₂ by-rows (eq-eqb _ 0 e) (le-ltb _ _ h))

@@ -13,10 +13,14 @@ ghost use Rattle.catalogue_records.specs.Catalogues.{catalogueOf, unless};
 ghost use Rattle.catalogue_reader.specs.Readings.{isClosed, isNumber};
 ghost use Rattle.catalogue_reader.specs.Words.{wordIn};
 ghost use Rattle.catalogue_reader.specs.Store.{noted, Space};
+ghost use Rattle.catalogue_reader.specs.Cells.{Place, placed};
 ghost use Rattle.catalogue_rules.specs.Form.{EntryFits};
 ghost use Rattle.catalogue_records.specs.EntriesIn.{entryIn, entriesIn};
+ghost use Rattle.catalogue_rules.specs.Catalogue.{mostEntries};
 use catalogue_records::Catalogue;
 use catalogue_records::Entry;
+use catalogue_records::NUMBERS;
+use parts::first_numbers;
 use reading::Phase;
 use reading::Reading;
 use reading::numbered;
@@ -41,7 +45,7 @@ fn closed(phase: Phase) -> bool
 }
 
 // A head's number is noted after those of the entries before it.
-fn note(numbers: &mut [u32; 256], count: usize, w: Word)
+fn note(numbers: &mut [u32; Catalogue::MOST_ENTRIES], count: usize, w: Word)
     requires { ⌜ Space count (wordIn w) ⌝ }
     ensures { λ _. ⌜ now (numbers .exit) ≡ noted (now (numbers .entry)) count (wordIn w) ⌝ }
 {
@@ -56,13 +60,34 @@ fn note(numbers: &mut [u32; 256], count: usize, w: Word)
     }
 }
 
-// The entries of the words, or the refusal of the first word that cannot stand. Entries and numbers of heads are stored in place.
+// A coordinate is stored after those of the entry before it.
+fn store(coordinates: &mut [i64; NUMBERS], n: usize, w: Word)
+    requires { ⌜ Place n (wordIn w) ⌝ }
+    ensures { λ _. ⌜ now (coordinates .exit) ≡ placed (now (coordinates .entry)) n (wordIn w) ⌝ }
+{
+    match w {
+        Word::Head {
+            number: _,
+            d: _,
+            m: _,
+        } => {}
+        Word::Coordinate(load) => {
+            coordinates[n] = load as i64 - 20000;
+        }
+        Word::See(_) => {}
+        Word::End(_) => {}
+        Word::Other { kind: _, load: _ } => {}
+    }
+}
+
+// The entries of the words, or the refusal of the first word that cannot stand. Entries, numbers of heads and coordinates are stored in place.
 fn read_words(bytes: &[u8]) -> Catalogue
     ensures { λ r. ⌜ r ≡ catalogueOf (readWords (outside []) 0 (wordsOf (now (bytes .entry)))) ⌝ }
 {
     let none = Catalogue::empty();
     let mut entries = none.entries;
     let mut numbers = [0u32; Catalogue::MOST_ENTRIES];
+    let mut coordinates = [0i64; NUMBERS];
     let mut s = Reading::start();
     let n = bytes.len() / 4;
     for i in 0..n {
@@ -73,11 +98,13 @@ fn read_words(bytes: &[u8]) -> Catalogue
         }
         let k = s.count;
         let c = t.count;
+        let part = s.part;
         if k < c {
-            let e = t.last;
+            let e = part.whole(first_numbers(&coordinates, part.filled), i, w);
             entries[k] = e;
         }
         note(&mut numbers, c, w);
+        store(&mut coordinates, part.filled, w);
         s = t;
     }
     let phase = s.phase;
@@ -105,7 +132,7 @@ fn dependent(e: Entry) -> bool
 
 // Row "after reading", 5: at the head of the first dependent entry.
 fn independent(c: Catalogue) -> Catalogue
-    requires { ⌜ c .count ≤ 256 ⌝ }
+    requires { ⌜ c .count ≤ mostEntries ⌝ }
     requires { ⌜ All EntryFits (entriesIn c) ⌝ }
     ensures { λ r. ⌜ r ≡ unless 5 (firstPlace dependentAt (entriesIn c)) c ⌝ }
 {
@@ -128,7 +155,7 @@ fn lost(e: Entry, numbers: &[u32], count: usize) -> bool
 
 // Row "after reading", 12: at the first see word that names no entry.
 fn found(c: Catalogue) -> Catalogue
-    requires { ⌜ c .count ≤ 256 ⌝ }
+    requires { ⌜ c .count ≤ mostEntries ⌝ }
     ensures { λ r. ⌜ r ≡ unless 12 (firstPlace (lostAt (entriesIn c)) (entriesIn c)) c ⌝ }
 {
     let numbers = catalogue_records::numbers(c);

@@ -1,10 +1,20 @@
 // An entry while it is read.
 ghost use mathlib.Core.Path.{_≡_};
-ghost use Prim.Native.Nat.{_<_};
-ghost use Rattle.catalogue_reader.specs.Parts.{noPart, putCoordinate, putVector, started, whole};
+ghost use Prim.Native.Nat.{_≤_, _<_};
+ghost use lib.IntN.{pos};
+ghost use lib.ListN.{length, take};
+ghost use Rattle.integers.specs.Filled.{filled};
+ghost use Rattle.integers.specs.Size.{Within};
+ghost use Rattle.catalogue_reader.specs.Words.{wordIn};
+ghost use Rattle.catalogue_reader.specs.Parts.{noPart, putCoordinate, putVector, started, whole, wholeAt};
+ghost use Rattle.catalogue_rules.specs.Catalogue.{mostNumbers};
+ghost use Rattle.lattices.specs.Refusal.{mostVectors, mostCoordinates};
+use super::words::Word;
 use catalogue_records::Entry;
+use catalogue_records::NUMBERS;
 
-// What is read of an entry: its head, how many vectors are whole, the vector being read, and all coordinates so far.
+// What is read of an entry: its head, how many vectors are whole, how many coordinates of the next one and the sum of their squares, and how many
+// coordinates in all. The coordinates themselves stand in an array beside it, so that no step copies them.
 pub(crate) struct Part {
     pub number: u32,
     pub d: usize,
@@ -12,9 +22,8 @@ pub(crate) struct Part {
     pub place: usize,
     pub row: usize,
     pub column: usize,
-    pub vector: [i64; 4],
+    pub square: i64,
     pub filled: usize,
-    pub coordinates: [i64; 16],
 }
 
 impl Part {
@@ -29,9 +38,8 @@ impl Part {
             place: place,
             row: 0,
             column: 0,
-            vector: [0; 4],
+            square: 0,
             filled: 0,
-            coordinates: [0; 16],
         }
     }
 
@@ -43,35 +51,45 @@ impl Part {
 
     // One coordinate more.
     pub(crate) fn with_coordinate(self, x: i64) -> Part
-        requires { ⌜ self .column < 4 ⌝ }
+        requires { ⌜ self .column < mostCoordinates ⌝ }
         requires { ⌜ self .filled < 16 ⌝ }
+        requires { ⌜ Within 4000000000 (self .square) ⌝ }
+        requires { ⌜ Within 20000 x ⌝ }
         ensures { λ r. ⌜ r ≡ putCoordinate self x ⌝ }
     {
-        let mut p = self;
-        p.vector[p.column] = x;
-        p.coordinates[p.filled] = x;
-        p.column = p.column + 1;
-        p.filled = p.filled + 1;
-        p
+        Part {
+            number: self.number,
+            d: self.d,
+            m: self.m,
+            place: self.place,
+            row: self.row,
+            column: self.column + 1,
+            square: self.square + x * x,
+            filled: self.filled + 1,
+        }
     }
 
     // The vector is whole: the next one starts.
     pub(crate) fn with_vector(self) -> Part
-        requires { ⌜ self .row < 4 ⌝ }
+        requires { ⌜ self .row < mostVectors ⌝ }
         ensures { λ r. ⌜ r ≡ putVector self ⌝ }
     {
-        let mut p = self;
-        p.row = p.row + 1;
-        p.column = 0;
-        p.vector = [0; 4];
-        p
+        Part {
+            number: self.number,
+            d: self.d,
+            m: self.m,
+            place: self.place,
+            row: self.row + 1,
+            column: 0,
+            square: 0,
+            filled: self.filled,
+        }
     }
 
     // The entry is whole, with or without a see word.
-    pub(crate) fn entry(self, sees: bool, see: u32, at: usize) -> Entry
-        ensures { λ r. ⌜ r ≡ whole self sees see at ⌝ }
+    fn entry(self, coordinates: [i64; NUMBERS], sees: bool, see: u32, at: usize) -> Entry
+        ensures { λ r. ⌜ r ≡ whole self coordinates sees see at ⌝ }
     {
-        let coordinates = self.coordinates;
         Entry {
             number: self.number,
             d: self.d,
@@ -83,4 +101,34 @@ impl Part {
             coordinates: coordinates,
         }
     }
+
+    // The entry that the word at index i makes whole.
+    pub(crate) fn whole(self, coordinates: [i64; NUMBERS], i: usize, w: Word) -> Entry
+        ensures { λ r. ⌜ r ≡ wholeAt self coordinates i (wordIn w) ⌝ }
+    {
+        match w {
+            Word::Head {
+                number: _,
+                d: _,
+                m: _,
+            } => self.entry(coordinates, false, 0, 0),
+            Word::Coordinate(_) => self.entry(coordinates, false, 0, 0),
+            Word::See(number) => self.entry(coordinates, true, number, i),
+            Word::End(_) => self.entry(coordinates, false, 0, 0),
+            Word::Other { kind: _, load: _ } => self.entry(coordinates, false, 0, 0),
+        }
+    }
+}
+
+// The first n of the numbers, then zeros.
+pub(crate) fn first_numbers(numbers: &[i64; NUMBERS], n: usize) -> [i64; NUMBERS]
+    requires { ⌜ n ≤ mostNumbers ⌝ }
+    requires { ⌜ length (now numbers) ≡ mostNumbers ⌝ }
+    ensures { λ r. ⌜ r ≡ filled (pos 0) mostNumbers (take n (now (numbers .entry))) ⌝ }
+{
+    let mut r = [0; NUMBERS];
+    for k in 0..n {
+        r[k] = numbers[k];
+    }
+    r
 }

@@ -5,12 +5,14 @@ ghost use Prim.Native.Nat.{_≤_, _<_};
 ghost use lib.Dec.{eqb};
 ghost use lib.ListN.{length, take};
 ghost use Rattle.integers.specs.Every.{any};
+ghost use Rattle.integers.specs.Size.{Within};
 ghost use Rattle.catalogue_reader.specs.Words.{wordIn};
 ghost use Rattle.catalogue_reader.specs.Readings.{isNumber, going, stopped, headRead, vectorRead, coordinateRead, entryRead, endRead, outsideRead, insideRead, afterRead, ReadyFor, stepRead};
+ghost use Rattle.catalogue_rules.specs.Catalogue.{mostEntries};
+ghost use Rattle.lattices.specs.Refusal.{mostVectors, mostCoordinates};
 use super::parts::Part;
 use super::words::Word;
 use catalogue_records::Catalogue;
-use catalogue_records::Entry;
 
 // What may come next: a head or the end; a coordinate; a see word, a head or the end; nothing.
 pub(crate) enum Phase {
@@ -20,13 +22,13 @@ pub(crate) enum Phase {
     Closed,
 }
 
-// Where reading stands: a refusal, or what may come next, how many entries are whole, the entry being read, and the last whole one.
+// Where reading stands: a refusal, or what may come next, how many entries are whole, and the entry being read: numbers only, since each step
+// takes it and gives it back.
 pub(crate) struct Reading {
     pub refusal: u64,
     pub phase: Phase,
     pub count: usize,
     pub part: Part,
-    pub last: Entry,
 }
 
 // Whether one of the first count numbers is n.
@@ -60,7 +62,6 @@ impl Reading {
             phase: Phase::Outside,
             count: 0,
             part: Part::empty(),
-            last: Entry::empty(),
         }
     }
 
@@ -73,15 +74,13 @@ impl Reading {
 
     // The same entries, another part.
     fn going(self, phase: Phase, part: Part) -> Reading
-        ensures { λ r. ⌜ r ≡ going phase (self .count) part (self .last) ⌝ }
+        ensures { λ r. ⌜ r ≡ going phase (self .count) part ⌝ }
     {
-        let last = self.last;
         Reading {
             refusal: 0,
             phase: phase,
             count: self.count,
             part: part,
-            last: last,
         }
     }
 
@@ -93,10 +92,10 @@ impl Reading {
         if Catalogue::MOST_ENTRIES <= self.count {
             return Reading::stop(15);
         }
-        if !input_checks::one_to(4, d) {
+        if !input_checks::one_to(input_checks::MOST_VECTORS, d) {
             return Reading::stop(1);
         }
-        if !input_checks::one_to(4, m) {
+        if !input_checks::one_to(input_checks::MOST_COORDINATES, m) {
             return Reading::stop(2);
         }
         if not_free(numbers, self.count, number) {
@@ -107,11 +106,11 @@ impl Reading {
 
     // Row "coordinate" at a vector's last coordinate, the part up to it being given.
     fn at_vector(self, part: Part) -> Reading
-        requires { ⌜ part .row < 4 ⌝ }
+        requires { ⌜ part .row < mostVectors ⌝ }
+        requires { ⌜ Within 8000000000 (part .square) ⌝ }
         ensures { λ r. ⌜ r ≡ vectorRead self part ⌝ }
     {
-        let v = part.vector;
-        if input_checks::long(v) {
+        if input_checks::MOST_SQUARE < part.square {
             return Reading::stop(4);
         }
         let p = part.with_vector();
@@ -123,9 +122,10 @@ impl Reading {
 
     // Row "coordinate".
     fn at_coordinate(self, load: u32) -> Reading
-        requires { ⌜ self .part .row < 4 ⌝ }
-        requires { ⌜ self .part .column < 4 ⌝ }
+        requires { ⌜ self .part .row < mostVectors ⌝ }
+        requires { ⌜ self .part .column < mostCoordinates ⌝ }
         requires { ⌜ self .part .filled < 16 ⌝ }
+        requires { ⌜ Within 4000000000 (self .part .square) ⌝ }
         ensures { λ r. ⌜ r ≡ coordinateRead self load ⌝ }
     {
         if Catalogue::MOST_LOAD < load {
@@ -140,18 +140,15 @@ impl Reading {
     }
 
     // The entry is whole.
-    fn with_entry(self, sees: bool, see: u32, at: usize) -> Reading
-        requires { ⌜ self .count < 256 ⌝ }
-        ensures { λ r. ⌜ r ≡ entryRead self sees see at ⌝ }
+    fn with_entry(self) -> Reading
+        requires { ⌜ self .count < mostEntries ⌝ }
+        ensures { λ r. ⌜ r ≡ entryRead self ⌝ }
     {
-        let part = self.part;
-        let e = part.entry(sees, see, at);
         Reading {
             refusal: 0,
             phase: Phase::Outside,
             count: self.count + 1,
             part: Part::empty(),
-            last: e,
         }
     }
 
@@ -181,9 +178,10 @@ impl Reading {
 
     // A word within an entry.
     fn inside(self, w: Word) -> Reading
-        requires { ⌜ self .part .row < 4 ⌝ }
-        requires { ⌜ self .part .column < 4 ⌝ }
+        requires { ⌜ self .part .row < mostVectors ⌝ }
+        requires { ⌜ self .part .column < mostCoordinates ⌝ }
         requires { ⌜ self .part .filled < 16 ⌝ }
+        requires { ⌜ Within 4000000000 (self .part .square) ⌝ }
         ensures { λ r. ⌜ r ≡ insideRead self (wordIn w) ⌝ }
     {
         match w {
@@ -201,16 +199,15 @@ impl Reading {
 
     // A word after an entry's last coordinate: the entry is whole, with or without a see word.
     fn after(self, numbers: &[u32], i: usize, w: Word) -> Reading
-        requires { ⌜ self .count < 256 ⌝ }
+        requires { ⌜ self .count < mostEntries ⌝ }
         requires { ⌜ self .count < length (now numbers) ⌝ }
         ensures { λ r. ⌜ r ≡ afterRead (now (numbers .entry)) self i (wordIn w) ⌝ }
     {
         match w {
-            Word::Head { number, d, m } => self.with_entry(false, 0, 0)
-                .at_head(numbers, number, d, m, i),
+            Word::Head { number, d, m } => self.with_entry().at_head(numbers, number, d, m, i),
             Word::Coordinate(_) => Reading::stop(10),
-            Word::See(number) => self.with_entry(true, number, i),
-            Word::End(count) => self.with_entry(false, 0, 0).at_end(count),
+            Word::See(_) => self.with_entry(),
+            Word::End(count) => self.with_entry().at_end(count),
             Word::Other { kind: _, load: _ } => Reading::stop(10),
         }
     }

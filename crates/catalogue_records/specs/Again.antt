@@ -4,7 +4,7 @@ use mathlib.Core.Logic.{_≢_}
 use mathlib.Core.List.{List}
 use Prim.Native.Nat.{ℕ, _≤_}
 use Rattle.catalogue_rules.specs.Catalogue as definition
-use Rattle.catalogue_rules.specs.Catalogue.{Outcome, refused, accepted, refusal, entries}
+use Rattle.catalogue_rules.specs.Catalogue.{Outcome, refused, accepted, refusal, entries, mostEntries}
 use Rattle.catalogue_rules.specs.Read.{read}
 use Rattle.catalogue_rules.specs.Form.{WellFormed}
 use Rattle.catalogue_rules.specs.Laws.Moves.{when-not-refused}
@@ -43,8 +43,8 @@ module _ (bytes : List ℕ) {c : Catalogue} (is : c ≡ catalogueOf (read bytes)
         let w = well-formed bytes es taken in
         ap entriesIn held ∙ entries-back es (w .entered .few) (w .entered .fits)
 
-    pub few-read : c .count ≤ 256
-    few-read = subst (λ c. c .count ≤ 256) (sym held) (well-formed bytes es taken .entered .few)
+    pub few-read : c .count ≤ mostEntries
+    few-read = subst (λ c. c .count ≤ mostEntries) (sym held) (well-formed bytes es taken .entered .few)
 
     pub formed : WellFormed (entriesIn c)
     formed = subst WellFormed (sym same) (well-formed bytes es taken)

@@ -18,7 +18,7 @@ noCatalogue refusal place = record { refusal = refusal; place = place; count = 0
 
 -- the array of some entries: the empty one after them
 abbrev pub stored : List definition.Entry → List Entry
-stored es = filled noEntry 256 (map entryOf es)
+stored es = filled noEntry mostEntries (map entryOf es)
 
 -- no refusal
 abbrev pub holding : ℕ → List Entry → Catalogue

@@ -13,7 +13,7 @@ use Rattle.integers.specs.All.{All}
 use Rattle.integers.specs.AllLaws.{getD-map, all-at}
 use Rattle.lattices.specs.Refusal.{vectorsOf}
 use Rattle.catalogue_rules.specs.Catalogue as definition
-use Rattle.catalogue_rules.specs.Catalogue.{See, coordinates, seeNumber}
+use Rattle.catalogue_rules.specs.Catalogue.{See, coordinates, seeNumber, mostEntries, mostNumbers}
 use Rattle.catalogue_rules.specs.Read.{firstPlace}
 use Rattle.catalogue_rules.specs.Form.{EntryFits}
 use Rattle.catalogue_rules.specs.Laws.EntriesAccepted.{count-coordinates, few-coordinates, vectors-back}
@@ -35,8 +35,8 @@ entry-back : (e : definition.Entry) → EntryFits e → entryIn (entryOf e) ≡ 
 entry-back e p =
     let h = e .head in
     let cs = coordinates (e .vectors) in
-    let same : take (h .d * h .m) (filled (pos 0) 16 cs) ≡ cs =
-    ap (λ n. take n (filled (pos 0) 16 cs)) (sym (count-coordinates e p)) ∙ take-filled (pos 0) 16 cs (few-coordinates e p) in
+    let same : take (h .d * h .m) (filled (pos 0) mostNumbers cs) ≡ cs =
+    ap (λ n. take n (filled (pos 0) mostNumbers cs)) (sym (count-coordinates e p)) ∙ take-filled (pos 0) mostNumbers cs (few-coordinates e p) in
     let vectors : vectorsOf (h .d) (h .m) cs ≡ e .vectors = ap (λ d. vectorsOf d (h .m) cs) (sym (p .count)) ∙ vectors-back (h .m) (e .vectors) (p .vectors) in
     ap₂ (λ vs s. record { head = h; vectors = vs; see = s }) (ap (vectorsOf (h .d) (h .m)) same ∙ vectors) (see-back (e .see))
 
@@ -44,15 +44,15 @@ map-back : (es : List definition.Entry) → All EntryFits es → map entryIn (ma
 map-back [] p = refl
 map-back (e ∷ es) p = ap₂ _∷_ (entry-back e (p .0)) (map-back es (p .1))
 
-pub entries-back : (es : List definition.Entry) → length es ≤ 256 → All EntryFits es → entriesIn (holding (length es) (stored es)) ≡ es
+pub entries-back : (es : List definition.Entry) → length es ≤ mostEntries → All EntryFits es → entriesIn (holding (length es) (stored es)) ≡ es
 entries-back es few p =
     let n = length-map es entryOf in
-    ap (λ k. map entryIn (take k (stored es))) (sym n) ∙ ap (map entryIn) (take-filled noEntry 256 (map entryOf es) (omega (arith, n))) ∙ map-back es p
+    ap (λ k. map entryIn (take k (stored es))) (sym n) ∙ ap (map entryIn) (take-filled noEntry mostEntries (map entryOf es) (omega (arith, n))) ∙ map-back es p
 
 -- ---- the k-th entry
 
 -- as the typing of arrays tells it: through what stands for an entry
-pub all-stored : {B : Type 0} (c : Catalogue) (f : Entry → B) → length (map f (c .entries)) ≡ 256 → length (c .entries) ≡ 256
+pub all-stored : {B : Type 0} (c : Catalogue) (f : Entry → B) → length (map f (c .entries)) ≡ mostEntries → length (c .entries) ≡ mostEntries
 all-stored c f p = sym (length-map (c .entries) f) ∙ p
 
 -- what an array of entries gives beyond its end
@@ -71,7 +71,7 @@ placeIf false p = none
 pub record Says (f : definition.Entry → Option ℕ) (e : definition.Entry) (t : Bool) (p : ℕ) : Type 0 where
   pub place : placeIf t p ≡ f e
 
-module _ (c : Catalogue) (long : length (c .entries) ≡ 256) (few : c .count ≤ 256) where
+module _ (c : Catalogue) (long : length (c .entries) ≡ mostEntries) (few : c .count ≤ mostEntries) where
   pub length-entries : length (entriesIn c) ≡ c .count
   length-entries = length-map (take (c .count) (c .entries)) entryIn ∙ omega (arith, length-take (c .count) (c .entries))
 

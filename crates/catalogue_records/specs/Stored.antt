@@ -5,12 +5,12 @@ use Prim.Native.Nat.{ℕ}
 use lib.IntN.{pos}
 use lib.ListN.{replicate}
 use Rattle.catalogue_rules.specs.Catalogue as definition
-use Rattle.catalogue_rules.specs.Catalogue.{See, coordinates, seeNumber}
+use Rattle.catalogue_rules.specs.Catalogue.{See, coordinates, seeNumber, mostNumbers}
 use Rattle.catalogue_records.specs.declared.Entry.{Entry}
 use Rattle.integers.specs.Filled.{filled}
 
 abbrev pub noEntry : Entry
-noEntry = record { number = 0; d = 0; m = 0; place = 0; sees = false; see = 0; at = 0; coordinates = replicate 16 (pos 0) }
+noEntry = record { number = 0; d = 0; m = 0; place = 0; sees = false; see = 0; at = 0; coordinates = replicate mostNumbers (pos 0) }
 
 -- a see word or none: whether there is one, its number and its place
 abbrev pub sees : Option See → Bool
@@ -30,5 +30,5 @@ entryOf e = record {
   sees = sees (e .see);
   see = seeNumber (e .see);
   at = seePlace (e .see);
-  coordinates = filled (pos 0) 16 (coordinates (e .vectors));
+  coordinates = filled (pos 0) mostNumbers (coordinates (e .vectors));
 }

@@ -4,6 +4,9 @@ ghost use mathlib.Core.List.{map};
 ghost use Rattle.catalogue_records.specs.Stored.{noEntry};
 ghost use Rattle.catalogue_records.specs.Catalogues.{noCatalogue};
 
+// How many coordinates an entry may have.
+pub const NUMBERS: usize = 4 * row_operations::WIDTH;
+
 // An entry: its head and the place of the head; whether it has a see word, its number and where it stands; d times m coordinates, then zeros.
 pub struct Entry {
     pub number: u32,
@@ -13,7 +16,7 @@ pub struct Entry {
     pub sees: bool,
     pub see: u32,
     pub at: usize,
-    pub coordinates: [i64; 16],
+    pub coordinates: [i64; NUMBERS],
 }
 
 // The outcome of reading: a refusal and its place, or the entries.
@@ -21,7 +24,7 @@ pub struct Catalogue {
     pub refusal: u64,
     pub place: usize,
     pub count: usize,
-    pub entries: [Entry; 256],
+    pub entries: [Entry; Catalogue::MOST_ENTRIES],
 }
 
 // What a writing says: a refusal and its place, or how many bytes were written.
@@ -34,7 +37,8 @@ pub struct Written {
 impl Catalogue {
     pub const MOST_ENTRIES: usize = 256;
 
-    pub const MOST_BYTES: usize = 18436;
+    // Of the largest entries a head, the coordinates and a see word each, then an end word; a word has four bytes.
+    pub const MOST_BYTES: usize = (Self::MOST_ENTRIES * (NUMBERS + 2) + 1) * 4;
 
     pub const MOST_LOAD: u32 = 40000;
 
@@ -70,17 +74,17 @@ impl Entry {
             sees: false,
             see: 0,
             at: 0,
-            coordinates: [0; 16],
+            coordinates: [0; NUMBERS],
         }
     }
 }
 
 // The numbers of the stored entries.
-pub fn numbers(c: Catalogue) -> [u32; 256]
+pub fn numbers(c: Catalogue) -> [u32; Catalogue::MOST_ENTRIES]
     ensures { λ r. ⌜ r ≡ map (λ e. e .number) (c .entries) ⌝ }
 {
-    let mut numbers = [0u32; 256];
-    for k in 0..256 {
+    let mut numbers = [0u32; Catalogue::MOST_ENTRIES];
+    for k in 0..Catalogue::MOST_ENTRIES {
         let e = c.entries[k];
         numbers[k] = e.number;
     }

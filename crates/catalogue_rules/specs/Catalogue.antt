@@ -1,18 +1,26 @@
 -- What a catalogue holds (document 01, "The catalogue"): entries, the limits of the form, and the outcome of reading.
 use mathlib.Core.List.{List, [], _∷_, _++_}
 use mathlib.Core.Option.{Option, none, some}
-use Prim.Native.Nat.{ℕ}
+use Prim.Native.Nat.{ℕ, _+_, _*_}
 use lib.IntN.{ℤ}
 use Rattle.lattices.specs.Vector.{Vec}
-use Rattle.lattices.specs.Refusal.{Input}
+use Rattle.lattices.specs.Refusal.{Input, mostVectors, mostCoordinates}
 
 -- R2.7: "The limits belong to the catalogue form: 256 entries, 18,436 bytes"; a coordinate's load is at most 40,000
 abbrev pub mostEntries : ℕ
 mostEntries = 256
 
--- R2.7
+-- R2.7, R6.8: d times m coordinates
+abbrev pub mostNumbers : ℕ
+mostNumbers = mostVectors * mostCoordinates
+
+-- R2.7, R6.8: of the largest entries a head, the coordinates and a see word each, then an end word
+abbrev pub mostWords : ℕ
+mostWords = mostEntries * (mostNumbers + 2) + 1
+
+-- R2.7: 18,436
 abbrev pub mostBytes : ℕ
-mostBytes = 18436
+mostBytes = mostWords * 4
 
 -- R6.4
 abbrev pub mostLoad : ℕ

@@ -1,9 +1,8 @@
 -- What is kept of the entries, and the closed list: which two are of one lattice, and the places of standing entries.
-pub mod Every
 pub mod ReducedEntry
-pub mod Alike
-pub mod OtherLattices
+pub mod SameLattice
 pub mod Places
 pub mod Standing
+pub mod OneEntry
 pub mod ReducedEntries
 pub mod Looking

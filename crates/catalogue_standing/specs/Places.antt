@@ -11,8 +11,8 @@ use lib.ListN.{length, getD, set, length-set}
 use lib.Seq.{getD-set-same, getD-set-other}
 use borrow.Author.Tests.{eq-eqb, ne-eqb}
 use Rattle.catalogue_standing.specs.declared.reduced_entry.ReducedEntry.{ReducedEntry}
-use Rattle.catalogue_standing.specs.Every.{below-next}
 use Rattle.catalogue_standing.specs.ReducedEntry.{noReduced, sameReduced}
+use Rattle.catalogue_rules.specs.Catalogue.{mostEntries}
 
 -- r is the first place below n of which a test speaks, and n where it speaks of none
 pub record First (f : ℕ → Bool) (n r : ℕ) : Type 0 where
@@ -33,7 +33,7 @@ module _ (list : List ReducedEntry) (places : List ℕ) (k j : ℕ) where
 
 -- the place of the standing entry of each of the first n entries
 pub record Closed (list : List ReducedEntry) (n : ℕ) (places : List ℕ) : Type 0 where
-  pub long : length places ≡ 256
+  pub long : length places ≡ mostEntries
   pub first : (k : ℕ) → k < n → First (stander list places k) k (getD places k 0)
 
 -- ---- found place by place
@@ -43,13 +43,17 @@ first-like {f} {g} {n} {r} same p = record { within = p .within; before = λ j h
 
 -- one place more is known
 pub before-more : (f : ℕ → Bool) (j : ℕ) → ((i : ℕ) → i < j → f i ≡ false) → f j ≡ false → (i : ℕ) → i < j + 1 → f i ≡ false
-before-more f = below-next (λ i. f i ≡ false)
+before-more f j h e i l = go (decLt i j)
+  where
+    go : Dec (i < j) → f i ≡ false
+    go (yes m) = h i m
+    go (no m) = let same : i ≡ j = omega arith in ap f same ∙ e
 
-pub closed-none : (list : List ReducedEntry) (places : List ℕ) → length places ≡ 256 → Closed list 0 places
+pub closed-none : (list : List ReducedEntry) (places : List ℕ) → length places ≡ mostEntries → Closed list 0 places
 closed-none list places long = record { long = long; first = λ k h. absurd (omega arith) }
 
 -- one entry more
-module _ {list : List ReducedEntry} {k : ℕ} {places : List ℕ} (c : Closed list k places) (few : k < 256) {r : ℕ} (found : First (stander list places k) k r) where
+module _ {list : List ReducedEntry} {k : ℕ} {places : List ℕ} (c : Closed list k places) (few : k < mostEntries) {r : ℕ} (found : First (stander list places k) k r) where
   abbrev after : List ℕ
   after = set places k r
 

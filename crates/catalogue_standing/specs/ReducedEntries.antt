@@ -7,7 +7,7 @@ use native.Mathlib.Decide.{decLt}
 use lib.ListN.{length, getD, set, length-set, length-replicate}
 use lib.Seq.{getD-set-same, getD-set-other}
 use Rattle.integers.specs.AllLaws.{getD-map}
-use Rattle.catalogue_rules.specs.Catalogue.{Outcome, refused, accepted}
+use Rattle.catalogue_rules.specs.Catalogue.{Outcome, refused, accepted, mostEntries}
 use Rattle.catalogue_rules.specs.Read.{read}
 use Rattle.catalogue_rules.specs.Form.{WellFormed}
 use Rattle.fold_rules.specs.Laws.SameLattice.{Sound, sound-entries}
@@ -19,19 +19,19 @@ use Rattle.catalogue_records.specs.Again.{few-read, formed}
 use Rattle.catalogue_records.specs.EntriesIn.{entryIn, entriesIn}
 use Rattle.catalogue_records.specs.Entries.{beyond, entryAt, length-entries, at-place, entry-has}
 use Rattle.catalogue_standing.specs.declared.reduced_entry.ReducedEntry.{ReducedEntry}
-use Rattle.catalogue_standing.specs.ReducedEntry.{reducedEntry, noReduced, Fair, kept-fair}
+use Rattle.catalogue_standing.specs.ReducedEntry.{reducedEntry, noReduced, Fair}
 use Rattle.catalogue_standing.specs.Places.{Closed}
 use Rattle.catalogue_standing.specs.Standing.{Held, Numbers}
 
 -- the first n entries are kept
 pub record HoldReduced (c : Catalogue) (n : ℕ) (list : List ReducedEntry) : Type 0 where
-  pub long : length list ≡ 256
+  pub long : length list ≡ mostEntries
   pub at : (k : ℕ) → k < n → getD list k noReduced ≡ reducedEntry (entryIn (entryAt c k))
 
-pub keeps-none : (c : Catalogue) (list : List ReducedEntry) → length list ≡ 256 → HoldReduced c 0 list
+pub keeps-none : (c : Catalogue) (list : List ReducedEntry) → length list ≡ mostEntries → HoldReduced c 0 list
 keeps-none c list long = record { long = long; at = λ k h. absurd (omega arith) }
 
-pub keeps-more : {c : Catalogue} {n : ℕ} {list : List ReducedEntry} {e : ReducedEntry} → HoldReduced c n list → n < 256 → e ≡ reducedEntry (entryIn (entryAt c n)) → HoldReduced c (n + 1) (set list n e)
+pub keeps-more : {c : Catalogue} {n : ℕ} {list : List ReducedEntry} {e : ReducedEntry} → HoldReduced c n list → n < mostEntries → e ≡ reducedEntry (entryIn (entryAt c n)) → HoldReduced c (n + 1) (set list n e)
 keeps-more {c} {n} {list} {e} p h q = record { long = length-set list n e ∙ p .long; at = λ k l. go k l (decLt k n) }
   where
     go : (k : ℕ) → k < n + 1 → Dec (k < n) → getD (set list n e) k noReduced ≡ reducedEntry (entryIn (entryAt c k))
@@ -43,13 +43,13 @@ keeps-more {c} {n} {list} {e} p h q = record { long = length-set list n e ∙ p 
 -- ---- a catalogue that was read
 
 pub record WasRead (c : Catalogue) : Type 0 where
-  pub long : length (c .entries) ≡ 256
-  pub few : c .count ≤ 256
+  pub long : length (c .entries) ≡ mostEntries
+  pub few : c .count ≤ mostEntries
   pub formed : WellFormed (entriesIn c)
 
-stored-long : (o : Outcome) → length (catalogueOf o .entries) ≡ 256
-stored-long (refused n p) = length-replicate 256 noEntry
-stored-long (accepted es) = length-filled noEntry 256 (map entryOf es)
+stored-long : (o : Outcome) → length (catalogueOf o .entries) ≡ mostEntries
+stored-long (refused n p) = length-replicate mostEntries noEntry
+stored-long (accepted es) = length-filled noEntry mostEntries (map entryOf es)
 
 pub ready : (bytes : List ℕ) {c : Catalogue} → c ≡ catalogueOf (read bytes) → c .refusal ≡ 0 → WasRead c
 ready bytes is e = record { long = ap (λ c. length (c .entries)) is ∙ stored-long (read bytes); few = few-read bytes is e; formed = formed bytes is e }
@@ -60,7 +60,7 @@ module _ (c : Catalogue) (r : WasRead c) where
 
   module _ {list : List ReducedEntry} (kept : HoldReduced c (c .count) list) where
     pub keeps-fair : (k : ℕ) → k < c .count → Fair (getD list k noReduced)
-    keeps-fair k h = subst Fair (sym (kept .at k h)) (kept-fair _ (entry-has c (r .long) (r .few) k h Sound (sound-entries (entriesIn c) (r .formed))))
+    keeps-fair k h = record { entry = entryIn (entryAt c k); sound = entry-has c (r .long) (r .few) k h Sound (sound-entries (entriesIn c) (r .formed)); is = kept .at k h }
 
     pub keeps-held : {places : List ℕ} → Closed list (c .count) places → Held (entriesIn c) (entryIn beyond) list places
     keeps-held {places} p = record {

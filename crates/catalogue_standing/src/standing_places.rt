@@ -3,43 +3,38 @@ ghost use Prim.Native.Nat.{ℕ, _≤_, _<_};
 ghost use lib.Dec.{eqb};
 ghost use lib.ListN.{length, getD};
 ghost use Rattle.catalogue_standing.specs.ReducedEntry.{noReduced, Fair};
-ghost use Rattle.catalogue_standing.specs.Places.{First, stander, Closed};
-use super::other_lattices::same_as;
-use super::other_lattices::volumes_without;
+ghost use Rattle.catalogue_standing.specs.Places.{First, Closed};
+ghost use Rattle.catalogue_rules.specs.Catalogue.{mostEntries};
 use super::reduced_entry::ReducedEntry;
+use super::same_lattice::lattices_of;
+use super::same_lattice::same;
+use catalogue_records::Catalogue;
 
-// The place of the first standing entry before k of the same lattice, else k. Only standing entries are compared.
-fn standing_of(list: [ReducedEntry; 256], standing: &[usize], k: usize) -> usize
-    requires { ⌜ k < 256 ⌝ }
-    requires { ⌜ k ≤ length (now standing) ⌝ }
-    requires { ⌜ ((j : ℕ) → j ≤ k → Fair (getD list j noReduced)) ⌝ }
-    ensures { λ r. ⌜ First (stander list (now (standing .entry)) k) k r ⌝ }
-{
-    let e = list[k];
-    let vectors = e.vectors;
-    let basis = row_operations::vectors_of(vectors);
-    let rests = volumes_without(basis, e.d);
-    let whole = input_checks::volume(basis, e.d);
-    for j in 0..k {
-        if standing[j] == j {
-            let f = list[j];
-            if same_as(f, e, rests, whole) {
-                return j;
-            }
-        }
-    }
-    k
-}
-
-// The places of the standing entries of the first count entries.
-pub fn closed(list: [ReducedEntry; 256], count: usize) -> [usize; 256]
-    requires { ⌜ count ≤ 256 ⌝ }
+// The places of the standing entries of the first count entries: for each the first standing entry before it of the same lattice, else its own.
+// Both loops stand here, where the arrays are: lent arrays of structs are not covered, and by value each call would copy them.
+pub fn closed(
+    list: [ReducedEntry; Catalogue::MOST_ENTRIES],
+    count: usize,
+) -> [usize; Catalogue::MOST_ENTRIES]
+    requires { ⌜ count ≤ mostEntries ⌝ }
     requires { ⌜ ((j : ℕ) → j < count → Fair (getD list j noReduced)) ⌝ }
     ensures { λ r. ⌜ Closed list count r ⌝ }
 {
-    let mut standing = [0; 256];
+    let lattices = lattices_of(list, count);
+    let mut standing = [0; Catalogue::MOST_ENTRIES];
     for k in 0..count {
-        standing[k] = standing_of(list, &standing, k);
+        let e = list[k];
+        let l = lattices[k];
+        let mut j = 0;
+        while j < k {
+            let f = list[j];
+            let g = lattices[j];
+            if standing[j] == j && same(f, e, g, l) {
+                break;
+            }
+            j += 1;
+        }
+        standing[k] = j;
     }
     standing
 }

@@ -17,7 +17,7 @@ use Rattle.integers.specs.Size.{size-add, fits-within}
 use Rattle.integers.specs.Every.{any}
 use Rattle.input_checks.specs.Any.{beyond}
 use Rattle.catalogue_rules.specs.Word.{Word, encode}
-use Rattle.catalogue_rules.specs.Catalogue.{Entry, coordinates}
+use Rattle.catalogue_rules.specs.Catalogue.{Entry, coordinates, mostNumbers}
 use Rattle.catalogue_rules.specs.Write.{headWord, coordinateWord, seeWords, entryWords, encodedCoordinates}
 use Rattle.catalogue_rules.specs.Form.{EntryFits}
 use Rattle.catalogue_rules.specs.Laws.EntriesAccepted.{all-near}
@@ -60,7 +60,7 @@ pub basis-and-see : (e : Entry) → length (entryWords e) ≡ length (basisWords
 basis-and-see e = length-append (basisWords e) (seeWords (e .see))
 
 -- the words as the code writes them, n being d times m
-module _ (e : stored.Entry) (fits : EntryFits (entryIn e)) (long : length (e .coordinates) ≡ 16) where
+module _ (e : stored.Entry) (fits : EntryFits (entryIn e)) (long : length (e .coordinates) ≡ mostNumbers) where
   pub near : any beyond (take (e .d * e .m) (e .coordinates)) ≡ false
   near = subst (λ l. any beyond l ≡ false) (same e fits long) (all-near (e .m) (entryIn e .vectors) (fits .vectors))
 

@@ -15,6 +15,7 @@ use Rattle.catalogue_rules.specs.Laws.WrittenSize as sizes
 use Rattle.catalogue_records.specs.declared.Catalogue.{Catalogue}
 use Rattle.catalogue_records.specs.EntriesIn.{entryIn, entriesIn}
 use Rattle.catalogue_records.specs.Entries.{entryAt, beyond, length-entries, inside, at-place}
+use Rattle.catalogue_rules.specs.Catalogue.{mostEntries}
 
 abbrev pub upTo : Catalogue → ℕ → List Word
 upTo c k = entriesWords (take k (entriesIn c))
@@ -24,7 +25,7 @@ up-to-most c k =
     let es = entriesIn c in
     omega (arith, ap (λ l. length (entriesWords l)) (take-append-drop k es), ap length (entries-append (take k es) (drop k es)), length-append (upTo c k) (entriesWords (drop k es)))
 
-module _ (c : Catalogue) (long : length (c .entries) ≡ 256) (few : c .count ≤ 256) where
+module _ (c : Catalogue) (long : length (c .entries) ≡ mostEntries) (few : c .count ≤ mostEntries) where
   module _ (k : ℕ) (here : k < c .count) where
     pub up-to-next : upTo c k ++ entryWords (entryIn (entryAt c k)) ≡ upTo c (k + 1)
     up-to-next =

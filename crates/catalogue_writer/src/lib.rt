@@ -11,7 +11,7 @@ ghost use Rattle.input_checks.specs.Any.{beyond};
 ghost use Rattle.catalogue_rules.specs.Word.{head, see, end, encode};
 ghost use Rattle.catalogue_writer.specs.Over.{overWords};
 ghost use Rattle.catalogue_rules.specs.Write.{coordinateWord, seeWords, entryWords, entriesWords};
-ghost use Rattle.catalogue_rules.specs.Catalogue.{accepted};
+ghost use Rattle.catalogue_rules.specs.Catalogue.{accepted, mostEntries};
 ghost use Rattle.catalogue_rules.specs.Output.{output};
 ghost use Rattle.catalogue_rules.specs.Form.{EntryFits, WellFormed};
 ghost use Rattle.catalogue_rules.specs.Laws.ReadEntries.{SeeFits};
@@ -136,7 +136,7 @@ fn count_entry(e: Entry) -> usize
 
 // How many words the entries take.
 fn count_words(c: Catalogue) -> usize
-    requires { ⌜ c .count ≤ 256 ⌝ }
+    requires { ⌜ c .count ≤ mostEntries ⌝ }
     requires { ⌜ All EntryFits (entriesIn c) ⌝ }
     ensures { λ r. ⌜ r ≡ length (entriesWords (entriesIn c)) ⌝ }
 {
@@ -150,7 +150,7 @@ fn count_words(c: Catalogue) -> usize
 
 // The entries from the start on; the index after them.
 fn put_entries(c: Catalogue, out: &mut [u8]) -> usize
-    requires { ⌜ c .count ≤ 256 ⌝ }
+    requires { ⌜ c .count ≤ mostEntries ⌝ }
     requires { ⌜ All EntryFits (entriesIn c) ⌝ }
     requires { ⌜ All (λ e. SeeFits (e .see)) (entriesIn c) ⌝ }
     requires { ⌜ length (entriesWords (entriesIn c)) * 4 ≤ length (now out) ⌝ }
@@ -167,7 +167,7 @@ fn put_entries(c: Catalogue, out: &mut [u8]) -> usize
 
 // Writes the entries to the lent output, which stays as it is when it is too short for them.
 pub fn write_entries(c: Catalogue, out: &mut [u8]) -> Written
-    requires { ⌜ c .count ≤ 256 ⌝ }
+    requires { ⌜ c .count ≤ mostEntries ⌝ }
     requires { ⌜ WellFormed (entriesIn c) ⌝ }
     ensures { λ r. ⌜ r ≡ writtenOf (output (accepted (entriesIn c)) (now (out .entry))) ⌝ }
     ensures { λ _. ⌜ now (out .exit) ≡ output (accepted (entriesIn c)) (now (out .entry)) .lent ⌝ }

@@ -1,5 +1,7 @@
 -- What is proved about the definitions.
 pub mod State
+pub mod Products
+pub mod Limits
 pub mod Fine
 pub mod Room
 pub mod Pass
@@ -10,7 +12,7 @@ pub mod Few
 pub mod Answer
 pub mod Named
 pub mod Membership
+pub mod Members
 pub mod Tables
-pub mod Whole
 pub mod Repeat
-pub mod Loop
+pub mod Passing

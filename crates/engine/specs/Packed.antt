@@ -4,6 +4,7 @@ use Rattle.lattices.specs.Answer as Definition
 use Rattle.row_operations.specs.RowStructs.{vectorRow, tableRow}
 use Rattle.engine.specs.declared.Reduction.{Reduction}
 use Rattle.engine.specs.declared.NearestVector.{NearestVector}
+use Rattle.engine.specs.declared.lattice.MemberAnswer.{MemberAnswer}
 
 -- of a reduction
 abbrev pub packed : Definition.Reduction → Reduction
@@ -20,3 +21,7 @@ packed a = record {
 -- of a nearest vector
 abbrev pub packedNearest : Definition.Nearest → NearestVector
 packedNearest a = record { refusal = a .refusal; place = a .place; vector = a .vector; coefficients = a .coefficients; square = a .square }
+
+-- of a membership
+abbrev pub packedMembership : Definition.Membership → MemberAnswer
+packedMembership a = record { refusal = a .refusal; place = a .place; member = a .member }

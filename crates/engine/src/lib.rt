@@ -1,86 +1,85 @@
 // The lattice engine: greedy reduction with its tables, proved equal to the definition.
 ghost use mathlib.Core.Path.{_≡_};
-ghost use Prim.Native.Nat.{_+_, _-_, _≤_, _<_};
+ghost use Prim.Native.Nat.{ℕ, _+_, _-_, _≤_, _<_};
 ghost use mathlib.Core.List.{[]};
-ghost use lib.ListN.{getD, take};
-ghost use lib.Signed.{ltZ};
-ghost use Rattle.lattices.specs.Vector.{N};
-ghost use Rattle.row_operations.specs.Rows.{FourRows, rowsOf, workOf};
-ghost use Rattle.row_operations.specs.Order.{ShortRows};
-ghost use Rattle.engine.specs.Laws.State.{rowsIn, passRows, greedyPasses, reduced};
+ghost use lib.ListN.{length, take};
+ghost use Rattle.lattices.specs.Refusal.{firstOf, vectorChecks};
+ghost use Rattle.engine.specs.Laws.Begin.{first};
+ghost use Rattle.gram_matrix.specs.Tied.{Held, Tied, whole};
+ghost use Rattle.engine.specs.Laws.Tables.{Passable};
+ghost use Rattle.engine.specs.Laws.Repeat.{Reducible, Outcome};
+ghost use Rattle.engine.specs.Laws.Answer.{diagonalOf, finished};
+ghost use Rattle.gram_matrix.specs.Work.{tableIn};
+ghost use Rattle.engine.specs.Laws.State.{passRows};
 ghost use Rattle.engine.specs.Laws.Fine.{Fine};
 ghost use Rattle.engine.specs.Laws.Room.{PassReady};
 ghost use Rattle.engine.specs.Packed.{packed, packedNearest};
-ghost use Rattle.engine.specs.Laws.Answer.{finished};
 ghost use Rattle.successive_minima.specs.Laws.Digits.{Bounded};
 ghost use Rattle.nearest_of_four.specs.Near.{Near};
-ghost use Rattle.successive_minima.specs.Member.{isMember};
 ghost use Rattle.lattices.specs.Answer.{noReduction, reductionOf, noNearest, nearestOf};
-ghost use Rattle.engine.specs.Laws.Named.{named};
+ghost use Rattle.engine.specs.Laws.Named.{named, Answered};
+ghost use Rattle.nearest_of_three.specs.Formed.{GramOf};
+pub use lattice::MemberAnswer;
+pub use lattice::membership;
+
+pub mod lattice;
+
+use gram_matrix::Table;
+use gram_matrix::Work;
+use row_operations::Basis;
+use row_operations::TableRow;
+use row_operations::Vector;
+use row_operations::WIDTH;
 
 // Steps 4 and 5 for row k, the rows before it being reduced: the vector nearest to it in their lattice is subtracted from it.
-fn pass(b: &mut [[i64; 4]; 4], u: &mut [[i64; 4]; 4], v: &mut [[i64; 4]; 4], k: usize)
+// The search leaves the inner products of what is left, which are the new row of the Gram matrix.
+fn pass(g: &mut Table, b: &mut Basis, u: &mut Table, v: &mut Table, k: usize)
     requires { ⌜ k ≤ 3 ⌝ }
-    requires { ⌜ FourRows (now b) (now u) (now v) ⌝ }
-    requires { ⌜ PassReady k (rowsOf (now b) (now u) (now v)) ⌝ }
-    ensures { λ _. ⌜ FourRows (now (b .exit)) (now (u .exit)) (now (v .exit)) ⌝ }
-    ensures { λ _. ⌜ rowsOf (now (b .exit)) (now (u .exit)) (now (v .exit)) ≡ passRows k (rowsOf (now (b .entry)) (now (u .entry)) (now (v .entry))) ⌝ }
+    requires { ⌜ Held (now g) (now b) (now u) (now v) ⌝ }
+    requires { ⌜ Passable k (now g) (now b) (now u) (now v) ⌝ }
+    ensures { λ _. ⌜ Held (now (g .exit)) (now (b .exit)) (now (u .exit)) (now (v .exit)) ⌝ }
+    ensures { λ _. ⌜ ((p : Passable k (now (g .entry)) (now (b .entry)) (now (u .entry)) (now (v .entry))) → Tied (p .kind) (passRows k (p .rows)) (now (g .exit)) (now (b .exit)) (now (u .exit)) (now (v .exit))) ⌝ }
 {
-    let last = b[k];
-    let x = nearest_of_three::search(b, k, last);
-    row_operations::minus_rows(b, k, x);
-    row_operations::minus_rows(u, k, x);
-    row_operations::credit_rows(v, k, x);
-}
-
-// Step 6: is row k shorter than the row before it?
-fn shorter(b: &[[i64; 4]; 4], k: usize) -> bool
-    requires { ⌜ (0 < k) × (k ≤ 3) ⌝ }
-    requires { ⌜ ShortRows (now b) ⌝ }
-    ensures { λ r. ⌜ r ≡ ltZ (N (getD (now (b .entry)) k [])) (N (getD (now (b .entry)) (k - 1) [])) ⌝ }
-{
-    let last = b[k];
-    let other = b[k - 1];
-    row_operations::dot(last, last) < row_operations::dot(other, other)
+    let mut r = g[k];
+    let mut x = [0; 3];
+    nearest_of_three::among(g, k, &mut r, &mut x);
+    gram_matrix::lose_combination(b, u, v, k, &x);
+    gram_matrix::cross(g, k, &r, &x);
 }
 
 // Steps 1 to 6 for the first n rows, on one vector fewer at each call of itself. `before` counts the passes made so far.
-fn reduce_first(
-    vectors: [[i64; 4]; 4],
-    us: [[i64; 4]; 4],
-    vs: [[i64; 4]; 4],
-    n: usize,
-    before: u64,
-) -> row_operations::Work
+fn reduce_first(gram: Table, vectors: Basis, us: Table, vs: Table, n: usize, before: u64) -> Work
     requires { ⌜ n ≤ 4 ⌝ }
-    requires { ⌜ Fine n (rowsOf vectors us vs) ⌝ }
-    requires { ⌜ before + greedyPasses n (rowsOf vectors us vs) ≤ 1000000000000 ⌝ }
-    ensures { λ r. ⌜ r ≡ reduced n (workOf (rowsOf vectors us vs) before) ⌝ }
+    requires { ⌜ Reducible n before gram vectors us vs ⌝ }
+    ensures { λ r. ⌜ ((p : Reducible n before gram vectors us vs) → Outcome (p .kind) n before (p .rows) r) ⌝ }
 {
+    let mut g = gram;
     let mut b = vectors;
     let mut u = us;
     let mut v = vs;
     let mut passes = before;
     if n < 2 {
-        return row_operations::packed(&b, &u, &v, passes);
+        return gram_matrix::packed(&g, &b, &u, &v, passes);
     }
     loop {
-        row_operations::order(&mut b, &mut u, &mut v, n);
+        gram_matrix::order(&mut g, &mut b, &mut u, &mut v, n);
         // one vector is given back
         if 2 < n {
-            let f = reduce_first(b, u, v, n - 1, passes);
-            let first = f.vectors;
+            let f = reduce_first(g, b, u, v, n - 1, passes);
+            let first_g = f.gram;
+            let first_b = f.vectors;
             let first_u = f.u;
             let first_v = f.v;
-            row_operations::take_vectors(&mut b, first);
+            row_operations::take_table(&mut g, first_g);
+            row_operations::take_vectors(&mut b, first_b);
             row_operations::take_table(&mut u, first_u);
             row_operations::take_table(&mut v, first_v);
             passes = f.passes;
         }
-        pass(&mut b, &mut u, &mut v, n - 1);
+        pass(&mut g, &mut b, &mut u, &mut v, n - 1);
         passes += 1;
-        if !shorter(&b, n - 1) {
-            break row_operations::packed(&b, &u, &v, passes);
+        if !gram_matrix::shorter(&g, n - 1) {
+            break gram_matrix::packed(&g, &b, &u, &v, passes);
         }
     }
 }
@@ -111,38 +110,52 @@ fn refused(n: u64) -> Reduction
     }
 }
 
-// The answer from the finished work: V is written out by rows.
-fn finished(w: row_operations::Work) -> Reduction
-    requires { ⌜ Fine 0 (rowsIn w) ⌝ }
+// The numbers on the diagonal.
+fn diagonal(rows: [TableRow; 4]) -> [i64; 4]
+    ensures { λ r. ⌜ r ≡ diagonalOf (tableIn rows) ⌝ }
+{
+    let a = rows[0];
+    let b = rows[1];
+    let c = rows[2];
+    let d = rows[3];
+    let p = a.at;
+    let q = b.at;
+    let r = c.at;
+    let s = d.at;
+    [p[0], q[1], r[2], s[3]]
+}
+
+// The answer from the finished work: the squared lengths are the diagonal of the Gram matrix.
+fn finished(w: Work) -> Reduction
     ensures { λ r. ⌜ r ≡ finished w ⌝ }
 {
     let vectors = w.vectors;
     let u = w.u;
-    let vs = w.v;
-    let b = row_operations::vectors_of(vectors);
-    let v = row_operations::tables_of(vs);
+    let v = w.v;
+    let gram = w.gram;
     Reduction {
         refusal: 0,
         place: 0,
         vectors,
         u,
-        v: row_operations::table_rows(row_operations::transposed(v)),
-        squares: row_operations::squared_lengths(b),
+        v,
+        squares: diagonal(gram),
         passes: w.passes,
     }
 }
 
-// Reduction: d vectors of m coordinates each, vector by vector.
+// Reduction: d vectors of m coordinates each, vector by vector. The Gram matrix is formed once.
 pub fn reduce(numbers: &[i64], d: usize, m: usize) -> Reduction
     ensures { λ r. ⌜ r ≡ packed (reductionOf (record { numbers = now (numbers .entry); d = d; m = m; target = [] })) ⌝ }
 {
-    let number = input_checks::refusal(numbers, d, m);
+    let mut b = [[0; WIDTH]; 4];
+    let number = input_checks::checked(numbers, d, m, &mut b);
     if number != 0 {
         return refused(number);
     }
-    let b = input_checks::basis(numbers, d, m);
+    let g = gram_matrix::formed(&b, d);
     let e = row_operations::unit_table(d);
-    finished(reduce_first(b, e, e, d, 0))
+    finished(reduce_first(g, b, e, e, d, 0))
 }
 
 // The answer of a search for the nearest vector: the vector, its coefficients on the reduced basis, its squared distance from the target.
@@ -168,6 +181,17 @@ fn refused_nearest(n: u64) -> NearestVector
     }
 }
 
+// The greedy steps on an input that is accepted, with the Gram matrix that they leave.
+fn reduced(numbers: &[i64], d: usize, m: usize) -> Work
+    requires { ⌜ firstOf vectorChecks (record { numbers = now numbers; d = d; m = m; target = [] }) ≡ 0 ⌝ }
+    ensures { λ r. ⌜ ((e : firstOf vectorChecks (record { numbers = now (numbers .entry); d = d; m = m; target = [] }) ≡ 0) → Outcome whole d 0 (first (record { numbers = now (numbers .entry); d = d; m = m; target = [] }) e) r) ⌝ }
+{
+    let b = input_checks::basis(numbers, d, m);
+    let g = gram_matrix::formed(&b, d);
+    let e = row_operations::unit_table(d);
+    reduce_first(g, b, e, e, d, 0)
+}
+
 // The answer from the coefficients and what the nearest vector leaves of the target t.
 fn named(t: [i64; 4], x: [i64; 4], rest: [i64; 4]) -> NearestVector
     requires { ⌜ Bounded 20000 t ⌝ }
@@ -183,32 +207,42 @@ fn named(t: [i64; 4], x: [i64; 4], rest: [i64; 4]) -> NearestVector
     }
 }
 
-// Nearest: d vectors of m coordinates each, vector by vector, and a target of m coordinates. The basis is reduced first.
+// The vector nearest to t in the lattice of the first d vectors of b, found on their Gram matrix g.
+fn searched(g: &Table, b: &Basis, d: usize, t: Vector) -> NearestVector
+    requires { ⌜ d ≤ 4 ⌝ }
+    requires { ⌜ length (now b) ≡ 4 ⌝ }
+    requires { ⌜ Near d (now b) t ⌝ }
+    requires { ⌜ GramOf (take d (now b)) (now g) ⌝ }
+    ensures { λ r. ⌜ Answered d (now (b .entry)) t r ⌝ }
+{
+    let mut r = [0; 4];
+    nearest_of_three::products(b, d, t, &mut r);
+    let n = row_operations::dot(t, t);
+    let mut x = [0; 4];
+    nearest_of_four::among(g, d, n, &mut r, &mut x);
+    let mut rest = t;
+    nearest_of_four::take_all(b, d, x, &mut rest);
+    named(t, x, rest)
+}
+
+// Nearest: d vectors of m coordinates each, vector by vector, and a target of m coordinates. The basis is reduced first, and the search goes
+// on the Gram matrix that the reduction leaves.
 pub fn nearest(numbers: &[i64], d: usize, m: usize, target: &[i64]) -> NearestVector
     ensures { λ r. ⌜ r ≡ packedNearest (nearestOf (record { numbers = now (numbers .entry); d = d; m = m; target = now (target .entry) })) ⌝ }
 {
-    let r = reduce(numbers, d, m);
-    if r.refusal != 0 {
-        return refused_nearest(r.refusal);
+    let number = input_checks::refusal(numbers, d, m);
+    if number != 0 {
+        return refused_nearest(number);
     }
     let n = input_checks::target_refusal(target, m);
     if n != 0 {
         return refused_nearest(n);
     }
-    let vectors = r.vectors;
+    let w = reduced(numbers, d, m);
+    let vectors = w.vectors;
+    let gram = w.gram;
     let b = row_operations::vectors_of(vectors);
+    let g = row_operations::tables_of(gram);
     let t = input_checks::vector(target, 0, m);
-    let c = nearest_of_four::closest(b, d, t);
-    let x = c.list;
-    let rest = c.rest;
-    named(t, x, rest)
-}
-
-// Membership: whether v is in the lattice of the first d vectors, which are reduced already, so that many vectors can be tested on one basis.
-pub fn member(b: [[i64; 4]; 4], d: usize, v: [i64; 4]) -> bool
-    requires { ⌜ d ≤ 4 ⌝ }
-    requires { ⌜ Near d b v ⌝ }
-    ensures { λ r. ⌜ r ≡ isMember (take d b) v ⌝ }
-{
-    nearest_of_four::member(b, d, v)
+    searched(&g, &b, d, t)
 }

@@ -6,7 +6,6 @@ pub mod FoldedForm
 pub mod Printing
 pub mod Again
 pub mod Deciding
-pub mod Multiples
 pub mod Adding
 pub mod Searching
 pub mod ListingSize

@@ -34,24 +34,6 @@ pub minors-cons : (b : Vec) (bs : List Vec) → minors (b ∷ bs) ≡ wedged b (
 unfolding minors wedged
 minors-cons b bs = refl
 
--- ---- multiples
-
-⊙-append : (k : ℤ) (u v : List ℤ) → k ⊙ (u ++ v) ≡ (k ⊙ u) ++ (k ⊙ v)
-unfolding _⊙_
-⊙-append k [] v = refl
-⊙-append k (x ∷ u) v = ap (λ l. (k *ℤ x) ∷ l) (⊙-append k u v)
-
-entries-multiple : (n : ℕ) (k : ℤ) (ω η : Form) → ((s : Index) → η s ≡ k *ℤ ω s) → entries n η ≡ k ⊙ entries n ω
-unfolding _⊙_
-entries-multiple zero k ω η p = ap (λ x. x ∷ []) (p [])
-entries-multiple (suc n) k ω η p =
-    ap₂ _++_ (entries-multiple n k (half false ω) (half false η) (λ s. p (false ∷ s))) (entries-multiple n k (half true ω) (half true η) (λ s. p (true ∷ s)))
-    ∙ sym (⊙-append k (entries n (half false ω)) (entries n (half true ω)))
-
-pub wedged-multiple : (k : ℤ) (v : Vec) (cs bs : List Vec) → ((s : Index) → wedge v (volume cs) s ≡ k *ℤ volume bs s) → wedged v (minors cs) ≡ k ⊙ minors bs
-unfolding minors wedged
-wedged-multiple k v cs bs p = entries-multiple 4 k (volume bs) (wedge v (volume cs)) p
-
 -- ---- sizes
 
 pub short-within : (v : Vec) → N v ≤ℤ pos 400000000 → (i : ℕ) → Within 20000 (nth v i)
@@ -110,38 +92,3 @@ pub is-nonzero : (x : ℤ) → x ≢ pos 0 → nonzero x ≡ true
 is-nonzero (pos zero) f = absurd (f refl)
 is-nonzero (pos (suc n)) f = refl
 is-nonzero (negsuc n) f = refl
-
-square-test : (x : ℤ) → leZ (x *ℤ x) (pos 0) ≡ not (nonzero x || false)
-square-test (pos zero) = refl
-square-test (pos (suc n)) = lt-leb (suc n * suc n) 0 (omega arith)
-square-test (negsuc n) = lt-leb (suc n * suc n) 0 (omega arith)
-
-sum-test : (x y : ℤ) → NN x → NN y → leZ (x +ℤ y) (pos 0) ≡ (leZ x (pos 0) && leZ y (pos 0))
-sum-test (pos zero) (pos n) h k = let e : 0 + n ≡ n = omega arith in ap (λ z. leb z 0) e
-sum-test (pos (suc m)) (pos n) h k = lt-leb (suc m + n) 0 (omega arith) ∙ sym (ap (λ t. t && leb n 0) (lt-leb (suc m) 0 (omega arith)))
-sum-test (pos m) (negsuc n) h k = absurd (k .le)
-sum-test (negsuc m) y h k = absurd (h .le)
-
-de-morgan : (s t : Bool) → (not s && not t) ≡ not (s || t)
-de-morgan true t = refl
-de-morgan false t = refl
-
-any-append : (f : ℤ → Bool) (u v : List ℤ) → any f (u ++ v) ≡ (any f u || any f v)
-any-append f [] v = refl
-any-append f (x ∷ u) v = ap (λ t. f x || t) (any-append f u v) ∙ or-assoc (f x) (any f u) (any f v)
-  where
-    or-assoc : (r s t : Bool) → (r || (s || t)) ≡ ((r || s) || t)
-    or-assoc true s t = refl
-    or-assoc false s t = refl
-
-zero-test : (n : ℕ) (ω : Form) → leZ (inner n ω ω) (pos 0) ≡ not (any nonzero (entries n ω))
-zero-test zero ω = square-test (ω [])
-zero-test (suc n) ω =
-    sum-test (inner n (half false ω) (half false ω)) (inner n (half true ω) (half true ω)) (inner-nonneg n (half false ω)) (inner-nonneg n (half true ω))
-    ∙ ap₂ _&&_ (zero-test n (half false ω)) (zero-test n (half true ω))
-    ∙ de-morgan (any nonzero (entries n (half false ω))) (any nonzero (entries n (half true ω)))
-    ∙ ap not (sym (any-append nonzero (entries n (half false ω)) (entries n (half true ω))))
-
-pub dependent-test : (bs : List Vec) → isDependent 4 bs ≡ not (any nonzero (minors bs))
-unfolding isDependent squaredVolume minors
-dependent-test bs = zero-test 4 (volume bs)

@@ -13,12 +13,17 @@ ghost use Rattle.integers.specs.Every.{any};
 ghost use Rattle.lattices.specs.Answer.{padded, table};
 ghost use Rattle.input_checks.specs.Any.{beyond};
 ghost use Rattle.input_checks.specs.Minors.{wedged};
-ghost use Rattle.input_checks.specs.Volumes.{minors, nonzero};
+ghost use Rattle.input_checks.specs.Volumes.{minors};
+use minors::first_minor;
+use row_operations::Basis;
+use row_operations::WIDTH;
+
+pub mod minors;
 
 // How many vectors and coordinates an input may have.
-const MOST_VECTORS: usize = 4;
+pub const MOST_VECTORS: usize = 4;
 
-const MOST_COORDINATES: usize = 4;
+pub const MOST_COORDINATES: usize = row_operations::WIDTH;
 
 // No refusal applies.
 const ACCEPTED: u64 = 0;
@@ -26,7 +31,7 @@ const ACCEPTED: u64 = 0;
 // The limits of a coordinate's size and of a squared length.
 const MOST_SIZE: i64 = 20000;
 
-const MOST_SQUARE: i64 = 400000000;
+pub const MOST_SQUARE: i64 = 400000000;
 
 // The m numbers from `at` on as a vector of the array: zeros follow.
 pub fn vector(numbers: &[i64], at: usize, m: usize) -> [i64; 4]
@@ -41,17 +46,28 @@ pub fn vector(numbers: &[i64], at: usize, m: usize) -> [i64; 4]
     v
 }
 
-// d vectors of m coordinates each; zeros elsewhere.
-pub fn basis(numbers: &[i64], d: usize, m: usize) -> [[i64; 4]; 4]
+// d vectors of m coordinates each, to where there are zeros.
+fn fill(numbers: &[i64], d: usize, m: usize, b: &mut Basis)
+    requires { ⌜ d ≤ 4 ⌝ }
+    requires { ⌜ m ≤ 4 ⌝ }
+    requires { ⌜ length (now numbers) ≡ d * m ⌝ }
+    requires { ⌜ now b ≡ table 4 4 [] ⌝ }
+    ensures { λ _. ⌜ now (b .exit) ≡ table 4 4 (vectorsOf d m (now (numbers .entry))) ⌝ }
+{
+    for i in 0..d {
+        b[i] = vector(numbers, i * m, m);
+    }
+}
+
+// The same as an array; zeros elsewhere.
+pub fn basis(numbers: &[i64], d: usize, m: usize) -> Basis
     requires { ⌜ d ≤ 4 ⌝ }
     requires { ⌜ m ≤ 4 ⌝ }
     requires { ⌜ length (now numbers) ≡ d * m ⌝ }
     ensures { λ r. ⌜ r ≡ table 4 4 (vectorsOf d m (now (numbers .entry))) ⌝ }
 {
-    let mut b = [[0; 4]; 4];
-    for i in 0..d {
-        b[i] = vector(numbers, i * m, m);
-    }
+    let mut b = [[0; WIDTH]; 4];
+    fill(numbers, d, m, &mut b);
     b
 }
 
@@ -157,25 +173,14 @@ pub fn volume(b: [[i64; 4]; 4], d: usize) -> [i64; 16]
     w
 }
 
-// Whether some entry of a form is not zero.
-fn any_nonzero(w: [i64; 16]) -> bool
-    ensures { λ r. ⌜ r ≡ any nonzero w ⌝ }
-{
-    for s in 0..16 {
-        if w[s] != 0 {
-            return true;
-        }
-    }
-    false
-}
-
-// Whether the first d vectors, within the length limit, are dependent: their volume is zero.
+// Whether the first d vectors, within the length limit, are dependent: no minor is other than zero.
 pub fn dependent(b: [[i64; 4]; 4], d: usize) -> bool
     requires { ⌜ d ≤ 4 ⌝ }
     requires { ⌜ ((i : ℕ) → i < d → N (getD b i []) ≤ℤ pos 400000000) ⌝ }
     ensures { λ r. ⌜ r ≡ isDependent 4 (take d b) ⌝ }
 {
-    !any_nonzero(volume(b, d))
+    let m = first_minor(b, d);
+    m.minor == 0
 }
 
 // Whether a count is from 1 to the most that is allowed.
@@ -185,9 +190,12 @@ pub fn one_to(most: usize, n: usize) -> bool
     1 <= n && n <= most
 }
 
-// The first refusal that applies to d vectors of m coordinates, and 0 for none. The counts come first: then d * m cannot overflow.
-pub fn refusal(numbers: &[i64], d: usize, m: usize) -> u64
+// The first refusal that applies to d vectors of m coordinates, and 0 for none; then b holds them. The counts come first: then d * m cannot
+// overflow.
+pub fn checked(numbers: &[i64], d: usize, m: usize, b: &mut Basis) -> u64
+    requires { ⌜ now b ≡ table 4 4 [] ⌝ }
     ensures { λ r. ⌜ r ≡ firstOf vectorChecks (record { numbers = now (numbers .entry); d = d; m = m; target = [] }) ⌝ }
+    ensures { λ r. ⌜ (r ≡ 0 → now (b .exit) ≡ table 4 4 (vectorsOf d m (now (numbers .entry)))) ⌝ }
 {
     if !one_to(MOST_VECTORS, d) {
         return 1;
@@ -198,14 +206,22 @@ pub fn refusal(numbers: &[i64], d: usize, m: usize) -> u64
     if numbers.len() != d * m {
         return 3;
     }
-    let b = basis(numbers, d, m);
-    if any_long(b, d) {
+    fill(numbers, d, m, b);
+    if any_long(*b, d) {
         return 4;
     }
-    if dependent(b, d) {
+    if dependent(*b, d) {
         return 5;
     }
     ACCEPTED
+}
+
+// The refusal alone.
+pub fn refusal(numbers: &[i64], d: usize, m: usize) -> u64
+    ensures { λ r. ⌜ r ≡ firstOf vectorChecks (record { numbers = now (numbers .entry); d = d; m = m; target = [] }) ⌝ }
+{
+    let mut b = [[0; WIDTH]; 4];
+    checked(numbers, d, m, &mut b)
 }
 
 // The first refusal that applies to a target of vectors of m coordinates, and 0 for none.

@@ -9,7 +9,6 @@ use lib.IntN.{ℤ, pos, natAbs}
 use lib.ListN.{length, getD, take}
 use lib.Signed.{_≤ℤ_, remZ, quotZ}
 use Rattle.integers.specs.Size.{Within}
-use Rattle.integers.specs.Filled.{filled}
 use Rattle.lattices.specs.Vector.{Vec, N, nth, dot}
 use Rattle.lattices.specs.Volume.{Index, volume}
 use Rattle.lattices.specs.Answer.{padded}
@@ -21,9 +20,8 @@ use Rattle.exterior_algebra.specs.Sizes.{Short}
 use Rattle.successive_minima.specs.Reduced.{Reduced}
 use Rattle.input_checks.specs.Volumes.{nonzero}
 use Rattle.row_operations.specs.RowStructs.{tableRow}
-use Rattle.lattice_membership.specs.declared.Minor.{Minor}
 use Rattle.lattice_membership.specs.declared.Lattice.{Lattice}
-use Rattle.lattice_membership.specs.Choice.{choice, places}
+use Rattle.input_checks.specs.Choice.{places}
 
 -- the first d vectors of b, as a reduction leaves them
 pub record ReducedBasis (d : ℕ) (b : List Vec) : Type 0 where
@@ -31,14 +29,6 @@ pub record ReducedBasis (d : ℕ) (b : List Vec) : Type 0 where
   pub reduced : Reduced (take d b)
   pub short : (i : ℕ) → i < d → N (getD b i []) ≤ℤ pos 400000000
   pub fit : Fit mostCoordinates (take d b)
-
--- the first choice, by number, at which the minor of bs is not zero, and that minor
-pub record FirstMinor (bs : List Vec) (m : Minor) : Type 0 where
-  pub number : ℕ
-  pub at : m .at ≡ filled 0 mostCoordinates (places 0 (choice mostCoordinates number))
-  pub minor : m .minor ≡ volume bs (choice mostCoordinates number)
-  pub nonzero : volume bs (choice mostCoordinates number) ≢ pos 0
-  pub before : (k : ℕ) → k < number → volume bs (choice mostCoordinates k) ≡ pos 0
 
 -- ---- a lattice
 
@@ -64,7 +54,7 @@ pub record Known (l : Lattice) : Type 0 where
   pub index : Index
   pub wide : length index ≡ mostCoordinates
   pub count : marks index ≡ l .d
-  pub chosen : l .choice ≡ filled 0 mostCoordinates (places 0 index)
+  pub chosen : take (l .d) (l .choice) ≡ places 0 index
   pub at-index : l .minor ≡ volume (vectorsIn l) index
   pub nonzero : l .minor ≢ pos 0
   pub rows : (j : ℕ) → j < l .d → Cofactors (vectorsIn l) index j (rowIn l j)

@@ -1,6 +1,6 @@
 -- What the proofs of the functions use.
-pub mod Choices
 pub mod Minor
 pub mod Made
+pub mod Accepted
 pub mod Members
 pub mod Cofactors

@@ -4,33 +4,29 @@ ghost use mathlib.Core.Path.{_≡_};
 ghost use mathlib.Core.Logic.{_≢_};
 ghost use mathlib.Core.Bool.{not};
 ghost use mathlib.Core.List.{[], map};
-ghost use Prim.Native.Nat.{ℕ, _≤_, _<_};
+ghost use Prim.Native.Nat.{ℕ, _*_, _≤_, _<_};
 ghost use lib.IntN.{pos};
-ghost use lib.ListN.{getD, take};
+ghost use lib.ListN.{length, getD, take};
 ghost use lib.Signed.{_≤ℤ_};
+ghost use Rattle.integers.specs.All.{All};
 ghost use Rattle.integers.specs.Every.{any, every};
-ghost use Rattle.integers.specs.Filled.{filled};
 ghost use Rattle.integers.specs.Size.{Within};
 ghost use Rattle.lattices.specs.Vector.{N, nth, dot};
-ghost use Rattle.lattices.specs.Volume.{volume};
-ghost use Rattle.lattices.specs.Refusal.{mostVectors, mostCoordinates};
-ghost use Rattle.exterior_algebra.specs.Minors.{marks};
+ghost use Rattle.lattices.specs.Refusal.{mostVectors, mostCoordinates, vectorsOf};
+ghost use Rattle.lattices.specs.Answer.{padded};
 ghost use Rattle.input_checks.specs.Volumes.{nonzero};
 ghost use Rattle.successive_minima.specs.Member.{isMember};
 ghost use Rattle.row_operations.specs.RowStructs.{vectorRow};
-ghost use Rattle.lattice_membership.specs.Choice.{choice, places, firsts, firstPlace, coordinates};
+ghost use Rattle.lattice_membership.specs.Coordinates.{coordinates};
 ghost use Rattle.lattice_membership.specs.Cofactor.{without, others, missingPlace, cofactor, cofactors, cofactorRows};
-ghost use Rattle.lattice_membership.specs.Known.{ReducedBasis, FirstMinor, Known, vectorsIn, isWhole};
+ghost use Rattle.lattice_membership.specs.Known.{ReducedBasis, Known, vectorsIn, isWhole};
 use row_operations::Vector;
 use row_operations::WIDTH;
 
 // No coefficient of a vector within the length limit is larger, on a reduced basis.
 const MOST_TIMES: i64 = 1080000;
 
-// Among the entries of a volume over four coordinates: the place of the choice that takes the first d of them.
-const FIRST: [usize; 5] = [0, 8, 12, 14, 15];
-
-// The same for the first d of them but one.
+// Among the entries of a volume over four coordinates: the places of the choices that take the first d of them but one.
 const MISSING: [[usize; 4]; 5] = [
     [0, 0, 0, 0],
     [0, 0, 0, 0],
@@ -38,29 +34,6 @@ const MISSING: [[usize; 4]; 5] = [
     [6, 10, 12, 0],
     [7, 11, 13, 14],
 ];
-
-// A choice among the coordinates: how many are taken, and which, in increasing order.
-struct Choice {
-    pub count: usize,
-    pub at: [usize; WIDTH],
-}
-
-// The choice that takes a coordinate where the number has a bit, the lowest bit for the first coordinate.
-fn choice_of(number: usize) -> Choice
-    ensures { λ r. ⌜ (r .count ≡ marks (choice mostCoordinates number)) × (r .at ≡ filled 0 mostCoordinates (places 0 (choice mostCoordinates number))) ⌝ }
-{
-    let mut at = [0; WIDTH];
-    let mut count = 0;
-    let mut rest = number;
-    for k in 0..WIDTH {
-        if rest % 2 == 1 {
-            at[count] = k;
-            count += 1;
-        }
-        rest = rest / 2;
-    }
-    Choice { count, at }
-}
 
 // The coordinates of v at the first d places of a choice.
 fn pick(v: Vector, at: [usize; WIDTH], d: usize) -> [i64; 4]
@@ -87,62 +60,6 @@ fn picked(b: [Vector; 4], at: [usize; WIDTH], d: usize) -> [[i64; 4]; 4]
         pick(b[2], at, d),
         pick(b[3], at, d),
     ]
-}
-
-// Where the volume of d vectors has the determinant of their first d coordinates.
-fn first_place(d: usize) -> usize
-    requires { ⌜ d ≤ mostVectors ⌝ }
-    ensures { λ r. ⌜ (r ≡ firstPlace d) × (r < 16) ⌝ }
-{
-    FIRST[d]
-}
-
-// The determinant of the first d coordinates of the first d vectors.
-fn determinant(t: [[i64; 4]; 4], d: usize) -> i64
-    requires { ⌜ d ≤ mostVectors ⌝ }
-    requires { ⌜ ((i : ℕ) → i < d → N (getD t i []) ≤ℤ pos 400000000) ⌝ }
-    ensures { λ r. ⌜ r ≡ volume (take d t) (firsts 4 d) ⌝ }
-{
-    let w = input_checks::volume(t, d);
-    let place = first_place(d);
-    w[place]
-}
-
-// A choice of coordinates and the minor there.
-struct Minor {
-    pub at: [usize; WIDTH],
-    pub minor: i64,
-}
-
-// The minor of d vectors at the choice with that number: 0 where the choice takes more or fewer coordinates than there are vectors.
-fn minor_at(b: [Vector; 4], d: usize, number: usize) -> Minor
-    requires { ⌜ ReducedBasis d b ⌝ }
-    ensures { λ r. ⌜ (r .minor ≡ volume (take d b) (choice mostCoordinates number)) × (r .at ≡ filled 0 mostCoordinates (places 0 (choice mostCoordinates number))) ⌝ }
-{
-    let c = choice_of(number);
-    let at = c.at;
-    if c.count != d {
-        return Minor { at, minor: 0 };
-    }
-    Minor {
-        at,
-        minor: determinant(picked(b, at, d), d),
-    }
-}
-
-// The first minor that is not zero.
-fn first_minor(b: [Vector; 4], d: usize) -> Minor
-    requires { ⌜ ReducedBasis d b ⌝ }
-    ensures { λ r. ⌜ FirstMinor (take d b) r ⌝ }
-{
-    let mut number = 0;
-    loop {
-        let m = minor_at(b, d, number);
-        if m.minor != 0 {
-            break m;
-        }
-        number += 1;
-    }
 }
 
 // Row i of those that are left without row j.
@@ -246,7 +163,7 @@ pub fn lattice_of(b: [Vector; 4], d: usize) -> Lattice
     ensures { λ r. ⌜ Known r ⌝ }
     ensures { λ r. ⌜ (r .d ≡ d) × (vectorsIn r ≡ take d b) ⌝ }
 {
-    let m = first_minor(b, d);
+    let m = input_checks::minors::first_minor(b, d);
     let at = m.at;
     Lattice {
         d,
@@ -334,4 +251,25 @@ pub fn holds_all(l: Lattice, vectors: [Vector; 4], count: usize) -> bool
         }
     }
     true
+}
+
+// Whether a lattice holds another: its vectors are all in it.
+pub fn holds_lattice(l: Lattice, other: Lattice) -> bool
+    requires { ⌜ (Known l) × (Known other) ⌝ }
+    ensures { λ r. ⌜ r ≡ every (isMember (vectorsIn l)) (vectorsIn other) ⌝ }
+{
+    let vectors = other.vectors;
+    holds_all(l, row_operations::vectors_of(vectors), other.d)
+}
+
+// Whether d vectors of m coordinates each, vector by vector, are all in the lattice.
+pub fn holds_numbers(l: Lattice, numbers: &[i64], d: usize, m: usize) -> bool
+    requires { ⌜ Known l ⌝ }
+    requires { ⌜ (d ≤ mostVectors) × (m ≤ mostCoordinates) ⌝ }
+    requires { ⌜ length (now numbers) ≡ d * m ⌝ }
+    requires { ⌜ All (λ v. N v ≤ℤ pos 400000000) (vectorsOf d m (now numbers)) ⌝ }
+    ensures { λ r. ⌜ r ≡ every (isMember (vectorsIn l)) (map (padded mostCoordinates) (vectorsOf d m (now (numbers .entry)))) ⌝ }
+{
+    let b = input_checks::basis(numbers, d, m);
+    holds_all(l, b, d)
 }

@@ -9,6 +9,7 @@ use lib.Seq.{take-nil}
 use mir.Syntax.{w64}
 use mir.Val.{SFits}
 use Rattle.integers.specs.Size.{Within, within-add, within-mul, within-le, fits-within}
+use Rattle.lattices.specs.Refusal.{mostCoordinates}
 use Rattle.lattices.specs.Vector.{nth, dot}
 use Rattle.lattices.specs.Laws.Vector.{dot-nil}
 
@@ -32,7 +33,7 @@ pub record DotTurn (a b : List ℤ) (i : ℕ) : Type 0 where
   pub sum : SFits w64 (dot (take i a) (take i b))
   pub next : SFits w64 (dot (take i a) (take i b) +ℤ nth a i *ℤ nth b i)
 
-pub dot-turn : (a b : List ℤ) → ((k : ℕ) → Within 100000 (nth a k)) → ((k : ℕ) → Within 100000 (nth b k)) → (i : ℕ) → i ≤ 4 → DotTurn a b i
+pub dot-turn : (a b : List ℤ) → ((k : ℕ) → Within 100000 (nth a k)) → ((k : ℕ) → Within 100000 (nth b k)) → (i : ℕ) → i ≤ mostCoordinates → DotTurn a b i
 dot-turn a b f g i h = record {
   left = fits-within (f i) tt;
   right = fits-within (g i) tt;
@@ -44,5 +45,5 @@ dot-turn a b f g i h = record {
     product : Within (100000 * 100000) (nth a i *ℤ nth b i)
     product = within-mul (f i) (g i)
 
-    sum : Within (4 * (100000 * 100000)) (dot (take i a) (take i b))
+    sum : Within (mostCoordinates * (100000 * 100000)) (dot (take i a) (take i b))
     sum = within-le (omega arith) (dot-within i a b f g)

@@ -6,5 +6,3 @@ pub mod Front
 pub mod Packing
 pub mod Minus
 pub mod Loss
-pub mod Gain
-pub mod Order

@@ -1,4 +1,4 @@
--- The rows of the work as three tables, one after the other: vectors, rows of U and columns of V.
+-- Rows as three tables: vectors, rows of U and columns of V.
 use mathlib.Core.Path.{_≡_, refl, sym, ap, _∙_}
 use mathlib.Core.List.{List, [], _∷_, map, map-map}
 use Prim.Native.Nat.{ℕ, zero, suc}
@@ -7,8 +7,6 @@ use lib.IntN.{ℤ}
 use lib.ListN.{length, getD, set, take, drop, length-map}
 use Rattle.lattices.specs.Vector.{nth, _⊕_, _⊙_}
 use Rattle.lattices.specs.Greedy.{Row, credited}
-use Rattle.row_operations.specs.declared.Work.{Work}
-use Rattle.row_operations.specs.RowStructs.{vectorRow, tableRow}
 
 -- row i has vector b[i], row u[i] of U and column v[i] of V; as many rows as the shortest of the three lists has
 unfoldable pub rowsOf : List (List ℤ) → List (List ℤ) → List (List ℤ) → List Row
@@ -16,15 +14,6 @@ rowsOf [] us vs = []
 rowsOf (b ∷ bs) [] vs = []
 rowsOf (b ∷ bs) (u ∷ us) [] = []
 rowsOf (b ∷ bs) (u ∷ us) (v ∷ vs) = record { vector = b; u = u; v = v } ∷ rowsOf bs us vs
-
--- the rows packed, with the count of passes
-abbrev pub workOf : List Row → ℕ → Work
-workOf rows n = record {
-  vectors = map (λ r. vectorRow (r .vector)) rows;
-  u = map (λ r. tableRow (r .u)) rows;
-  v = map (λ r. tableRow (r .v)) rows;
-  passes = n;
-}
 
 -- `credited` on the columns alone: column j gains x_j times v
 unfoldable pub gained : List ℤ → List ℤ → List (List ℤ) → List (List ℤ)
@@ -35,12 +24,6 @@ gained (x ∷ xs) v (r ∷ t) = (r ⊕ x ⊙ v) ∷ gained xs v t
 -- the table whose row i holds entry i of every row
 unfoldable pub transposed : List (List ℤ) → List (List ℤ)
 transposed t = map (λ i. map (λ r. nth r i) t) (0 ∷ 1 ∷ 2 ∷ 3 ∷ [])
-
--- three tables of four rows
-pub record FourRows (bs us vs : List (List ℤ)) : Type 0 where
-  pub vectors : length bs ≡ 4
-  pub u : length us ≡ 4
-  pub v : length vs ≡ 4
 
 -- ---- the three tables of rows, and the rows of three tables
 
@@ -60,55 +43,10 @@ rowsOf-tables (b ∷ bs) (u ∷ us) (v ∷ vs) e f =
     let t = rowsOf-tables bs us vs (omega arith) (omega arith) in
     record { vectors = ap (λ l. b ∷ l) (t .vectors); u = ap (λ l. u ∷ l) (t .u); v = ap (λ l. v ∷ l) (t .v) }
 
-pub four-rows : {bs us vs : List (List ℤ)} → FourRows bs us vs → length (rowsOf bs us vs) ≡ 4
-four-rows {bs} {us} {vs} f =
-    sym (length-map (rowsOf bs us vs) (λ r. r .vector))
-    ∙ ap length (rowsOf-tables bs us vs (f .u ∙ sym (f .vectors)) (f .v ∙ sym (f .vectors)) .vectors)
-    ∙ f .vectors
-
 pub rowsOf-parts : (rows : List Row) → rowsOf (map (λ r. r .vector) rows) (map (λ r. r .u) rows) (map (λ r. r .v) rows) ≡ rows
 unfolding rowsOf
 rowsOf-parts [] = refl
 rowsOf-parts (r ∷ rows) = ap (λ l. r ∷ l) (rowsOf-parts rows)
-
--- packed and unpacked again
-pub rowsOf-workOf : (rows : List Row) (n : ℕ) → let w = workOf rows n in rowsOf (map (λ r. r .at) (w .vectors)) (map (λ r. r .at) (w .u)) (map (λ r. r .at) (w .v)) ≡ rows
-rowsOf-workOf rows n = simp map-map (rowsOf-parts rows)
-
-pub workOf-rowsOf : (bs us vs : List (List ℤ)) → length us ≡ length bs → length vs ≡ length bs → (n : ℕ) → record { vectors = map vectorRow bs; u = map tableRow us; v = map tableRow vs; passes = n } ≡ workOf (rowsOf bs us vs) n
-workOf-rowsOf bs us vs e f n =
-    let t = rowsOf-tables bs us vs e f in
-    rw (t .vectors, t .u, t .v) at (packed (rowsOf bs us vs))
-  where
-    packed : (rows : List Row) → record { vectors = map vectorRow (map (λ r. r .vector) rows); u = map tableRow (map (λ r. r .u) rows); v = map tableRow (map (λ r. r .v) rows); passes = n } ≡ workOf rows n
-    packed rows = simp map-map
-
-pub take-rowsOf : (n : ℕ) (bs us vs : List (List ℤ)) → take n (rowsOf bs us vs) ≡ rowsOf (take n bs) (take n us) (take n vs)
-unfolding rowsOf
-take-rowsOf zero bs us vs = refl
-take-rowsOf (suc n) [] us vs = refl
-take-rowsOf (suc n) (b ∷ bs) [] vs = refl
-take-rowsOf (suc n) (b ∷ bs) (u ∷ us) [] = refl
-take-rowsOf (suc n) (b ∷ bs) (u ∷ us) (v ∷ vs) = ap (λ l. record { vector = b; u = u; v = v } ∷ l) (take-rowsOf n bs us vs)
-
-rowsOf-no-u : (bs vs : List (List ℤ)) → rowsOf bs [] vs ≡ []
-unfolding rowsOf
-rowsOf-no-u [] vs = refl
-rowsOf-no-u (b ∷ bs) vs = refl
-
-rowsOf-no-v : (bs us : List (List ℤ)) → rowsOf bs us [] ≡ []
-unfolding rowsOf
-rowsOf-no-v [] us = refl
-rowsOf-no-v (b ∷ bs) [] = refl
-rowsOf-no-v (b ∷ bs) (u ∷ us) = refl
-
-pub drop-rowsOf : (n : ℕ) (bs us vs : List (List ℤ)) → drop n (rowsOf bs us vs) ≡ rowsOf (drop n bs) (drop n us) (drop n vs)
-unfolding rowsOf
-drop-rowsOf zero bs us vs = refl
-drop-rowsOf (suc n) [] us vs = refl
-drop-rowsOf (suc n) (b ∷ bs) [] vs = sym (rowsOf-no-u (drop n bs) (drop (suc n) vs))
-drop-rowsOf (suc n) (b ∷ bs) (u ∷ us) [] = sym (rowsOf-no-v (drop n bs) (drop n us))
-drop-rowsOf (suc n) (b ∷ bs) (u ∷ us) (v ∷ vs) = drop-rowsOf n bs us vs
 
 -- ---- step 5 on the columns alone
 

@@ -1,19 +1,20 @@
 -- The catalogue's own refusals first, then the place of the number, then that of its standing entry.
-use mathlib.Core.Path.{_≡_, sym, _∙_, subst}
+use mathlib.Core.Path.{_≡_, sym, ap₂, _∙_, subst}
 use mathlib.Core.List.{List}
 use Prim.Native.Nat.{_<_}
 use native.Mathlib.Omega.{arith}
 use lib.Dec.{eqb}
 use lib.ListN.{length, getD}
 use borrow.Author.Needs.{needs}
-use Rattle.catalogue_rules.specs.Catalogue.{Entry}
+use Rattle.catalogue_rules.specs.Catalogue.{Entry, mostEntries}
 use Rattle.catalogue_records.specs.EntriesIn.{entryIn, entriesIn}
-use Rattle.catalogue_records.specs.Entries.{beyond}
-use Rattle.catalogue_standing.specs.Places.{First}
-use Rattle.catalogue_standing.specs.Standing.{Held, Numbers, place-below}
-use Rattle.catalogue_standing.specs.ReducedEntries.{WasRead, ready, ready-length, ready-numbers, keeps-fair, keeps-held}
+use Rattle.catalogue_records.specs.Entries.{beyond, at-place}
+use Rattle.fold_rules.specs.Fold.{sameLattice}
+use Rattle.catalogue_standing.specs.Places.{First, first-like}
+use Rattle.catalogue_standing.specs.Standing.{Numbers}
+use Rattle.catalogue_standing.specs.ReducedEntries.{WasRead, ready, ready-length, ready-numbers}
 use Rattle.catalogue.specs.Finding.{looked-refused, looked-up}
-use Rattle.catalogue_standing.specs.Looking.{lookup-found, lookup-lost}
+use Rattle.catalogue_standing.specs.Looking.{lookup-first, lookup-lost}
 use Rattle.catalogue.proofs.lookup.Statement.{statement}
 use Rattle.catalogue.proofs.lookup.Tie as tie
 
@@ -28,33 +29,24 @@ returns c =
 prepared : (c : tie.Else1) → WasRead (c .before .before .read .result)
 prepared c = let r = c .before .before in ready (r .before .before .args .bytes .now) (r .read .ensures) (c .if1 .left)
 
-reduce-all-requires : tie.Need-reduce-all-requires
-reduce-all-requires c κs = (prepared c .few, prepared c .formed .entered .fits)
-
-closed-requires : tie.Need-closed-requires
-closed-requires c κs = let r = prepared (c .before) in (r .few, keeps-fair _ r (c .reduce-all .ensures))
-
 numbers-requires : tie.Need-numbers-requires
 numbers-requires c κs = search needs
 
 slice-aggregate-place-of : tie.Need-slice-aggregate-place-of
 slice-aggregate-place-of c = search needs
 
-all : (c : tie.After-numbers) → length (c .numbers .result) ≡ 256
+all : (c : tie.After-numbers) → length (c .numbers .result) ≡ mostEntries
 all c = search needs
 
 place-of-requires : tie.Need-place-of-requires
-place-of-requires c κs = omega (arith, all (c .before), prepared (c .before .before .before .before) .few)
+place-of-requires c κs = omega (arith, all (c .before), prepared (c .before .before) .few)
 
--- what was found: what is kept with its places, the numbers, and the first place of the number
+-- what was found: the numbers, and the first place of the number
 abbrev else1 : tie.After-place-of → tie.Else1
-else1 c = c .before .before .before .before .before
+else1 c = c .before .before .before
 
 abbrev entries : tie.After-place-of → List Entry
 entries c = entriesIn (else1 c .before .before .read .result)
-
-held : (c : tie.After-place-of) → Held (entries c) (entryIn beyond) (c .before .before .before .before .reduce-all .result) (c .before .before .before .closed .result)
-held c = keeps-held _ (prepared (else1 c)) (c .before .before .before .before .reduce-all .ensures) (c .before .before .before .closed .ensures)
 
 named : (c : tie.After-place-of) → Numbers (entries c) (entryIn beyond) (c .before .before .numbers .result)
 named c = ready-numbers _ (prepared (else1 c)) (c .before .before .numbers .ensures)
@@ -67,35 +59,45 @@ returns-2 c =
     let p = c .before .before in
     let r = else1 p .before .before in
     looked-up (r .before .before .args .bytes .now) (r .read .ensures) _ (else1 p .if1 .left)
-    (lookup-lost _ _ (prepared (else1 p) .formed) (held p) (named p) _ (first p) (c .if2 .taken ∙ sym (ready-length _ (prepared (else1 p)))))
+    (lookup-lost _ _ (prepared (else1 p) .formed) (named p) _ (first p) (c .if2 .taken ∙ sym (ready-length _ (prepared (else1 p)))))
 
 -- an entry has the number
 below : (c : tie.Else2) → c .before .before .place-of .result < length (entries (c .before .before))
 below c = let p = c .before .before in omega (arith, first p .within, ready-length _ (prepared (else1 p)), c .if2 .left)
 
-small : (c : tie.Else2) → c .before .before .place-of .result < 256
-small c = let p = c .before .before in omega (arith, below c, ready-length _ (prepared (else1 p)), prepared (else1 p) .few)
+counted : (c : tie.Else2) → c .before .before .place-of .result < else1 (c .before .before) .before .before .read .result .count
+counted c = let p = c .before .before in omega (arith, below c, ready-length _ (prepared (else1 p)))
 
-small-place : (c : tie.Else2) → let p = c .before .before in getD (p .before .before .before .closed .result) (p .place-of .result) 0 < 256
-small-place c = let p = c .before .before in omega (arith, place-below _ _ (prepared (else1 p) .formed) (held p) (p .place-of .result) (below c), small c)
+standing-place-requires : tie.Need-standing-place-requires
+standing-place-requires c κs = (prepared (else1 (c .before .before)), counted c)
 
-mul-s : tie.Need-mul-s
-mul-s c = omega (arith, small c)
+-- and the place of its standing entry is one of the file
+small-place : (c : tie.After-standing-place) → c .standing-place .result < mostEntries
+small-place c = let e = c .before in omega (arith, c .standing-place .ensures .within, counted e, prepared (else1 (e .before .before)) .few)
 
-array-read-s : tie.Need-array-read-s
-array-read-s c = small c
+mul-t11 : tie.Need-mul-t11
+mul-t11 c = omega (arith, small-place c)
 
-mul-t14 : tie.Need-mul-t14
-mul-t14 c = omega (arith, small c, small-place c)
+array-read-t14 : tie.Need-array-read-t14
+array-read-t14 c = omega (arith, small-place c, all (c .before .before .before .before .before))
 
-array-read-t20 : tie.Need-array-read-t20
-array-read-t20 c = omega (arith, small c, small-place c)
+found : (c : tie.After-standing-place) →
+    let p = c .before .before .before in
+    First (λ j. sameLattice (getD (entries p) j (entryIn beyond)) (getD (entries p) (p .place-of .result) (entryIn beyond))) (p .place-of .result) (c .standing-place .result)
+found c =
+    let e = c .before in
+    let p = e .before .before in
+    let r = prepared (else1 p) in
+    let k = counted e in
+    let all = else1 p .before .before .read .result in
+    first-like (λ j h. sym (ap₂ sameLattice (at-place all (r .long) (r .few) j (omega (arith, h, k))) (at-place all (r .long) (r .few) (p .place-of .result) k))) (c .standing-place .ensures)
 
 returns-3 : tie.Need-returns-3
 returns-3 c =
-    let p = c .before .before in
+    let e = c .before in
+    let p = e .before .before in
     let r = else1 p .before .before in
-    looked-up (r .before .before .args .bytes .now) (r .read .ensures) _ (else1 p .if1 .left) (lookup-found _ _ (prepared (else1 p) .formed) (held p) (named p) _ (first p) (below c))
+    looked-up (r .before .before .args .bytes .now) (r .read .ensures) _ (else1 p .if1 .left) (lookup-first _ _ (prepared (else1 p) .formed) (named p) _ (first p) (below e) (found c))
 
 pub lookup-spec : {M : Type 1} → statement M
 lookup-spec =
@@ -103,14 +105,11 @@ lookup-spec =
     (tie.spec
     read-requires
     returns
-    reduce-all-requires
-    closed-requires
     numbers-requires
     slice-aggregate-place-of
     place-of-requires
     returns-2
-    mul-s
-    array-read-s
-    mul-t14
-    array-read-t20
+    standing-place-requires
+    mul-t11
+    array-read-t14
     returns-3)

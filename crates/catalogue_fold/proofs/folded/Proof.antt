@@ -9,6 +9,7 @@ use Rattle.catalogue_records.specs.declared.Catalogue.{Catalogue}
 use Rattle.catalogue_records.specs.EntriesIn.{entriesIn}
 use Rattle.catalogue_fold.specs.Folding.{Folds, folds-none}
 use Rattle.catalogue_fold.specs.Steps.{full, passed-over, printed-next, all-printed}
+use Rattle.catalogue_rules.specs.Catalogue.{mostEntries}
 use Rattle.catalogue_fold.proofs.folded.Statement.{statement}
 use Rattle.catalogue_fold.proofs.folded.Tie as tie
 
@@ -30,7 +31,7 @@ loop-holds c =
     (search needs, subst (λ (start : Catalogue). Folds es 0 0 (start .entries)) (sym (c .before .empty .ensures)) (folds-none es))
 
 -- place k is one of the arrays'
-small : (c : tie.In-loop Inv-loop μ-loop) → c .before .loop .k < 256
+small : (c : tie.In-loop Inv-loop μ-loop) → c .before .loop .k < mostEntries
 small c = omega (arith, c .before .before .before .before .before .before .pre .0 .few, c .loop-test .taken)
 
 mul-if1 : tie.Need-mul-if1 Inv-loop μ-loop
@@ -54,7 +55,7 @@ array-copy-out-kept c = small (c .before .before .before)
 slice-aggregate-way-of : tie.Need-slice-aggregate-way-of Inv-loop μ-loop
 slice-aggregate-way-of c = search needs
 
-all : (c : tie.After-numbers Inv-loop μ-loop) → length (c .numbers .result) ≡ 256
+all : (c : tie.After-numbers Inv-loop μ-loop) → length (c .numbers .result) ≡ mostEntries
 all c = search needs
 
 way-of-requires : tie.Need-way-of-requires Inv-loop μ-loop
@@ -71,7 +72,7 @@ printed-requires c κs =
     full _ (s .pre .0) (s .pre .1 .0) (s .pre .1 .1) (l .before .before .before .numbers .ensures) (l .loop .k) (c .before .before .before .before .before .before .loop-test .taken)
 
 -- n is no greater than k
-small-count : (c : tie.In-loop Inv-loop μ-loop) → c .before .loop .n < 256
+small-count : (c : tie.In-loop Inv-loop μ-loop) → c .before .loop .n < mostEntries
 small-count c = omega (arith, small c, c .before .loop .inv .1 .few)
 
 mul-entries : tie.Need-mul-entries Inv-loop μ-loop

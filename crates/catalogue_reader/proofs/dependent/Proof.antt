@@ -11,6 +11,7 @@ use Rattle.catalogue_rules.specs.Laws.EntriesAccepted.{all-short}
 use Rattle.input_checks.specs.Rows.{short, long-rows, dependent-rows}
 use Rattle.catalogue_records.specs.EntriesIn.{entryIn}
 use Rattle.catalogue_records.specs.Coordinates.{most, cut}
+use Rattle.catalogue_rules.specs.Catalogue.{mostNumbers}
 use borrow.Author.Needs.{needs}
 use Rattle.catalogue_reader.proofs.dependent.Statement.{statement}
 use Rattle.catalogue_reader.proofs.dependent.Tie as tie
@@ -21,10 +22,10 @@ few c = one-to 4 _ (c .pre .head .d) .1
 narrow : (c : tie.Start) → c .args .e .m ≤ 4
 narrow c = one-to 4 _ (c .pre .head .m) .1
 
-long : (c : tie.Start) → length (c .args .e .coordinates) ≡ 16
+long : (c : tie.Start) → length (c .args .e .coordinates) ≡ mostNumbers
 long c = search needs
 
-at-most : (c : tie.Start) → c .args .e .d * c .args .e .m ≤ 16
+at-most : (c : tie.Start) → c .args .e .d * c .args .e .m ≤ mostNumbers
 at-most c = most (c .args .e) (c .pre) (long c)
 
 -- the vectors of the entry are within the length limit

@@ -11,6 +11,7 @@ use Rattle.catalogue_records.specs.Catalogues.{unless}
 use Rattle.catalogue_records.specs.EntriesIn.{entryIn, entriesIn}
 use Rattle.catalogue_records.specs.Entries.{all-stored, entryAt, Says, first-here, first-later, first-end}
 use Rattle.catalogue_reader.specs.Ended.{lost-at}
+use Rattle.catalogue_rules.specs.Catalogue.{mostEntries}
 use borrow.Author.Needs.{needs}
 use Rattle.catalogue_reader.proofs.found.Statement.{statement}
 use Rattle.catalogue_reader.proofs.found.Tie as tie
@@ -21,10 +22,10 @@ Inv-loop c numbers k₀ k-end k = firstPlace (lostAt (entriesIn c)) (entriesIn c
 abbrev μ-loop : tie.MeasureT-loop
 μ-loop c numbers k₀ k-end k = k-end - k
 
-long : (c : tie.Start Inv-loop μ-loop) → length (c .args .t1 .entries) ≡ 256
+long : (c : tie.Start Inv-loop μ-loop) → length (c .args .t1 .entries) ≡ mostEntries
 long c = all-stored (c .args .t1) _ (c .good .0 .1 .1 .1 .1 .1 .0 .1 .0 .1)
 
-many : (c : tie.After-numbers Inv-loop μ-loop) → length (c .numbers .result) ≡ 256
+many : (c : tie.After-numbers Inv-loop μ-loop) → length (c .numbers .result) ≡ mostEntries
 many c = ap length (c .numbers .ensures) ∙ length-map (c .before .args .t1 .entries) _ ∙ long (c .before)
 
 numbers-requires : tie.Need-numbers-requires Inv-loop μ-loop

@@ -8,6 +8,7 @@ use Rattle.catalogue_records.specs.Catalogues.{unless}
 use Rattle.catalogue_records.specs.EntriesIn.{entryIn, entriesIn}
 use Rattle.catalogue_records.specs.Entries.{all-stored, entryAt, Says, entry-has, first-here, first-later, first-end}
 use Rattle.catalogue_reader.specs.Ended.{dependent-at}
+use Rattle.catalogue_rules.specs.Catalogue.{mostEntries}
 use borrow.Author.Needs.{needs}
 use Rattle.catalogue_reader.proofs.independent.Statement.{statement}
 use Rattle.catalogue_reader.proofs.independent.Tie as tie
@@ -18,7 +19,7 @@ Inv-loop c k₀ k-end k = firstPlace dependentAt (entriesIn c) ≡ firstPlace de
 abbrev μ-loop : tie.MeasureT-loop
 μ-loop c k₀ k-end k = k-end - k
 
-long : (c : tie.Start Inv-loop μ-loop) → length (c .args .t1 .entries) ≡ 256
+long : (c : tie.Start Inv-loop μ-loop) → length (c .args .t1 .entries) ≡ mostEntries
 long c = all-stored (c .args .t1) _ (c .good .0 .1 .1 .1 .1 .1 .0 .1 .0 .1)
 
 loop-holds : tie.Need-loop-holds Inv-loop μ-loop

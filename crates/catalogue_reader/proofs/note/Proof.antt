@@ -4,6 +4,7 @@ use Prim.Native.Nat.{_<_}
 use native.Mathlib.Omega.{arith}
 use Rattle.catalogue_reader.specs.Words.{wordIn}
 use Rattle.catalogue_reader.specs.Store.{Space, noted}
+use Rattle.catalogue_rules.specs.Catalogue.{mostEntries}
 use borrow.Author.Needs.{needs}
 use Rattle.catalogue_reader.proofs.note.Statement.{statement}
 use Rattle.catalogue_reader.proofs.note.Tie as tie
@@ -11,7 +12,7 @@ use Rattle.catalogue_reader.proofs.note.Tie as tie
 enum-known-w : tie.Need-enum-known-w
 enum-known-w c = search needs
 
-room : (c : tie.After-w) → c .before .before .args .count < 256
+room : (c : tie.After-w) → c .before .before .args .count < mostEntries
 room c =
     let s = c .before .before in
     subst (λ w. Space (s .args .count) (wordIn w)) (c .w .given .1) (s .pre)

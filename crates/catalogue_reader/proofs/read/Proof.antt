@@ -7,6 +7,7 @@ use Rattle.catalogue_rules.specs.Laws.WellFormed.{words-entered}
 use Rattle.catalogue_rules.specs.Read.{afterWords, read}
 use Rattle.catalogue_records.specs.Catalogues.{catalogueOf}
 use Rattle.catalogue_reader.specs.Whole.{words, ended, few-entries, entries-fit, stays-refused, after-words, ended-5, ended-12, refused-8, refused-9, by-words}
+use Rattle.catalogue_rules.specs.Catalogue.{mostEntries}
 use borrow.Author.Needs.{needs}
 use Rattle.catalogue_reader.proofs.read.Statement.{statement}
 use Rattle.catalogue_reader.proofs.read.Tie as tie
@@ -33,7 +34,7 @@ bytes c = c .before .before .before .before .args .bytes .now
 to-file : (c : tie.After-read-words) → catalogueOf (afterWords (words (bytes c))) ≡ catalogueOf (read (bytes c))
 to-file c = by-words (bytes c) (c .before .before .if1 .left) (c .before .if2 .left)
 
-few : (c : tie.After-read-words) → c .read-words .result .count ≤ 256
+few : (c : tie.After-read-words) → c .read-words .result .count ≤ mostEntries
 few c = few-entries (words (bytes c)) (words-entered (wordsOf (bytes c))) (c .read-words .ensures)
 
 -- what the rows after reading make of it is the outcome of the file

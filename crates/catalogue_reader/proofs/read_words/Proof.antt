@@ -1,10 +1,11 @@
 -- After i words the state is one that the definition reaches.
-use mathlib.Core.Path.{_≡_, sym, ap, _∙_, subst}
+use mathlib.Core.Path.{_≡_, refl, sym, ap, _∙_, subst}
 use mathlib.Core.Logic.{_⊎_, ⊎-elim}
 use mathlib.Core.List.{[]}
 use Prim.Native.Nat.{ℕ, _-_, _/_, _≤_, _<_}
 use native.Mathlib.Omega.{arith}
-use lib.ListN.{length, getD}
+use lib.IntN.{pos}
+use lib.ListN.{length, getD, set, replicate}
 use borrow.Author.Needs.{needs}
 use borrow.Author.Tests.{not-true, not-false}
 use Rattle.catalogue_rules.specs.Word.{decode, wordsOf}
@@ -15,16 +16,18 @@ use Rattle.integers.specs.FilledLaws.{length-filled}
 use Rattle.catalogue_records.specs.declared.Catalogue.{Catalogue}
 use Rattle.catalogue_records.specs.Catalogues.{noCatalogue, stored, catalogueOf}
 use Rattle.catalogue_reader.specs.States.{numbersOf}
+use Rattle.catalogue_reader.specs.Parts.{wholeAt}
 use Rattle.catalogue_reader.specs.Store.{put}
-use Rattle.catalogue_reader.specs.Progress.{Reached, at-start, reached-ready, refuses, keeps, counted, counted-head, stores-one, stores-none, missing, complete}
+use Rattle.catalogue_reader.specs.Progress.{Reached, at-start, reached-ready, cells-room, refuses, keeps, counted, counted-cell, counted-head, stores-one, stores-none, missing, complete}
+use Rattle.catalogue_rules.specs.Catalogue.{mostEntries, mostNumbers}
 use Rattle.catalogue_reader.proofs.read_words.Statement.{statement}
 use Rattle.catalogue_reader.proofs.read_words.Tie as tie
 
 abbrev Inv-loop : tie.InvT-loop
-Inv-loop bytes entries₀ numbers₀ s₀ n i₀ entries numbers s i = (i ≤ n) × Reached (wordsOf bytes) i entries numbers s
+Inv-loop bytes entries₀ numbers₀ coordinates₀ s₀ n i₀ entries numbers coordinates s i = (i ≤ n) × Reached (wordsOf bytes) i entries numbers coordinates s
 
 abbrev μ-loop : tie.MeasureT-loop
-μ-loop bytes entries₀ numbers₀ s₀ n i₀ entries numbers s i = n - i
+μ-loop bytes entries₀ numbers₀ coordinates₀ s₀ n i₀ entries numbers coordinates s i = n - i
 
 empty-requires : tie.Need-empty-requires Inv-loop μ-loop
 empty-requires c κs = search needs
@@ -36,7 +39,8 @@ loop-holds : tie.Need-loop-holds Inv-loop μ-loop
 loop-holds c =
     let words = wordsOf (c .before .before .before .before .args .bytes .now) in
     let none = sym (c .before .before .empty .ensures) in
-    (search needs, subst (λ (empty : Catalogue). Reached words 0 (empty .entries) (filled 0 256 []) (c .start .result)) none (subst (Reached words 0 (stored []) (filled 0 256 [])) (sym (c .start .ensures)) (at-start words)))
+    let zeros = replicate mostNumbers (pos 0) in
+    (search needs, subst (λ (empty : Catalogue). Reached words 0 (empty .entries) (filled 0 mostEntries []) zeros (c .start .result)) none (subst (Reached words 0 (stored []) (filled 0 mostEntries []) zeros) (sym (c .start .ensures)) (at-start words zeros refl)))
 
 word-at-requires : tie.Need-word-at-requires Inv-loop μ-loop
 word-at-requires c κs = search needs
@@ -47,7 +51,7 @@ decode-requires c κs = search needs
 slice-aggregate-step : tie.Need-slice-aggregate-step Inv-loop μ-loop
 slice-aggregate-step c =
     let r = c .before .before .before .before .loop .inv .1 in
-    let long : length (c .before .before .before .before .loop .numbers) ≡ 256 = ap length (r .notes) ∙ length-filled {A = ℕ} 0 256 (numbersOf (r .state)) in
+    let long : length (c .before .before .before .before .loop .numbers) ≡ mostEntries = ap length (r .notes) ∙ length-filled {A = ℕ} 0 mostEntries (numbersOf (r .state)) in
     search (needs, long)
 
 step-requires : tie.Need-step-requires Inv-loop μ-loop
@@ -65,7 +69,7 @@ word c = c .before .before .decode .ensures ∙ ap decode (c .before .before .be
 goes : (c : tie.Else1 Inv-loop μ-loop) → c .before .before .step .result .refusal ≡ 0
 goes c = c .if1 .left
 
-few : (c : tie.Else1 Inv-loop μ-loop) → c .before .before .step .result .count ≤ 256
+few : (c : tie.Else1 Inv-loop μ-loop) → c .before .before .step .result .count ≤ mostEntries
 few c =
     let s = c .before .before in
     counted _ _ (s .before .before .before .before .before .loop .inv .1) (here s) (word s) (s .step .ensures) (goes c)
@@ -78,34 +82,58 @@ returns c =
     let s = c .before .before .before in
     c .refused .ensures ∙ ap catalogueOf (refuses _ _ (s .before .before .before .before .before .loop .inv .1) (here s) (word s) (s .step .ensures) (c .before .if1 .taken))
 
+-- there is room for the coordinates, the entry, the number and the coordinate
+first-numbers-requires : tie.Need-first-numbers-requires Inv-loop μ-loop
+first-numbers-requires c κs =
+    let s = c .before .before .before .before .before in
+    cells-room _ _ (s .before .before .before .before .before .loop .inv .1)
+
+whole-requires : tie.Need-whole-requires Inv-loop μ-loop
+whole-requires c κs = search needs
+
 mul-entries : tie.Need-mul-entries Inv-loop μ-loop
-mul-entries c = omega (arith, c .before .if2 .taken, few (c .before .before))
+mul-entries c = let t = c .before .before .before in omega (arith, t .if2 .taken, few (t .before .before))
 
 array-set-from-entries : tie.Need-array-set-from-entries Inv-loop μ-loop
-array-set-from-entries c = omega (arith, c .before .if2 .taken, few (c .before .before))
+array-set-from-entries c = let t = c .before .before .before in omega (arith, t .if2 .taken, few (t .before .before))
 
 note-requires : tie.Need-note-requires Inv-loop μ-loop
 note-requires c κs =
-    let e = c .before .before in
+    let e = c .before .before .before in
     let s = e .before .before in
     counted-head _ _ (s .before .before .before .before .before .loop .inv .1) (here s) (word s) (s .step .ensures) (goes e)
 
+store-requires : tie.Need-store-requires Inv-loop μ-loop
+store-requires c κs =
+    let e = c .before .before .before .before .before in
+    let s = e .before .before in
+    counted-cell _ _ (s .before .before .before .before .before .loop .inv .1) (here s) (word s) (s .step .ensures) (goes e)
+
 add-i : tie.Need-add-i Inv-loop μ-loop
 add-i c =
-    let i = c .before .before .before .before .before .before .before .before .before in
+    let i = c .before .before .before .before .before .before .before .before .before .before .before .before in
     omega (arith, i .loop-test .taken, i .before .before .before .before .before .before .good .0 .0)
 
 loop-less : tie.Need-loop-less Inv-loop μ-loop
-loop-less c = omega arith
+loop-less c = let i = c .before .before .before .before .before .before .before .before .before .before .before .before in omega (arith, i .loop-test .taken)
 
 loop-again : tie.Need-loop-again Inv-loop μ-loop
 loop-again c =
-    let e = c .before .before .before in
+    let n = c .before .before in
+    let j = n .before .before in
+    let e = j .before .before in
     let s = e .before .before in
-    let l = s .before .before .before .before .before in
-    let stores : c .before .before .if2 .entries ≡ put (l .loop .entries) (l .loop .s) (s .step .result) =
-    ⊎-elim (λ x. x .2 ∙ stores-one (l .loop .entries) (l .loop .s) (s .step .result) (x .0 .taken)) (λ x. x .1 ∙ stores-none (l .loop .entries) (l .loop .s) (s .step .result) (x .0 .left)) (c .before .before .if2 .came) in
-    (search needs, keeps _ _ (l .loop .inv .1) (here s) (word s) (s .step .ensures) (goes e) stores (c .note .ensures))
+    let i = s .before .before .before .before in
+    let l = i .before in
+    let w = wordIn (s .before .before .decode .result) in
+    let part = l .loop .s .part in
+    let stores : j .if2 .entries ≡ put (l .loop .entries) (l .loop .s) (s .step .result) (l .loop .coordinates) (l .loop .i) w =
+    ⊎-elim
+    (λ x. x .4 ∙ ap (set (l .loop .entries) (l .loop .s .count)) (x .3 .ensures ∙ ap (λ cs. wholeAt part cs (l .loop .i) w) (x .2 .ensures))
+    ∙ stores-one (l .loop .entries) (l .loop .s) (s .step .result) (l .loop .coordinates) (l .loop .i) w (x .0 .taken))
+    (λ x. x .1 ∙ stores-none (l .loop .entries) (l .loop .s) (s .step .result) (l .loop .coordinates) (l .loop .i) w (x .0 .left))
+    (j .if2 .came) in
+    (omega (arith, i .loop-test .taken), keeps _ _ (l .loop .inv .1) (here s) (word s) (s .step .ensures) (goes e) stores (n .note .ensures) (c .store .ensures))
 
 closed-requires : tie.Need-closed-requires Inv-loop μ-loop
 closed-requires c κs = search needs
@@ -144,9 +172,12 @@ read-words-spec =
     step-requires
     refused-requires
     returns
+    first-numbers-requires
+    whole-requires
     mul-entries
     array-set-from-entries
     note-requires
+    store-requires
     add-i
     loop-less
     loop-again

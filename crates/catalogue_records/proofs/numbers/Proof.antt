@@ -8,17 +8,18 @@ use lib.Seq.{take-all}
 use Rattle.integers.specs.Filled.{filled}
 use Rattle.integers.specs.FilledLaws.{filled-all, filled-more}
 use Rattle.catalogue_records.specs.Entries.{all-stored}
+use Rattle.catalogue_rules.specs.Catalogue.{mostEntries}
 use borrow.Author.Needs.{needs}
 use Rattle.catalogue_records.proofs.numbers.Statement.{statement}
 use Rattle.catalogue_records.proofs.numbers.Tie as tie
 
 abbrev Inv-loop : tie.InvT-loop
-Inv-loop c numbers₀ k₀ numbers k = (k ≤ 256) × (numbers ≡ filled 0 256 (map (λ e. e .number) (take k (c .entries))))
+Inv-loop c numbers₀ k₀ numbers k = (k ≤ mostEntries) × (numbers ≡ filled 0 mostEntries (map (λ e. e .number) (take k (c .entries))))
 
 abbrev μ-loop : tie.MeasureT-loop
-μ-loop c numbers₀ k₀ numbers k = 256 - k
+μ-loop c numbers₀ k₀ numbers k = mostEntries - k
 
-full : (c : tie.Start Inv-loop μ-loop) → length (c .args .t1 .entries) ≡ 256
+full : (c : tie.Start Inv-loop μ-loop) → length (c .args .t1 .entries) ≡ mostEntries
 full c = all-stored (c .args .t1) _ (c .good .0 .1 .1 .1 .1 .1 .0 .1 .0 .1)
 
 loop-holds : tie.Need-loop-holds Inv-loop μ-loop
@@ -47,7 +48,7 @@ loop-again c =
     let l = c .before .before in
     let entries = l .before .args .t1 .entries in
     let long = full (l .before) in
-    (search needs, ap (λ n. set n (l .loop .k) (getD entries (l .loop .k) _ .number)) (l .loop .inv .1) ∙ filled-more 0 256 (λ e. e .number) entries (l .loop .k) _ (search needs) (omega (arith, long, c .before .loop-test .taken)))
+    (search needs, ap (λ n. set n (l .loop .k) (getD entries (l .loop .k) _ .number)) (l .loop .inv .1) ∙ filled-more 0 mostEntries (λ e. e .number) entries (l .loop .k) _ (search needs) (omega (arith, long, c .before .loop-test .taken)))
 
 returns : tie.Need-returns Inv-loop μ-loop
 returns c =
@@ -55,9 +56,9 @@ returns c =
     let entries = l .before .args .t1 .entries in
     let long = full (l .before) in
     let numbers = map (λ e. e .number) entries in
-    let many : length numbers ≡ 256 = length-map entries (λ e. e .number) ∙ long in
+    let many : length numbers ≡ mostEntries = length-map entries (λ e. e .number) ∙ long in
     l .loop .inv .1
-    ∙ ap (λ es. filled 0 256 (map (λ e. e .number) es)) (take-all (l .loop .k) entries (omega (arith, long, c .loop-test .left)))
+    ∙ ap (λ es. filled 0 mostEntries (map (λ e. e .number) es)) (take-all (l .loop .k) entries (omega (arith, long, c .loop-test .left)))
     ∙ ap (λ n. filled 0 n numbers) (sym many)
     ∙ filled-all 0 numbers
 

@@ -18,7 +18,7 @@ use Rattle.integers.specs.Every.{any}
 use Rattle.integers.specs.Tests.{neither}
 use Rattle.lattices.specs.Laws.Refusal.{one-to}
 use Rattle.integers.specs.All.{All}
-use Rattle.catalogue_rules.specs.Catalogue.{Entry, coordinates, inputOf, accepted}
+use Rattle.catalogue_rules.specs.Catalogue.{Entry, coordinates, inputOf, accepted, mostNumbers}
 use Rattle.catalogue_rules.specs.Read.{read}
 use Rattle.catalogue_rules.specs.Form.{VectorFits, EntryFits, EntryIndependent}
 use Rattle.catalogue_rules.specs.Laws.WellFormed.{any-append, well-formed}
@@ -31,11 +31,11 @@ pub length-coordinates : (m : ℕ) (vs : List Vec) → All (VectorFits m) vs →
 length-coordinates m [] p = omega arith
 length-coordinates m (v ∷ vs) p = length-append v (coordinates vs) ∙ omega (arith, p .0 .full, length-coordinates m vs (p .1))
 
--- d times m coordinates, at most 16
+-- d times m coordinates, no more than an entry may have
 pub count-coordinates : (e : Entry) → EntryFits e → length (coordinates (e .vectors)) ≡ e .head .d * e .head .m
 count-coordinates e p = length-coordinates (e .head .m) (e .vectors) (p .vectors) ∙ ap (λ d. d * e .head .m) (p .count)
 
-pub few-coordinates : (e : Entry) → EntryFits e → length (coordinates (e .vectors)) ≤ mostVectors * mostCoordinates
+pub few-coordinates : (e : Entry) → EntryFits e → length (coordinates (e .vectors)) ≤ mostNumbers
 few-coordinates e p =
     let d = one-to mostVectors (e .head .d) (p .head .d) in
     let m = one-to mostCoordinates (e .head .m) (p .head .m) in

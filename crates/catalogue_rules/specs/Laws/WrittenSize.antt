@@ -3,7 +3,7 @@ use mathlib.Core.Path.{_≡_, sym, subst}
 use mathlib.Core.Bool.{false}
 use mathlib.Core.List.{List, [], _∷_, _++_, map, map-append}
 use mathlib.Core.Option.{Option, none, some}
-use Prim.Native.Nat.{ℕ, _*_, _^_, _≤_, _<_}
+use Prim.Native.Nat.{ℕ, _+_, _*_, _^_, _≤_, _<_}
 use native.Mathlib.Omega.{arith}
 use lib.Dec.{ltb}
 use lib.IntN.{pos, natAbs}
@@ -16,7 +16,7 @@ use Rattle.integers.specs.All.{All}
 use Rattle.integers.specs.AllLaws.{all-append, all-map}
 use Rattle.catalogue_rules.specs.Word.{Word, head, see, end, encode, bytesOf}
 use Rattle.catalogue_rules.specs.Laws.Word.{length-bytes}
-use Rattle.catalogue_rules.specs.Catalogue.{Head, See, Entry, coordinates, mostEntries, mostBytes}
+use Rattle.catalogue_rules.specs.Catalogue.{Head, See, Entry, coordinates, mostEntries, mostNumbers, mostBytes}
 use Rattle.catalogue_rules.specs.Write.{headWord, coordinateWord, seeWords, entryWords, entriesWords, catalogueWords}
 use Rattle.catalogue_rules.specs.Form.{HeadFits, VectorFits, EntryFits}
 use Rattle.integers.specs.Tests.{neither}
@@ -72,12 +72,12 @@ length-see : (o : Option See) → length (seeWords o) ≤ 1
 length-see none = omega arith
 length-see (some s) = omega arith
 
-pub length-entry : (e : Entry) → EntryFits e → length (entryWords e) ≤ 18
+pub length-entry : (e : Entry) → EntryFits e → length (entryWords e) ≤ mostNumbers + 2
 length-entry e p =
     let cs = coordinates (e .vectors) in
     omega (arith, few-coordinates e p, length-append (map coordinateWord cs) (seeWords (e .see)), length-map cs coordinateWord, length-see (e .see))
 
-pub length-entries : (es : List Entry) → All EntryFits es → length (entriesWords es) ≤ length es * 18
+pub length-entries : (es : List Entry) → All EntryFits es → length (entriesWords es) ≤ length es * (mostNumbers + 2)
 length-entries [] p = omega arith
 length-entries (e ∷ es) p = omega (arith, length-append (entryWords e) (entriesWords es), length-entry e (p .0), length-entries es (p .1))
 

@@ -7,14 +7,15 @@ use Rattle.catalogue_rules.specs.Write.{seeWords, entryWords}
 use Rattle.catalogue_records.specs.EntriesIn.{seeIn, entryIn}
 use Rattle.catalogue_writer.specs.Loads.{length-basis, basis-and-see}
 use Rattle.catalogue_records.specs.Coordinates.{most}
+use Rattle.catalogue_rules.specs.Catalogue.{mostNumbers}
 use borrow.Author.Needs.{needs}
 use Rattle.catalogue_writer.proofs.count_entry.Statement.{statement}
 use Rattle.catalogue_writer.proofs.count_entry.Tie as tie
 
-long : (c : tie.Start) → length (c .args .e .coordinates) ≡ 16
+long : (c : tie.Start) → length (c .args .e .coordinates) ≡ mostNumbers
 long c = search needs
 
-few : (c : tie.Start) → c .args .e .d * c .args .e .m ≤ 16
+few : (c : tie.Start) → c .args .e .d * c .args .e .m ≤ mostNumbers
 few c = most (c .args .e) (c .pre) (long c)
 
 counted : (c : tie.Start) → let e = c .args .e in length (entryWords (entryIn e)) ≡ 1 + e .d * e .m + length (seeWords (entryIn e .see))

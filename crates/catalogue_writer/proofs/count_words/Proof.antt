@@ -6,6 +6,7 @@ use lib.ListN.{length}
 use Rattle.catalogue_rules.specs.Form.{EntryFits}
 use Rattle.catalogue_records.specs.Entries.{all-stored, entry-has}
 use Rattle.catalogue_writer.specs.Upto.{upTo, up-to-most, length-next, up-to-all, few-words}
+use Rattle.catalogue_rules.specs.Catalogue.{mostEntries}
 use borrow.Author.Needs.{needs}
 use Rattle.catalogue_writer.proofs.count_words.Statement.{statement}
 use Rattle.catalogue_writer.proofs.count_words.Tie as tie
@@ -16,7 +17,7 @@ Inv-loop c n₀ k₀ k-end n k = n ≡ length (upTo c k)
 abbrev μ-loop : tie.MeasureT-loop
 μ-loop c n₀ k₀ k-end n k = k-end - k
 
-long : (c : tie.Start Inv-loop μ-loop) → length (c .args .t1 .entries) ≡ 256
+long : (c : tie.Start Inv-loop μ-loop) → length (c .args .t1 .entries) ≡ mostEntries
 long c = all-stored (c .args .t1) _ (c .good .0 .1 .1 .1 .1 .1 .0 .1 .0 .1)
 
 loop-holds : tie.Need-loop-holds Inv-loop μ-loop

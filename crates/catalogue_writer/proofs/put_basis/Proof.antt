@@ -11,14 +11,15 @@ use Rattle.catalogue_writer.specs.Over.{overWords, over-more}
 use Rattle.catalogue_records.specs.EntriesIn.{entryIn}
 use Rattle.catalogue_writer.specs.Loads.{near, length-basis, basis-encoded}
 use Rattle.catalogue_records.specs.Coordinates.{most, cut}
+use Rattle.catalogue_rules.specs.Catalogue.{mostNumbers}
 use borrow.Author.Needs.{needs}
 use Rattle.catalogue_writer.proofs.put_basis.Statement.{statement}
 use Rattle.catalogue_writer.proofs.put_basis.Tie as tie
 
-long : (c : tie.Start) → length (c .args .e .coordinates) ≡ 16
+long : (c : tie.Start) → length (c .args .e .coordinates) ≡ mostNumbers
 long c = search needs
 
-few : (c : tie.Start) → c .args .e .d * c .args .e .m ≤ 16
+few : (c : tie.Start) → c .args .e .d * c .args .e .m ≤ mostNumbers
 few c = most (c .args .e) (c .pre .0) (long c)
 
 mul-n : tie.Need-mul-n

@@ -12,6 +12,7 @@ use Rattle.catalogue_writer.specs.Over.{overWords, length-over, over-mor
 use Rattle.catalogue_records.specs.EntriesIn.{entryIn}
 use Rattle.catalogue_records.specs.Entries.{entryAt, all-stored, entry-has}
 use Rattle.catalogue_writer.specs.Upto.{upTo, up-to-most, up-to-next, length-next, up-to-all}
+use Rattle.catalogue_rules.specs.Catalogue.{mostEntries}
 use borrow.Author.Needs.{needs}
 use Rattle.catalogue_writer.proofs.put_entries.Statement.{statement}
 use Rattle.catalogue_writer.proofs.put_entries.Tie as tie
@@ -22,7 +23,7 @@ Inv-loop out₀ c n₀ k₀ k-end out n k = (n ≡ length (upTo c k)) × (out �
 abbrev μ-loop : tie.MeasureT-loop
 μ-loop out₀ c n₀ k₀ k-end out n k = k-end - k
 
-full : (c : tie.Start Inv-loop μ-loop) → length (c .args .t1 .entries) ≡ 256
+full : (c : tie.Start Inv-loop μ-loop) → length (c .args .t1 .entries) ≡ mostEntries
 full c = all-stored (c .args .t1) _ (c .good .0 .1 .1 .1 .1 .1 .0 .1 .0 .1)
 
 -- what is written leaves room

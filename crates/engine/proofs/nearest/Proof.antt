@@ -1,6 +1,6 @@
--- `nearest` is the reduction, the checks of the target, the search and the packing.
+-- `nearest` is the checks, the reduction, the search and the packing.
 use mathlib.Core.Path.{_≡_, sym, ap, _∙_, subst}
-use mathlib.Core.List.{[], map}
+use mathlib.Core.List.{[]}
 use native.Mathlib.Omega.{arith}
 use lib.ListN.{length, take}
 use denote.Ref.{now}
@@ -11,70 +11,68 @@ use Rattle.lattices.specs.Nearest.{nearest}
 use Rattle.lattices.specs.Answer.{padded}
 use Rattle.lattices.specs.Refusal.{Input, firstOf, vectorChecks, targetChecks}
 use Rattle.greedy_reduction.specs.Accepted.{accepted, targeted}
-use Rattle.greedy_reduction.specs.Demand.{accepted-reduction, first-refused, first-passed}
-use Rattle.nearest_of_four.specs.Near.{Near, coordinates, left-bounded}
-use Rattle.engine.specs.Laws.Answer.{vectors-back}
-use Rattle.engine.specs.Laws.Named.{named, array, target, target-read, near, nearest-answer, refused-nearest-with, refusal-is}
+use Rattle.greedy_reduction.specs.Demand.{first-refused, first-passed}
+use Rattle.nearest_of_four.specs.Near.{Near}
+use Rattle.nearest_of_three.specs.Formed.{GramOf}
+use Rattle.lattices.specs.Greedy.{vectors}
+use Rattle.engine.specs.Laws.Finish.{R}
+use Rattle.engine.specs.Laws.Named.{named, array, target, target-read, near, nearest-answer, refused-nearest-with}
+use Rattle.engine.specs.Laws.Answer.{vectors-given, gram-given, length-table}
 use Rattle.engine.proofs.nearest.Statement.{statement}
 use Rattle.engine.proofs.nearest.Tie as tie
 
 abbrev input : tie.Start → Input
 input s = record { numbers = now (s .args .numbers); d = s .args .d; m = s .args .m; target = now (s .args .target) }
 
--- without its target, as `reduce` has it
+-- without its target, as `reduced` has it
 abbrev untargeted : tie.Start → Input
 untargeted s = record { numbers = now (s .args .numbers); d = s .args .d; m = s .args .m; target = [] }
 
 -- the two refusals
-number : (c : tie.After-reduce) → c .reduce .result .refusal ≡ firstOf vectorChecks (input (c .before))
-number c = ap (λ r. r .refusal) (c .reduce .ensures) ∙ refusal-is (untargeted (c .before))
+first : (c : tie.Else1) → firstOf vectorChecks (input (c .before .before)) ≡ 0
+first c = sym (c .before .refusal .ensures) ∙ c .if1 .left
 
-first : (c : tie.Else1) → firstOf vectorChecks (input (c .before .before .before)) ≡ 0
-first c = sym (number (c .before .before)) ∙ c .if1 .left
-
-second : (c : tie.Else2) → firstOf targetChecks (input (c .before .before .before .before .before)) ≡ 0
+second : (c : tie.Else2) → firstOf targetChecks (input (c .before .before .before .before)) ≡ 0
 second c = sym (c .before .target-refusal .ensures) ∙ c .if2 .left
 
 -- what is searched
 abbrev start : tie.After-vector → tie.Start
-start c = c .before .before .before .before .before .before .before .before
+start c = c .before .before .before .before .before .before .before .before .before .before
 
 one : (c : tie.After-vector) → firstOf vectorChecks (input (start c)) ≡ 0
-one c = first (c .before .before .before .before .before)
+one c = first (c .before .before .before .before .before .before .before .before)
 
 two : (c : tie.After-vector) → firstOf targetChecks (input (start c)) ≡ 0
-two c = second (c .before .before .before)
+two c = second (c .before .before .before .before .before .before)
 
-vectors-are : (c : tie.After-vector) → c .before .vectors-of .result ≡ array (input (start c)) (one c) (two c)
-vectors-are c =
-    c .before .vectors-of .ensures ∙ ap (λ r. map (λ row. row .at) (r .vectors)) (c .before .before .before .before .before .before .before .reduce .ensures)
-    ∙ vectors-back _ ∙ ap (λ a. a .basis) (accepted-reduction (untargeted (start c)) (one c))
+vectors-are : (c : tie.After-vector) → c .before .before .vectors-of .result ≡ array (input (start c)) (one c) (two c)
+vectors-are c = let r = c .before .before .before .before .before .reduced in c .before .before .vectors-of .ensures ∙ vectors-given (untargeted (start c)) (one c) (r .result) (r .ensures (one c))
+
+gram-is : (c : tie.After-vector) → GramOf (take (start c .args .d) (array (input (start c)) (one c) (two c))) (c .before .tables-of .result)
+gram-is c = let r = c .before .before .before .before .before .reduced in subst (GramOf _) (sym (c .before .tables-of .ensures)) (gram-given (untargeted (start c)) (one c) (r .result) (r .ensures (one c)))
 
 target-is : (c : tie.After-vector) → c .vector .result ≡ target (input (start c)) (one c) (two c)
 target-is c = c .vector .ensures ∙ target-read (input (start c)) (one c) (two c)
 
-searched : (c : tie.After-vector) → Near (start c .args .d) (c .before .vectors-of .result) (c .vector .result)
-searched c = let i = input (start c) in
+near-here : (c : tie.After-vector) → Near (start c .args .d) (c .before .before .vectors-of .result) (c .vector .result)
+near-here c = let i = input (start c) in
     subst (λ b. Near (i .d) b (c .vector .result)) (sym (vectors-are c)) (subst (Near (i .d) (array i (one c) (two c))) (sym (target-is c)) (near i (one c) (two c)))
 
-places : (c : tie.After-closest) → length (c .closest .result .rest) ≡ 4
-places c = search needs
-
-reduce-requires : tie.Need-reduce-requires
-reduce-requires c κs = search needs
+refusal-requires : tie.Need-refusal-requires
+refusal-requires c κs = search needs
 
 refused-nearest-requires : tie.Need-refused-nearest-requires
 refused-nearest-requires c κs = search needs
 
 returns : tie.Need-returns
 returns c =
-    let a = c .before .before .before in
+    let a = c .before .before in
     let i = input (a .before) in
-    let n = number a in
+    let n = a .refusal .ensures in
     c .refused-nearest .ensures ∙ refused-nearest-with i _ (n ∙ sym (first-refused vectorChecks targetChecks i (λ h. c .before .if1 .taken (n ∙ h)))) (c .before .if1 .taken)
 
 target-refusal-requires : tie.Need-target-refusal-requires
-target-refusal-requires c κs = accepted (input (c .before .before .before)) (first c) .few
+target-refusal-requires c κs = accepted (input (c .before .before)) (first c) .few
 
 refused-nearest-requires-2 : tie.Need-refused-nearest-requires-2
 refused-nearest-requires-2 c κs = search needs
@@ -82,51 +80,55 @@ refused-nearest-requires-2 c κs = search needs
 returns-2 : tie.Need-returns-2
 returns-2 c =
     let t = c .before .before in
-    let i = input (t .before .before .before .before) in
+    let i = input (t .before .before .before) in
     c .refused-nearest2 .ensures ∙ refused-nearest-with i _ (t .target-refusal .ensures ∙ sym (first-passed vectorChecks targetChecks i (omega arith) (first (t .before)))) (c .before .if2 .taken)
+
+reduced-requires : tie.Need-reduced-requires
+reduced-requires c κs = first (c .before .before)
 
 vectors-of-requires : tie.Need-vectors-of-requires
 vectors-of-requires c κs = search needs
 
+tables-of-requires : tie.Need-tables-of-requires
+tables-of-requires c κs = search needs
+
 vector-requires : tie.Need-vector-requires
 vector-requires c κs =
-    let e = c .before .before in
-    let s = e .before .before .before .before .before in
+    let e = c .before .before .before .before .before in
+    let s = e .before .before .before .before in
     (accepted (input s) (first (e .before .before)) .few, omega (arith, targeted (input s) (second e) .count))
 
-closest-requires : tie.Need-closest-requires
-closest-requires c κs = (accepted (input (start c)) (one c) .most, searched c)
-
-named-requires : tie.Need-named-requires
-named-requires c κs =
-    let f = c .before .before in
-    (coordinates _ (searched (f .before) .target), left-bounded (searched (f .before)) (f .closest .ensures .1))
+searched-requires : tie.Need-searched-requires
+searched-requires c κs =
+    let v = c .before .before in
+    (accepted (input (start v)) (one v) .most, (ap length (vectors-are v) ∙ length-table 4 4 (vectors (R (input (start v)) (one v))), (near-here v, subst (λ b. GramOf (take (start v .args .d) b) (v .before .tables-of .result)) (sym (vectors-are v)) (gram-is v))))
 
 returns-3 : tie.Need-returns-3
 returns-3 c =
-    let f = c .before .before .before in
-    let v = f .before in
+    let v = c .before .before .before in
     let i = input (start v) in
-    let list = subst (λ b. f .closest .result .list ≡ padded 4 (nearest (take (i .d) b) (v .vector .result))) (vectors-are v) (f .closest .ensures .0) in
-    let left = subst (λ b. f .closest .result .rest ≈ v .vector .result ⊖ comb (nearest (take (i .d) b) (v .vector .result)) (take (i .d) b)) (vectors-are v) (f .closest .ensures .1) in
+    let a = c .searched .ensures in
+    let list = subst (λ b. a .list ≡ padded 4 (nearest (take (i .d) b) (v .vector .result))) (vectors-are v) (a .coefficients) in
+    let left = subst (λ b. a .rest ≈ v .vector .result ⊖ comb (nearest (take (i .d) b) (v .vector .result)) (take (i .d) b)) (vectors-are v) (a .left) in
     let t = target-is v in
-    c .named .ensures ∙ ap (λ t. named t (f .closest .result .list) (f .closest .result .rest)) t
-    ∙ nearest-answer i (one v) (two v) (f .closest .result .list) (f .closest .result .rest) (places f)
-    (subst (λ t. f .closest .result .list ≡ padded 4 (nearest (take (i .d) (array i (one v) (two v))) t)) t list)
-    (subst (λ t. f .closest .result .rest ≈ t ⊖ comb (nearest (take (i .d) (array i (one v) (two v))) t) (take (i .d) (array i (one v) (two v)))) t left)
+    a .is ∙ ap (λ t. named t (a .list) (a .rest)) t
+    ∙ nearest-answer i (one v) (two v) (a .list) (a .rest) (a .places)
+    (subst (λ t. a .list ≡ padded 4 (nearest (take (i .d) (array i (one v) (two v))) t)) t list)
+    (subst (λ t. a .rest ≈ t ⊖ comb (nearest (take (i .d) (array i (one v) (two v))) t) (take (i .d) (array i (one v) (two v)))) t left)
 
 pub nearest-spec : {M : Type 1} → statement M
 nearest-spec =
     tie.close
     (tie.spec
-    reduce-requires
+    refusal-requires
     refused-nearest-requires
     returns
     target-refusal-requires
     refused-nearest-requires-2
     returns-2
+    reduced-requires
     vectors-of-requires
+    tables-of-requires
     vector-requires
-    closest-requires
-    named-requires
+    searched-requires
     returns-3)

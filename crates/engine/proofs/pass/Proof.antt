@@ -1,58 +1,88 @@
--- `pass` is the row operations of one pass on the three tables.
+-- `pass`: the search, then the row operations on the four tables.
+use mathlib.Core.Path.{_≡_, refl, ap, _∙_}
+use mathlib.Core.List.{List}
+use lib.IntN.{ℤ}
+use lib.ListN.{length, take, length-set, length-map}
 use denote.Ref.{now}
-use Rattle.engine.specs.Laws.Tables.{Given, searchable, vectors-room, u-room, coefficients-room, v-room, passed-four, passed-rows}
+use Rattle.lattices.specs.Answer.{padded}
+use Rattle.lattices.specs.Laws.Answer.{length-padded}
+use Rattle.gram_matrix.specs.Cross.{entered, crossed, length-entered}
+use Rattle.engine.specs.Laws.Passing.{coefficients}
+use Rattle.engine.specs.Laws.Tables.{Passable, row-four, known, found, left-room, square-room, vectors-lose, us-lose, vs-gain, tied-after}
 use borrow.Author.Needs.{needs}
 use Rattle.engine.proofs.pass.Statement.{statement}
 use Rattle.engine.proofs.pass.Tie as tie
+use Rattle.engine.proofs.pass.Reads as reads
+use Rattle.engine.proofs.pass.Lts as lts
+use Rattle.gram_matrix.proofs.cross.Reads as cross-reads
+use Rattle.gram_matrix.proofs.lose_combination.Reads as lose-combination-reads
+use Rattle.nearest_of_three.proofs.among.Reads as among-reads
 
-given : (s : tie.Start) → Given (s .args .k) (now (s .args .b)) (now (s .args .u)) (now (s .args .v))
-given s = record { four = s .pre .1 .0; three = s .pre .0; ready = s .pre .1 .1 }
+given : (s : tie.Start) → Passable (s .args .k) (now (s .args .g)) (now (s .args .b)) (now (s .args .u)) (now (s .args .v))
+given s = s .pre .1 .1
 
-mul-last : tie.Need-mul-last
-mul-last c = search needs
+-- what the search finds, whatever rows the tables belong to
+abbrev found-list : tie.After-among → List ℤ
+found-list a = a .among .last .1 .1 .1 .0
 
-element-copy-out-last : tie.Need-element-copy-out-last
-element-copy-out-last c = search needs
+x-of : (a : tie.After-among) → let s = a .before .before .before .before .before in
+    (p : Passable (s .args .k) (now (s .args .g)) (now (s .args .b)) (now (s .args .u)) (now (s .args .v))) → found-list a ≡ padded 3 (coefficients (s .args .k) (p .rows))
+x-of a p = let s = a .before .before .before .before .before in found (p .tied) (p .ready) (s .pre .0) (s .pre .1 .0 .us) (a .among .ensures .1)
 
-search-requires : tie.Need-search-requires
-search-requires c κs = let g = given (c .before .before) in (g .three, searchable g)
+x-here : (a : tie.After-among) → let s = a .before .before .before .before .before in found-list a ≡ padded 3 (coefficients (s .args .k) (given s .rows))
+x-here a = x-of a (given (a .before .before .before .before .before))
 
-minus-rows-requires : tie.Need-minus-rows-requires
-minus-rows-requires c κs =
-    let g = given (c .before .before .before .before) in
-    rw (c .before .search .ensures) (g .three, (g .four .vectors, vectors-room g))
+mul-r : tie.Need-mul-r
+mul-r c = search needs
 
-minus-rows-requires-2 : tie.Need-minus-rows-requires-2
-minus-rows-requires-2 c κs =
-    let x = c .before .before .before in
-    let g = given (x .before .before .before) in
-    rw (x .search .ensures) (g .three, (g .four .u, u-room g))
+element-copy-out-r : tie.Need-element-copy-out-r
+element-copy-out-r c = search needs
 
-credit-rows-requires : tie.Need-credit-rows-requires
-credit-rows-requires c κs =
-    let x = c .before .before .before .before .before in
-    let g = given (x .before .before .before) in
-    rw (x .search .ensures) (g .three, (g .four .v, (coefficients-room g, v-room g)))
+among-requires : tie.Need-among-requires
+among-requires c κs = let s = c .before .before .before .before in
+    let t = given s .tied in
+    (s .pre .0, (s .pre .1 .0 .gram, (row-four t (given s .ready) (s .pre .0) (s .pre .1 .0 .us), (refl, known t (given s .ready) (s .pre .0) (s .pre .1 .0 .us)))))
+
+lose-combination-requires : tie.Need-lose-combination-requires
+lose-combination-requires c κs = let a = c .before .before .before .before in
+    let s = a .before .before .before .before .before in
+    let t = given s .tied in
+    let r = given s .ready in
+    let f = s .pre .1 .0 .us in
+    rw (x-here a) (s .pre .0, (length-padded 3 (coefficients (s .args .k) (given s .rows)), (vectors-lose t r (s .pre .0) f, (us-lose t r (s .pre .0) f, vs-gain t r (s .pre .0) f))))
+
+cross-requires : tie.Need-cross-requires
+cross-requires c κs = let a = c .before .before .before .before .before .before .before .before in
+    let s = a .before .before .before .before .before in
+    let t = given s .tied in
+    let r = given s .ready in
+    let f = s .pre .1 .0 .us in
+    rw (a .among .ensures .0) (rw (x-here a) (s .pre .0, (s .pre .1 .0 .gram, (left-room t r (s .pre .0) f, square-room t r (s .pre .0) f))))
 
 returns : tie.Need-returns
-returns c =
-    let us = c .before .before in
-    let bs = us .before .before in
-    let x = bs .before .before in
-    let g = given (x .before .before .before) in
-    let eb = rw (x .search .ensures) at (bs .minus-rows .ensures) in
-    let eu = rw (x .search .ensures) at (us .minus-rows2 .ensures) in
-    let ev = rw (x .search .ensures) at (c .credit-rows .ensures) in
-    (rw (eb, eu, ev) (passed-four g), rw (eb, eu, ev) (passed-rows g))
+returns c = let a = c .before .before .before .before .before .before .before .before .before in
+    let s = a .before .before .before .before .before in
+    let h = s .pre .1 .0 in
+    let k = s .args .k in
+    let y = take k (found-list a) in
+    let e = c .before .before .before .before .lose-combination .ensures in
+    let eg = c .cross .ensures ∙ ap (λ r. crossed y k r (now (s .args .g))) (a .among .ensures .0) in (
+      record {
+        gram = ap length eg ∙ length-set (entered k _ (now (s .args .g))) k _ ∙ length-entered k _ (now (s .args .g)) ∙ h .gram;
+        vectors = ap length (e .0) ∙ length-set (now (s .args .b)) k _ ∙ h .vectors;
+        us = ap length (e .1 .0) ∙ length-set (now (s .args .u)) k _ ∙ h .us;
+        vs = ap length (e .1 .1) ∙ length-map (now (s .args .v)) _ ∙ h .vs;
+      },
+      λ p. rw (eg, e .0, e .1 .0, e .1 .1) (rw (x-of a p) (tied-after (p .tied) (p .ready) (s .pre .0) (h .us))),
+    )
 
 pub pass-spec : {M : Type 1} → statement M
 pass-spec =
     tie.close
     (tie.spec
-    mul-last
-    element-copy-out-last
-    search-requires
-    minus-rows-requires
-    minus-rows-requires-2
-    credit-rows-requires
+    mul-r
+    element-copy-out-r
+    among-requires
+    lose-combination-requires
+    cross-requires
     returns)

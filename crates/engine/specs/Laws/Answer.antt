@@ -1,113 +1,199 @@
 -- That the finished work packs to the definition's answer: what `reduce` gives.
-use mathlib.Core.Path.{_≡_, refl, sym, ap, _∙_, subst}
-use mathlib.Core.List.{List, [], _∷_, map}
+use mathlib.Core.Path.{_≡_, refl, sym, ap, ap₂, _∙_, subst}
+use mathlib.Core.List.{List, [], _∷_, map, map-map}
 use mathlib.Core.Logic.{_≢_}
-use Prim.Native.Nat.{ℕ, zero, suc, _+_, _≤_, zero-le}
+use Prim.Native.Nat.{ℕ, zero, suc, _+_, _≤_, _<_}
 use native.Mathlib.Omega.{arith}
-use native.Mathlib.Nat.{zero-add, le-refl}
-use lib.IntN.{ℤ}
-use lib.ListN.{length}
-use Rattle.lattices.specs.Vector.{N}
-use Rattle.lattices.specs.Greedy.{Row, vectors, reduction}
+use native.Mathlib.Nat.{zero-add}
+use native.Mathlib.Decide.{decLt}
+use lib.IntN.{ℤ, pos, _*ℤ_}
+use lib.Signed.{ltZ-yes}
+use lib.ListN.{length, getD, take, length-map, length-take, List·getD-eq-default}
+use lib.Seq.{getD-take}
+use Rattle.integers.specs.Identity.{by-ring, reads}
+use Rattle.integers.specs.Size.{Within}
+use Rattle.lattices.specs.Vector.{Vec, N, nth, dot}
+use Rattle.lattices.specs.Laws.Vector.{dot-comm, nil-dot, ≈-refl, ≈-dot}
+use Rattle.lattices.specs.Greedy.{Row, vectors, units, reduction}
 use Rattle.lattices.specs.Refusal.{Input, basis, firstOf, vectorChecks}
 use Rattle.lattices.specs.Answer as Definition
 use Rattle.lattices.specs.Answer.{padded, table, rowsOfV, reductionGiven, noReduction, reductionOf}
+use Rattle.lattices.specs.Laws.Answer.{table-rows, padded-≈}
 use Rattle.greedy_reduction.specs.Accepted.{accepted}
 use Rattle.greedy_reduction.specs.Demand.{accepted-reduction}
-use Rattle.row_operations.specs.declared.Work.{Work}
-use Rattle.row_operations.specs.Rows.{workOf, transposed}
+use Rattle.row_operations.specs.declared.VectorRow.{VectorRow}
+use Rattle.row_operations.specs.declared.TableRow.{TableRow}
+use Rattle.row_operations.specs.Rows.{transposed, Tables, rowsOf-tables, firstFour, map-four}
 use Rattle.row_operations.specs.RowStructs.{vectorRow, tableRow}
+use Rattle.gram_matrix.specs.declared.Work.{Work}
+use Rattle.gram_matrix.specs.Gram.{gramOf}
+use Rattle.gram_matrix.specs.Formed.{formed, formed-is}
+use Rattle.gram_matrix.specs.Tied.{whole, Tied, tied-diagonal, tied-length-gram, tied-square}
+use Rattle.gram_matrix.specs.Passed.{tied-entry}
+use Rattle.gram_matrix.specs.Lose.{row-wide}
+use Rattle.nearest_of_three.specs.Formed.{GramOf}
+use Rattle.gram_matrix.specs.Work as Work
+use Rattle.gram_matrix.specs.Work.{vectorsIn, tableIn}
 use Rattle.engine.specs.declared.Reduction.{Reduction}
 use Rattle.engine.specs.Packed.{packed}
-use Rattle.engine.specs.Laws.State.{rowsIn, greedyRows, greedyPasses, reduced}
-use Rattle.engine.specs.Laws.Fine.{Fine, fine-fewer, fine-greedy}
+use Rattle.engine.specs.Laws.State.{blank, greedyRows, greedyPasses}
 use Rattle.engine.specs.Laws.Few.{few-passes}
-use Rattle.engine.specs.Laws.Turn.{rowsIn-workOf}
-use Rattle.engine.specs.Laws.Begin.{first, first-fine}
-use Rattle.engine.specs.Laws.Finish.{R, last-vectors, last-u, last-v, last-squares, last-passes}
+use Rattle.engine.specs.Laws.Room.{small-rows}
+use Rattle.engine.specs.Laws.Begin.{first, first-is, first-fine, table-is, bs-count, four-rows, unused}
+use Rattle.engine.specs.Laws.Finish.{R, outs-count, last-vectors, last-u, last-v, last-squares, last-passes}
+use Rattle.engine.specs.Laws.Tables.{ones}
+use Rattle.engine.specs.Laws.Repeat.{Reducible, Outcome}
 
--- a finished work in the struct: V is written out by rows
+-- the numbers on the diagonal
+abbrev pub diagonalOf : List (List ℤ) → List ℤ
+diagonalOf g = map (λ i. nth (getD g i []) i) firstFour
+
+-- a finished work in the struct of the answer
 unfoldable pub finished : Work → Reduction
-finished w = record {
-  refusal = 0;
-  place = 0;
-  vectors = w .vectors;
-  u = w .u;
-  v = map tableRow (transposed (map (λ r. r .at) (w .v)));
-  squares = map N (map (λ r. r .at) (w .vectors));
-  passes = w .passes;
-}
+finished w = record { refusal = 0; place = 0; vectors = w .vectors; u = w .u; v = w .v; squares = diagonalOf (tableIn (w .gram)); passes = w .passes }
 
+-- the rows of an answer's vectors
 pub vectors-back : (l : List (List ℤ)) → map (λ r. r .at) (map vectorRow l) ≡ l
-vectors-back [] = refl
-vectors-back (x ∷ l) = ap (λ t. x ∷ t) (vectors-back l)
+vectors-back = Work.vectors-back
 
-tables-back : (l : List (List ℤ)) → map (λ r. r .at) (map tableRow l) ≡ l
-tables-back [] = refl
-tables-back (x ∷ l) = ap (λ t. x ∷ t) (tables-back l)
+vectors-again : (l : List VectorRow) → map vectorRow (vectorsIn l) ≡ l
+vectors-again [] = refl
+vectors-again (r ∷ l) = ap (λ t. r ∷ t) (vectors-again l)
 
-vectors-of-rows : (l : List Row) → map (λ r. vectorRow (r .vector)) l ≡ map vectorRow (map (λ r. r .vector) l)
-vectors-of-rows [] = refl
-vectors-of-rows (r ∷ l) = ap (λ t. vectorRow (r .vector) ∷ t) (vectors-of-rows l)
+table-again : (l : List TableRow) → map tableRow (tableIn l) ≡ l
+table-again [] = refl
+table-again (r ∷ l) = ap (λ t. r ∷ t) (table-again l)
 
-tables-of-rows : (f : Row → List ℤ) (l : List Row) → map (λ r. tableRow (f r)) l ≡ map tableRow (map f l)
-tables-of-rows f [] = refl
-tables-of-rows f (r ∷ l) = ap (λ t. tableRow (f r) ∷ t) (tables-of-rows f l)
+-- the diagonal of the Gram matrix of four vectors
+diagonal-is : {rows : List Row} {g b u v : List (List ℤ)} → Tied whole rows g b u v → length rows ≡ 4 → diagonalOf g ≡ map (λ r. N (r .vector)) rows
+diagonal-is {rows} {g} t e = (λ k. entry 0 (omega (arith, e)) k ∷ entry 1 (omega (arith, e)) k ∷ entry 2 (omega (arith, e)) k ∷ entry 3 (omega (arith, e)) k ∷ [])
+    ∙ map-four (λ r. N (r .vector)) rows blank e
+  where
+    one : (z : ℤ) → z ≡ pos 1 *ℤ z
+    one z = by-ring (z ∷ []) (search reads) (search reads) tt
+
+    entry : (i : ℕ) → i < length rows → nth (getD g i []) i ≡ N (getD rows i blank .vector)
+    entry i h = one (nth (getD g i []) i) ∙ sym (tied-diagonal t i h)
+
+-- ---- the tables with which the engine begins
+symmetric-units : (d : ℕ) → d ≤ 4 → transposed (table 4 4 (units d)) ≡ table 4 4 (units d)
+unfolding transposed
+symmetric-units zero h = refl
+symmetric-units (suc zero) h = refl
+symmetric-units (suc (suc zero)) h = refl
+symmetric-units (suc (suc (suc zero))) h = refl
+symmetric-units (suc (suc (suc (suc zero)))) h = refl
+symmetric-units (suc (suc (suc (suc (suc d))))) h = absurd (omega arith)
+
+pub length-table : (h w : ℕ) (rows : List (List ℤ)) → length (table h w rows) ≡ h
+length-table zero w rows = refl
+length-table (suc h) w [] = ap suc (length-table h w [])
+length-table (suc h) w (r ∷ rows) = ap suc (length-table h w rows)
+
+-- beyond the rows of a table the products are 0
+beyond : (h : ℕ) (rows : List (List ℤ)) (j : ℕ) (v : Vec) → length rows ≤ j → dot (getD (table h 4 rows) j []) v ≡ pos 0
+beyond zero rows j v k = nil-dot v
+beyond (suc h) [] zero v k = ≈-dot (padded-≈ 4 [] (omega arith)) (≈-refl {u = v}) ∙ nil-dot v
+beyond (suc h) [] (suc j) v k = beyond h [] j v (omega arith)
+beyond (suc h) (r ∷ rows) zero v k = absurd (omega arith)
+beyond (suc h) (r ∷ rows) (suc j) v k = beyond h rows j v (omega arith)
 
 module _ (i : Input) (e : firstOf vectorChecks i ≡ 0) where
-  -- the work with which the engine begins
-  abbrev pub begun : Work
-  begun = workOf (first i e) 0
+  abbrev b : List (List ℤ)
+  b = table 4 4 (basis i)
 
-  begun-rows : rowsIn begun ≡ first i e
-  begun-rows = rowsIn-workOf (first i e) 0
+  abbrev units-table : List (List ℤ)
+  units-table = table 4 4 (units (i .d))
 
-  abbrev G : List Row
-  G = greedyRows (i .d) (first i e)
+  tables : Tables b units-table units-table (first i e)
+  unfolding first
+  tables = rowsOf-tables b units-table units-table (length-table 4 4 (units (i .d)) ∙ sym (length-table 4 4 (basis i))) (length-table 4 4 (units (i .d)) ∙ sym (length-table 4 4 (basis i)))
 
-  abbrev S : List Row
-  S = R i e
+  pub begun-small : (j k : ℕ) → Within 100000 (nth (getD b j []) k)
+  begun-small j k = rw (tables .vectors) at (small-rows (first-fine i e) j k)
 
-  finished-rows : finished (workOf G (greedyPasses (i .d) (first i e))) ≡ packed (reductionGiven (reduction (basis i)))
-  unfolding finished
-  finished-rows = λ k. record {
-    refusal = 0;
-    place = 0;
-    vectors = vectors-path k;
-    u = u-path k;
-    v = v-path k;
-    squares = squares-path k;
-    passes = last-passes i e k;
+  abbrev ins : List (List ℤ)
+  ins = map (padded 4) (basis i)
+
+  ins-count : length ins ≡ i .d
+  ins-count = length-map (basis i) (padded 4) ∙ bs-count i e
+
+  ins-taken : take (i .d) b ≡ ins
+  ins-taken = ap (λ n. take n b) (sym (bs-count i e)) ∙ table-rows 4 4 (basis i) (omega (arith, bs-count i e, accepted i e .most))
+
+  gram-formed : gramOf (vectors (first i e)) ≡ formed (take (i .d) b)
+  gram-formed = ap gramOf (tables .vectors ∙ table-is 4 4 (unused i e) (basis i) (four-rows i e))
+      ∙ formed-is ins (unused i e) (omega (arith, ins-count, four-rows i e, bs-count i e)) ∙ ap formed (sym ins-taken)
+
+  -- they belong to the rows with which the definition begins, which may be reduced
+  begun-tied : Tied whole (first i e) (formed (take (i .d) b)) b units-table units-table
+  begun-tied = record {
+    positive = ltZ-yes tt;
+    gram = gram-formed ∙ sym (ones (formed (take (i .d) b)));
+    vectors = ones (vectors (first i e)) ∙ tables .vectors;
+    us = tables .u;
+    vs = ap transposed (tables .v) ∙ symmetric-units (i .d) (accepted i e .most);
   }
-    where
-      vectors-path : map (λ r. vectorRow (r .vector)) G ≡ map vectorRow (table 4 4 (vectors S))
-      vectors-path = vectors-of-rows G ∙ ap (map vectorRow) (last-vectors i e)
 
-      u-path : map (λ r. tableRow (r .u)) G ≡ map tableRow (table 4 4 (map (λ r. r .u) S))
-      u-path = tables-of-rows (λ r. r .u) G ∙ ap (map tableRow) (last-u i e)
-
-      v-path : map tableRow (transposed (map (λ r. r .at) (map (λ r. tableRow (r .v)) G))) ≡ map tableRow (table 4 4 (rowsOfV S 0 (length S)))
-      v-path = ap (map tableRow) (ap transposed (ap (map (λ r. r .at)) (tables-of-rows (λ r. r .v) G) ∙ tables-back (map (λ r. r .v) G)) ∙ last-v i e)
-
-      squares-path : map N (map (λ r. r .at) (map (λ r. vectorRow (r .vector)) G)) ≡ padded 4 (map (λ r. N (r .vector)) S)
-      squares-path = ap (map N) (ap (map (λ r. r .at)) (vectors-of-rows G) ∙ vectors-back (map (λ r. r .vector) G)) ∙ last-squares i e
-
-  -- the engine's answer for an accepted input
-  pub accepted-answer : finished (reduced (i .d) begun) ≡ packed (reductionOf i)
-  unfolding reduced
-  accepted-answer =
-      ap (λ l. finished (workOf (greedyRows (i .d) l) (0 + greedyPasses (i .d) l))) begun-rows
-      ∙ ap (λ n. finished (workOf G n)) (zero-add (greedyPasses (i .d) (first i e)))
-      ∙ finished-rows ∙ ap packed (sym (accepted-reduction i e))
-
-  -- what the engine's functions ask on the way
   pub begun-few : 0 + greedyPasses (i .d) (first i e) ≤ 1000000000000
   begun-few = omega (arith, few-passes (accepted i e .most) (first-fine i e))
 
-  pub reduced-fine : Fine 0 (rowsIn (reduced (i .d) begun))
-  unfolding reduced
-  reduced-fine = subst (Fine 0) (sym (rowsIn-workOf (greedyRows (i .d) (rowsIn begun)) (0 + greedyPasses (i .d) (rowsIn begun)) ∙ ap (greedyRows (i .d)) begun-rows))
-      (fine-fewer {n = i .d} {k = 0} zero-le (fine-greedy (first-fine i e) (i .d) (le-refl (i .d))))
+  pub begun : {g c u : List (List ℤ)} → g ≡ formed (take (i .d) b) → c ≡ b → u ≡ units-table → Tied whole (first i e) g c u u
+  begun p q r = rw (p, q, r) begun-tied
+
+  abbrev pub begins : {g c u : List (List ℤ)} → g ≡ formed (take (i .d) b) → c ≡ b → u ≡ units-table → Reducible (i .d) 0 g c u u
+  begins p q r = record { kind = whole; rows = first i e; tied = begun p q r; fine = first-fine i e; few = begun-few }
+
+  -- ---- the engine's answer for an accepted input
+  abbrev G : List Row
+  G = greedyRows (i .d) (first i e)
+
+  module _ (w : Work) (o : Outcome whole (i .d) 0 (first i e) w) where
+    -- the vectors, which the nearest vector is searched in
+    pub vectors-given : vectorsIn (w .vectors) ≡ table 4 4 (vectors (R i e))
+    vectors-given = sym (o .tied .vectors) ∙ ones (vectors G) ∙ last-vectors i e
+
+    -- and their Gram matrix
+    taken-row : (j : ℕ) (v : Vec) → dot (getD (table 4 4 (vectors (R i e))) j []) v ≡ dot (getD (take (i .d) (table 4 4 (vectors (R i e)))) j []) v
+    taken-row j v = pick (decLt j (i .d))
+      where
+        pick : Dec (j < i .d) → dot (getD (table 4 4 (vectors (R i e))) j []) v ≡ dot (getD (take (i .d) (table 4 4 (vectors (R i e)))) j []) v
+        pick (yes h) = ap (λ u. dot u v) (sym (getD-take (i .d) (table 4 4 (vectors (R i e))) j [] h))
+        pick (no h) = beyond 4 (vectors (R i e)) j v (omega (arith, outs-count i e, h))
+            ∙ sym (ap (λ u. dot u v) (List·getD-eq-default (take (i .d) (table 4 4 (vectors (R i e)))) [] (omega (arith, length-take (i .d) (table 4 4 (vectors (R i e))), h))) ∙ nil-dot v)
+
+    G-count : length G ≡ 4
+    G-count = sym (length-map G (λ r. r .vector)) ∙ ap length (last-vectors i e) ∙ length-table 4 4 (vectors (R i e))
+
+    pub gram-given : GramOf (take (i .d) (table 4 4 (vectors (R i e)))) (tableIn (w .gram))
+    gram-given = record {
+      gram = record { row = λ m. record { at = λ j. tied-entry (o .tied) m j ∙ ap (λ l. dot (getD l j []) (getD l m [])) (last-vectors i e)
+          ∙ taken-row j (getD (table 4 4 (vectors (R i e))) m []) ∙ dot-comm (getD (take (i .d) (table 4 4 (vectors (R i e)))) j []) (getD (table 4 4 (vectors (R i e))) m [])
+          ∙ taken-row m (getD (take (i .d) (table 4 4 (vectors (R i e)))) j []) ∙ dot-comm (getD (take (i .d) (table 4 4 (vectors (R i e)))) m []) (getD (take (i .d) (table 4 4 (vectors (R i e)))) j []) } };
+      count = tied-length-gram (o .tied) ∙ G-count;
+      long = λ m. wide m (decLt m 4);
+    }
+      where
+        wide : (m : ℕ) → Dec (m < 4) → length (getD (tableIn (w .gram)) m []) ≤ 4
+        wide m (yes h) = omega (arith, row-wide (length G) m (tableIn (w .gram)) (tied-square (o .tied)) (omega (arith, tied-length-gram (o .tied), G-count, h)), G-count)
+        wide m (no h) =
+            let n : length (tableIn (w .gram)) ≤ m = omega (arith, tied-length-gram (o .tied), G-count, h) in
+            rw (List·getD-eq-default (tableIn (w .gram)) [] n) (omega arith)
+
+    finished-rows : finished w ≡ packed (reductionGiven (reduction (basis i)))
+    unfolding finished
+    finished-rows = λ k. record {
+      refusal = 0;
+      place = 0;
+      vectors = (sym (vectors-again (w .vectors)) ∙ ap (map vectorRow) vectors-given) k;
+      u = (sym (table-again (w .u)) ∙ ap (map tableRow) (sym (o .tied .us) ∙ last-u i e)) k;
+      v = (sym (table-again (w .v)) ∙ ap (map tableRow) (sym (o .tied .vs) ∙ last-v i e)) k;
+      squares = (diagonal-is (o .tied) G-count ∙ sym (map-map N (λ r. r .vector) G) ∙ last-squares i e) k;
+      passes = (o .passes ∙ zero-add (greedyPasses (i .d) (first i e)) ∙ last-passes i e) k;
+    }
+
+    pub accepted-answer : finished w ≡ packed (reductionOf i)
+    accepted-answer = finished-rows ∙ ap packed (sym (accepted-reduction i e))
 
 -- the answer for a refused input
 refused-answer : (i : Input) (n : ℕ) → firstOf vectorChecks i ≡ suc n → packed (noReduction (suc n)) ≡ packed (reductionOf i)

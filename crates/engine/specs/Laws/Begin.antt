@@ -25,6 +25,8 @@ use Rattle.greedy_reduction.specs.Accepted.{Accepted, accepted, passed}
 use Rattle.greedy_reduction.specs.Promise.{basis-of}
 use Rattle.greedy_reduction.specs.Sizes.{Basis, first-rows}
 use Rattle.row_operations.specs.Rows.{rowsOf}
+use Rattle.gram_matrix.specs.Tied.{whole}
+use Rattle.engine.specs.Laws.Limits.{vector-limits}
 use Rattle.engine.specs.Laws.Fine.{Fine}
 use Rattle.engine.specs.Laws.Pass.{rowsOf-append}
 
@@ -132,10 +134,11 @@ module _ (i : Input) (e : firstOf vectorChecks i ≡ 0) where
   unfolding first
   first-is = ap (λ d. rowsOf (table 4 4 (basis i)) (table 4 4 (units d)) (table 4 4 (units d))) (sym bs-count) ∙ begin-rows (basis i) unused four-rows
 
-  pub first-fine : Fine (i .d) first
+  pub first-fine : Fine whole (i .d) first
+  unfolding vector-limits
   first-fine = record {
-    ins = map (padded 4) (basis i);
-    basis = padded-basis;
+    first = first-rows 4 (map (padded 4) (basis i));
+    limits = vector-limits 4 (map (padded 4) (basis i)) padded-basis (padded-basis .four);
     active = start (map (padded 4) (basis i)) (map (padded 4) (units (length (basis i))));
     moved = subst (λ l. Moves l (start (map (padded 4) (basis i)) (map (padded 4) (units (length (basis i)))))) (begin-first (basis i) unused four-rows) (none (start (map (padded 4) (basis i)) (map (padded 4) (units (length (basis i))))));
     unused = replicate unused zeroRow;

@@ -39,6 +39,15 @@ use Rattle.engine.specs.Laws.Finish.{R, accept, some, outs-count, outs-f
 unfoldable pub named : Vec → List ℤ → Vec → NearestVector
 named t x rest = record { refusal = 0; place = 0; vector = t ⊖ pos 1 ⊙ rest; coefficients = x; square = dot rest rest }
 
+-- an answer from the nearest vector of the first d vectors
+pub record Answered (d : ℕ) (b : List Vec) (t : Vec) (r : NearestVector) : Type 0 where
+  pub list : List ℤ
+  pub rest : Vec
+  pub is : r ≡ named t list rest
+  pub places : length rest ≡ 4
+  pub coefficients : list ≡ padded 4 (nearest (take d b) t)
+  pub left : rest ≈ t ⊖ comb (nearest (take d b) t) (take d b)
+
 -- what is left of t when what a vector leaves of it is taken away: that vector
 left-of-left : (t c r : Vec) → r ≈ t ⊖ c → t ⊖ pos 1 ⊙ r ≈ c
 left-of-left t c r e = record {

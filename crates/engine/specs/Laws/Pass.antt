@@ -10,6 +10,7 @@ use Rattle.integers.specs.AllLaws.{map-append}
 use Rattle.lattices.specs.Vector.{_⊕_, _⊙_, _⊖_, comb}
 use Rattle.lattices.specs.Greedy.{Row, less, credited, pass}
 use Rattle.row_operations.specs.Rows.{rowsOf, gained, rowsOf-parts, credited-columns}
+use Rattle.gram_matrix.specs.Gram.{losing}
 use Rattle.engine.specs.Laws.State.{blank}
 
 pub rowsOf-append : (bs us vs cs ws xs : List (List ℤ)) → length us ≡ length bs → length vs ≡ length bs → rowsOf (bs ++ cs) (us ++ ws) (vs ++ xs) ≡ rowsOf bs us vs ++ rowsOf cs ws xs
@@ -71,10 +72,7 @@ pass-seam front r rest x e =
     ∙ ap₂ (λ a l. a ++ (less x front r ∷ l)) (sym (credited-columns x (r .v) front)) (rowsOf-parts rest)
     ∙ sym (append-assoc (credited x (r .v) front) (less x front r ∷ []) rest)
 
--- row k of a table loses a combination of the rows before it; the rows before it gain multiples of row k
-abbrev pub losing : List ℤ → List (List ℤ) → ℕ → List (List ℤ)
-losing x t k = set t k (getD t k [] ⊖ comb x (take k t))
-
+-- the rows before row k gain multiples of row k
 abbrev pub gaining : List ℤ → List (List ℤ) → ℕ → List (List ℤ)
 gaining x t k = gained x (getD t k []) t
 

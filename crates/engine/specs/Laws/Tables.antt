@@ -1,82 +1,184 @@
--- A pass on the three tables of the rows: what the row operations ask, and what their results are.
-use mathlib.Core.Path.{_≡_, sym, ap, ap₂, _∙_, subst}
-use mathlib.Core.List.{List, [], map}
-use Prim.Native.Nat.{ℕ, _+_, _≤_, _<_}
-use lib.IntN.{ℤ, natAbs, _*ℤ_}
+-- A pass on the four tables of rows that are ready for it.
+use mathlib.Core.Path.{_≡_, refl, sym, ap, ap₂, _∙_, subst}
+use mathlib.Core.Bool.{Bool, true, false}
+use mathlib.Core.List.{List, [], _∷_, map}
+use Prim.Native.Nat.{ℕ, zero, suc, _+_, _≤_, _<_}
 use native.Mathlib.Omega.{arith}
+use native.Mathlib.Decide.{decLt}
+use lib.IntN.{ℤ, pos, natAbs, _*ℤ_, *ℤ-zero}
 use lib.Signed.{leZ-yes}
-use lib.ListN.{getD, take, length-set}
-use Rattle.integers.specs.Order.{≤ℤ-trans}
+use lib.ListN.{length, getD, take, length-map, length-set, List·getD-eq-default}
+use Rattle.integers.specs.Identity.{by-ring, reads}
+use Rattle.integers.specs.Order.{≤ℤ-trans, ≤ℤ-of-<ℤ, *ℤ-mono}
 use Rattle.integers.specs.Size.{Within, load}
-use Rattle.lattices.specs.Vector.{nth}
+use Rattle.integers.specs.ListLaws.{nth-⊙, length-⊙}
+use Rattle.lattices.specs.Vector.{Vec, nth, dot, comb, _⊙_, _⊖_}
 use Rattle.lattices.specs.Nearest.{nearest}
+use Rattle.lattices.specs.Greedy as Greedy
 use Rattle.lattices.specs.Greedy.{Row}
 use Rattle.lattices.specs.Answer.{padded}
 use Rattle.successive_minima.specs.Reduced.{Reduced}
-use Rattle.row_operations.specs.Rows.{FourRows, Tables, rowsOf, rowsOf-tables}
+use Rattle.greedy_reduction.specs.Start.{Coordinates, sized-vectors, sized-us}
 use Rattle.row_operations.specs.Minus.{room}
-use Rattle.nearest_of_three.specs.Searchable.{Searchable}
-use Rattle.engine.specs.Laws.State.{passRows}
+use Rattle.row_operations.specs.Rows.{Tables, rowsOf, rowsOf-tables, transposed}
+use Rattle.gram_matrix.specs.Gram.{losing}
+use Rattle.gram_matrix.specs.Tied.{Kind, Tied, scaled, bit, scaled-row, tied-square, tied-length-gram}
+use Rattle.gram_matrix.specs.Columns.{gainedColumns, nth-column}
+use Rattle.gram_matrix.specs.Lose.{Loses, Gains, row-wide}
+use Rattle.gram_matrix.specs.Cross.{crossed}
+use Rattle.gram_matrix.specs.Passed.{tied-passed, tied-entry}
+use Rattle.nearest_of_three.specs.Meant.{Meant, Known}
+use Rattle.engine.specs.Laws.State.{blank, passRows}
 use Rattle.engine.specs.Laws.Room as Room
-use Rattle.integers.specs.AllLaws.{take-map}
-use Rattle.engine.specs.Laws.Room.{PassReady, short-rows}
-use Rattle.engine.specs.Laws.Pass.{losing, gaining, length-gained, pass-rows}
+use Rattle.engine.specs.Laws.Room.{PassReady}
+use Rattle.engine.specs.Laws.Pass.{gaining, length-gained, pass-rows}
+use Rattle.engine.specs.Laws.Passing as Passing
+use Rattle.engine.specs.Laws.Passing.{coefficients}
 
--- what the search finds for row k
-abbrev pub found : ℕ → List (List ℤ) → List ℤ
-found k b = padded 3 (nearest (take k b) (getD b k []))
+-- some rows whose tables these are, ready for a pass
+pub record Passable (k : ℕ) (g b u v : List (List ℤ)) : Type 0 where
+  pub kind : Kind
+  pub rows : List Row
+  pub tied : Tied kind rows g b u v
+  pub ready : PassReady kind k rows
 
--- three tables whose rows are ready for a pass
-pub record Given (k : ℕ) (b u v : List (List ℤ)) : Type 0 where
-  pub four : FourRows b u v
-  pub three : k ≤ 3
-  pub ready : PassReady k (rowsOf b u v)
+-- ---- the table of the vectors: as they are, or zeros
+one-⊙ : (r : Vec) → pos 1 ⊙ r ≡ r
+unfolding _⊙_
+one-⊙ [] = refl
+one-⊙ (x ∷ r) = ap₂ _∷_ (one x) (one-⊙ r)
+  where
+    one : (x : ℤ) → pos 1 *ℤ x ≡ x
+    one x = by-ring (x ∷ []) (search reads) (search reads) tt
 
-module _ {k : ℕ} {b u v : List (List ℤ)} (g : Given k b u v) where
-  abbrev rows : List Row
-  rows = rowsOf b u v
+pub ones : (g : List (List ℤ)) → scaled (pos 1) g ≡ g
+ones [] = refl
+ones (r ∷ g) = ap₂ _∷_ (one-⊙ r) (ones g)
 
-  tables : Tables b u v rows
-  tables = rowsOf-tables b u v (g .four .u ∙ sym (g .four .vectors)) (g .four .v ∙ sym (g .four .vectors))
+zero-* : (z : ℤ) → pos 0 *ℤ z ≡ pos 0
+zero-* z = by-ring (z ∷ []) (search reads) (search reads) tt
 
-  front-is : map (λ s. s .vector) (take k rows) ≡ take k b
-  front-is = sym (take-map (λ s. s .vector) k rows) ∙ ap (take k) (tables .vectors)
+zero-entry : (t : List (List ℤ)) (i j : ℕ) → nth (getD (scaled (pos 0) t) i []) j ≡ pos 0
+zero-entry t i j = ap (λ r. nth r j) (scaled-row (pos 0) t i) ∙ nth-⊙ (pos 0) (getD t i []) j ∙ zero-* (nth (getD t i []) j)
 
-  found-is : padded 3 (Room.x k rows (g .ready .fine) (g .three) (g .ready .reduced)) ≡ found k b
-  unfolding Room.x
-  found-is = ap₂ (λ l t. padded 3 (nearest l t)) front-is (sym (Room.table-at k rows (g .ready .fine) (g .three) (g .ready .reduced) (λ s. s .vector)) ∙ ap (λ t. getD t k []) (tables .vectors))
+zero-load : (k : ℕ) (x : List ℤ) (t : List (List ℤ)) (i : ℕ) → load (take k x) (take k (scaled (pos 0) t)) i ≡ 0
+unfolding load
+zero-load zero x t i = refl
+zero-load (suc k) [] t i = refl
+zero-load (suc k) (y ∷ x) [] i = refl
+zero-load (suc k) (y ∷ x) (r ∷ t) i = ap₂ (λ z n. natAbs (y *ℤ z) + n) (nth-⊙ (pos 0) r i ∙ zero-* (nth r i)) (zero-load k x t i) ∙ ap (λ z. natAbs z + 0) (*ℤ-zero y)
 
-  pub searchable : Searchable k b (getD b k [])
-  searchable = record {
-    enough = omega (arith, g .four .vectors, g .three);
-    reduced = subst Reduced front-is (g .ready .reduced);
-    short = λ i h. rw (tables .vectors) at (short-rows (g .ready .fine) i);
-    target = ≤ℤ-trans (rw (tables .vectors) at (short-rows (g .ready .fine) k)) (leZ-yes tt);
+scaled-wide : (c : ℤ) (n : ℕ) (t : List (List ℤ)) → Coordinates n t → Coordinates n (scaled c t)
+scaled-wide c n [] h = tt
+scaled-wide c n (r ∷ t) h = (length-⊙ c r ∙ h .0, scaled-wide c n t (h .1))
+
+-- ---- entries of the table V from the columns of the rows
+nth-transposed : (t : List (List ℤ)) (i j : ℕ) → i < 4 → nth (getD (transposed t) i []) j ≡ nth (getD t j []) i
+unfolding transposed
+nth-transposed t zero j h = nth-column 0 j t
+nth-transposed t (suc zero) j h = nth-column 1 j t
+nth-transposed t (suc (suc zero)) j h = nth-column 2 j t
+nth-transposed t (suc (suc (suc zero))) j h = nth-column 3 j t
+nth-transposed t (suc (suc (suc (suc i)))) j h = absurd (omega arith)
+
+length-transposed : (t : List (List ℤ)) → length (transposed t) ≡ 4
+unfolding transposed
+length-transposed t = refl
+
+module _ {K : Kind} {k : ℕ} {g b u v : List (List ℤ)} {rows : List Row} (t : Tied K rows g b u v) (r : PassReady K k rows) (three : k ≤ 3) (four : length u ≡ 4) where
+  rows-four : length rows ≡ 4
+  rows-four = sym (length-map rows (λ s. s .u)) ∙ ap length (t .us) ∙ four
+
+  abbrev x : List ℤ
+  x = padded 3 (coefficients k rows)
+
+  x-is : take k x ≡ coefficients k rows
+  x-is = Passing.taken (t .positive) k rows r three
+
+  -- the search may be made, and finds the coefficients
+  square : (i : ℕ) → i < 4 → length (getD g i []) ≡ 4
+  square i h = row-wide (length rows) i g (tied-square t) (omega (arith, tied-length-gram t, rows-four, h)) ∙ rows-four
+
+  pub row-four : length (getD g k []) ≡ 4
+  row-four = square k (omega (arith, three))
+
+  pub meant : Meant (K .factor) k (Greedy.vectors rows) (getD rows k blank .vector) g (getD g k [])
+  meant = record {
+    positive = t .positive;
+    enough = omega (arith, length-map rows (λ s. s .vector), rows-four, three);
+    reduced = subst Reduced (sym (Passing.front-is (t .positive) k rows r three)) (r .reduced);
+    short = Passing.short (t .positive) k rows r three;
+    target = ≤ℤ-trans (Passing.short-last (t .positive) k rows r three) (*ℤ-mono {a = pos 400000000} {b = pos 3600000000} (≤ℤ-of-<ℤ (t .positive)) (leZ-yes tt));
+    gram = record { row = λ i. record { at = tied-entry t i } };
+    products = record { at = λ j. tied-entry t k j ∙ ap (dot (getD (Greedy.vectors rows) j [])) (Passing.last-is (t .positive) k rows r three) };
+    wide = λ i. pick i (decLt i 4);
   }
+    where
+      pick : (i : ℕ) → Dec (i < 4) → length (getD g i []) ≤ length (getD g k [])
+      pick i (yes h) = omega (arith, square i h, row-four)
+      pick i (no h) =
+          let m : length g ≤ i = omega (arith, tied-length-gram t, rows-four, h) in
+          rw (List·getD-eq-default g [] m) (omega arith)
 
-  pub vectors-room : (i : ℕ) → natAbs (nth (getD b k []) i) + load (take k (found k b)) (take k b) i ≤ room
-  vectors-room i = rw (found-is, tables .vectors) at (Room.vectors-room k rows (g .ready .fine) (g .three) (g .ready .reduced) i)
+  pub known : Known k g (getD g k [])
+  known = record { factor = K .factor; vectors = Greedy.vectors rows; target = getD rows k blank .vector; meant = meant }
 
-  pub u-room : (i : ℕ) → natAbs (nth (getD u k []) i) + load (take k (found k b)) (take k u) i ≤ room
-  u-room i = rw (found-is, tables .u) at (Room.u-table-room k rows (g .ready .fine) (g .three) (g .ready .reduced) i)
+  pub found : {y : List ℤ} → ((F : ℤ) (vs : List Vec) (w : Vec) → Meant F k vs w g (getD g k []) → y ≡ padded 3 (nearest (take k vs) w)) → y ≡ x
+  found e = e (K .factor) (Greedy.vectors rows) (getD rows k blank .vector) meant ∙ ap (λ l. padded 3 (nearest l (getD rows k blank .vector))) (Passing.front-is (t .positive) k rows r three)
 
-  pub coefficients-room : (j : ℕ) → Within room (nth (found k b) j)
-  coefficients-room j = rw found-is at (Room.coefficients-room k rows (g .ready .fine) (g .three) (g .ready .reduced) j)
+  -- room for the row operations
+  pub left-room : (j : ℕ) → Within 2000000000000000000 (nth x j *ℤ nth (getD g k [] ⊖ comb (take k x) (take k g)) j)
+  left-room j = rw x-is (Passing.left-room (t .positive) k rows r three t j)
 
-  pub v-room : (j i : ℕ) → j < k → natAbs (nth (getD v j []) i) + natAbs (nth (found k b) j *ℤ nth (getD v k []) i) ≤ room
-  v-room j i h = rw (found-is, tables .v) at (Room.v-table-room k rows (g .ready .fine) (g .three) (g .ready .reduced) j i h)
+  pub square-room : Within 1000000000000000000 (nth (getD g k [] ⊖ comb (take k x) (take k g)) k)
+  square-room = rw x-is (Passing.square-room (t .positive) k rows r three t)
 
-  -- the rows of the three tables after the row operations
-  pub passed-rows : let x = take k (found k b) in rowsOf (losing x b k) (losing x u k) (gaining x v k) ≡ passRows k rows
+  vectors-fit : (s : Bool) → K .vectors ≡ s → (i : ℕ) → natAbs (nth (getD (scaled (bit s) (Greedy.vectors rows)) k []) i) + load (take k x) (take k (scaled (bit s) (Greedy.vectors rows))) i ≤ room
   unfolding Room.x
-  passed-rows =
-      rw (ap (take k) (sym found-is) ∙ Room.x-taken k rows (g .ready .fine) (g .three) (g .ready .reduced))
-      (rw (tables .vectors, tables .u, tables .v) at
-      (pass-rows k rows (Room.long k rows (g .ready .fine) (g .three) (g .ready .reduced)) (Room.x k rows (g .ready .fine) (g .three) (g .ready .reduced)) (Room.x-count k rows (g .ready .fine) (g .three) (g .ready .reduced))))
+  vectors-fit true e i = rw ones (Room.vectors-room k rows (r .fine) three (r .reduced) e i)
+  vectors-fit false e i = rw (zero-entry (Greedy.vectors rows) k i, zero-load k x (Greedy.vectors rows) i) (omega arith)
 
-  pub passed-four : let x = take k (found k b) in FourRows (losing x b k) (losing x u k) (gaining x v k)
-  passed-four = record {
-    vectors = length-set b k _ ∙ g .four .vectors;
-    u = length-set u k _ ∙ g .four .u;
-    v = length-gained (take k (found k b)) (getD v k []) v ∙ g .four .v;
-  }
+  pub vectors-lose : Loses k x b
+  vectors-lose = rw (sym (t .vectors)) (record {
+    width = r .fine .limits .width;
+    four = length-map (Greedy.vectors rows) _ ∙ length-map rows (λ s. s .vector) ∙ rows-four;
+    wide = scaled-wide (bit (K .vectors)) (r .fine .limits .width) (Greedy.vectors rows) (sized-vectors (r .fine .limits .width) 4 rows (r .fine .sized));
+    fits = vectors-fit (K .vectors) refl;
+  })
+
+  pub us-lose : Loses k x u
+  unfolding Room.x
+  us-lose = rw (sym (t .us)) (record {
+    width = 4;
+    four = length-map rows (λ s. s .u) ∙ rows-four;
+    wide = sized-us (r .fine .limits .width) 4 rows (r .fine .sized);
+    fits = Room.u-table-room k rows (r .fine) three (r .reduced);
+  })
+
+  abbrev columns : List (List ℤ)
+  columns = map (λ s. s .v) rows
+
+  pub vs-gain : Gains k x v
+  unfolding Room.x
+  vs-gain = rw (sym (t .vs)) (record { four = length-transposed columns; fits = λ i j h. pick i j h (decLt i 4) })
+    where
+      pick : (i j : ℕ) → j < k → Dec (i < 4) → natAbs (nth (getD (transposed columns) i []) j) + natAbs (nth x j *ℤ nth (getD (transposed columns) i []) k) ≤ room
+      pick i j h (yes l) = rw (nth-transposed columns i j l, nth-transposed columns i k l) (Room.v-table-room k rows (r .fine) three (r .reduced) j i h)
+      pick i j h (no l) =
+          let m : length (transposed columns) ≤ i = omega (arith, length-transposed columns, l) in
+          rw (List·getD-eq-default (transposed columns) [] m, *ℤ-zero) (omega arith)
+
+  -- the tables afterwards
+  whole : rowsOf (losing (coefficients k rows) (map (λ s. s .vector) rows) k) (losing (coefficients k rows) (map (λ s. s .u) rows) k) (gaining (coefficients k rows) columns k) ≡ passRows k rows
+  whole = pass-rows k rows (Passing.long (t .positive) k rows r three) (coefficients k rows) (Passing.x-count (t .positive) k rows r three)
+
+  count : (f : Row → List ℤ) → length (losing (coefficients k rows) (map f rows) k) ≡ length rows
+  count f = length-set (map f rows) k _ ∙ length-map rows f
+
+  tables : Tables (losing (coefficients k rows) (map (λ s. s .vector) rows) k) (losing (coefficients k rows) (map (λ s. s .u) rows) k) (gaining (coefficients k rows) columns k) (passRows k rows)
+  tables = subst (Tables _ _ _) whole (rowsOf-tables (losing (coefficients k rows) (map (λ s. s .vector) rows) k) (losing (coefficients k rows) (map (λ s. s .u) rows) k) (gaining (coefficients k rows) columns k)
+      (count (λ s. s .u) ∙ sym (count (λ s. s .vector)))
+      (length-gained (coefficients k rows) (getD columns k []) columns ∙ length-map rows (λ s. s .v) ∙ sym (count (λ s. s .vector))))
+
+  pub tied-after : let y = take k x in Tied K (passRows k rows) (crossed y k (getD g k [] ⊖ comb y (take k g)) g) (losing y b k) (losing y u k) (gainedColumns y k v)
+  tied-after = rw x-is (tied-passed t k (Passing.long (t .positive) k rows r three) (coefficients k rows) (passRows k rows) (tables .vectors) (tables .u) (tables .v))

@@ -17,15 +17,10 @@ use Rattle.successive_minima.specs.Reduced.{Reduced}
 use Rattle.greedy_reduction.specs.Moves.{Moves, order-perm, before-last, length-before, moves-length, ordered-moves, greedy-moves}
 use Rattle.greedy_reduction.specs.Lengths.{total-nonneg}
 use Rattle.greedy_reduction.specs.Fuel.{stop, again, greedy-steps, falls, size-falls}
-use Rattle.row_operations.specs.declared.Work.{Work}
-use Rattle.row_operations.specs.Rows.{workOf, rowsOf-workOf}
-use Rattle.engine.specs.Laws.State.{rowsIn, blank, orderRows, passRows, greedyRows, greedyPasses, ordered, passed, reduced}
+use Rattle.gram_matrix.specs.Tied.{Kind}
+use Rattle.engine.specs.Laws.State.{blank, orderRows, passRows, greedyRows, greedyPasses}
 use Rattle.engine.specs.Laws.Fine.{Fine, fine-length, fine-moves, fine-order, fine-greedy, fine-fewer, fine-reduced}
 use Rattle.engine.specs.Laws.Room.{PassReady}
-
--- the rows of a packed work
-pub rowsIn-workOf : (rows : List Row) (p : ℕ) → rowsIn (workOf rows p) ≡ rows
-rowsIn-workOf rows p = rowsOf-workOf rows p
 
 -- a list of suc k rows: all but the last, and the last
 module _ (k : ℕ) (r : Row) (rows tail : List Row) (e : length (r ∷ rows) ≡ suc k) where
@@ -76,7 +71,7 @@ passes-list : (k : ℕ) (l tail : List Row) → length l ≡ suc k → suc (gree
 passes-list k [] tail e = absurd (omega arith)
 passes-list k (r ∷ rs) tail e = ap (λ a. suc (greedy k a .passes)) (take-before k r rs tail e)
 
-module _ (k : ℕ) (rows : List Row) (f : Fine (suc k) rows) where
+module _ {K : Kind} (k : ℕ) (rows : List Row) (f : Fine K (suc k) rows) where
   ordered-count : length (order (take (suc k) rows)) ≡ suc k
   ordered-count = sym (perm-length (order-perm (take (suc k) rows))) ∙ fine-length f
 
@@ -89,8 +84,8 @@ module _ (k : ℕ) (rows : List Row) (f : Fine (suc k) rows) where
   turn-moves : Moves (take (suc k) rows) (joined (roundOf k rows))
   turn-moves = ordered-moves k (greedy k) (greedy-moves k) (take (suc k) rows) (fine-length f)
 
-  pub turn-fine : Fine (suc k) (turnRows k rows)
-  turn-fine = subst (Fine (suc k)) (sym turn-rows) (fine-moves f (suc k) (le-refl (suc k)) (joined (roundOf k rows)) turn-moves)
+  pub turn-fine : Fine K (suc k) (turnRows k rows)
+  turn-fine = subst (Fine K (suc k)) (sym turn-rows) (fine-moves f (suc k) (le-refl (suc k)) (joined (roundOf k rows)) turn-moves)
 
   joined-count : length (joined (roundOf k rows)) ≡ suc k
   joined-count = sym (moves-length turn-moves) ∙ fine-length f
@@ -102,13 +97,13 @@ module _ (k : ℕ) (rows : List Row) (f : Fine (suc k) rows) where
   turn-drop = ap₂ drop (sym joined-count) turn-rows ∙ drop-append-seam (joined (roundOf k rows)) (drop (suc k) rows)
 
   -- after steps 2 and 3 the pass may be made
-  pub turn-ready : k ≤ 4 → PassReady k (greedyRows k (orderRows (suc k) rows))
+  pub turn-ready : k ≤ 4 → PassReady K k (greedyRows k (orderRows (suc k) rows))
   turn-ready h = record { fine = fine-greedy first k (omega arith); reduced = subst (λ l. Reduced (vectors l)) (sym front) (fine-reduced h fewer) }
     where
-      first : Fine (suc k) (orderRows (suc k) rows)
+      first : Fine K (suc k) (orderRows (suc k) rows)
       first = fine-order f
 
-      fewer : Fine k (orderRows (suc k) rows)
+      fewer : Fine K k (orderRows (suc k) rows)
       fewer = fine-fewer {n = suc k} {k = k} (omega arith) first
 
       c : List Row
@@ -123,26 +118,6 @@ module _ (k : ℕ) (rows : List Row) (f : Fine (suc k) rows) where
   turn-falls q = subst (λ l. natAbs (total l) < natAbs (total (take (suc k) rows))) (sym turn-take)
       (size-falls (total (joined (roundOf k rows))) (total (take (suc k) rows)) (total-nonneg (joined (roundOf k rows))) (falls k (greedy k) (greedy-moves k) (take (suc k) rows) (fine-length f) q))
 
--- ---- the same on a work
-abbrev pub turned : ℕ → Work → Work
-turned k w = passed k (reduced k (ordered (suc k) w))
-
-pub turned-rows : (k : ℕ) (w : Work) → rowsIn (turned k w) ≡ turnRows k (rowsIn w)
-unfolding passed reduced ordered
-turned-rows k w =
-    rowsIn-workOf (passRows k (rowsIn (reduced k (ordered (suc k) w)))) (suc (reduced k (ordered (suc k) w) .passes))
-    ∙ ap (passRows k) (rowsIn-workOf (greedyRows k (rowsIn (ordered (suc k) w))) (w .passes + greedyPasses k (rowsIn (ordered (suc k) w)))
-    ∙ ap (greedyRows k) (rowsIn-workOf (orderRows (suc k) (rowsIn w)) (w .passes)))
-
-pub turned-passes : (k : ℕ) (w : Work) → turned k w .passes ≡ suc (w .passes + greedyPasses k (orderRows (suc k) (rowsIn w)))
-unfolding passed reduced ordered
-turned-passes k w = ap (λ l. suc (w .passes + greedyPasses k l)) (rowsIn-workOf (orderRows (suc k) (rowsIn w)) (w .passes))
-
-pub turned-is : (k : ℕ) (w : Work) → turned k w ≡ workOf (turnRows k (rowsIn w)) (turned k w .passes)
-unfolding passed reduced ordered
-turned-is k w = ap (λ l. workOf l (turned k w .passes)) (ap (passRows k) (rowsIn-workOf (greedyRows k (rowsIn (ordered (suc k) w))) (w .passes + greedyPasses k (rowsIn (ordered (suc k) w)))
-    ∙ ap (greedyRows k) (rowsIn-workOf (orderRows (suc k) (rowsIn w)) (w .passes))))
-
 -- the last of a list by its place
 last-at : (r : Row) (rs : List Row) → lastOf r rs ≡ getD (r ∷ rs) (length rs) blank
 last-at r [] = refl
@@ -154,7 +129,7 @@ compared b (r ∷ rs) j e =
     let same-place : length rs ≡ j = omega arith in
     ap (λ l. ltZ (N (b .vector)) (N (l .vector))) (last-at r rs ∙ ap (λ i. getD (r ∷ rs) i blank) same-place)
 
-module _ (j : ℕ) (w : Work) (f : Fine (suc (suc j)) (rowsIn w)) where
+module _ {K : Kind} (j : ℕ) (rows : List Row) (f : Fine K (suc (suc j)) rows) where
   abbrev k : ℕ
   k = suc j
 
@@ -162,52 +137,37 @@ module _ (j : ℕ) (w : Work) (f : Fine (suc (suc j)) (rowsIn w)) where
   n = suc k
 
   abbrev P : Pass
-  P = roundOf k (rowsIn w)
+  P = roundOf k rows
 
   abbrev test : Bool
   test = shorter (P .last) (P .first)
 
-  steps : greedy n (take n (rowsIn w)) ≡ cond test (again P (greedy n (joined P))) (stop P)
-  steps = greedy-steps j (take n (rowsIn w)) (fine-length f)
-
-  passes-are : turned k w .passes ≡ w .passes + P .passes
-  passes-are = turned-passes k w ∙ omega (arith, turn-passes k (rowsIn w) f)
+  steps : greedy n (take n rows) ≡ cond test (again P (greedy n (joined P))) (stop P)
+  steps = greedy-steps j (take n rows) (fine-length f)
 
   -- step 6: the last row is kept
-  pub turn-stops : test ≡ false → reduced n w ≡ turned k w
-  unfolding reduced
-  turn-stops q = ap₂ workOf
-      (ap (λ c. c .rows ++ drop n (rowsIn w)) (steps ∙ ap (λ b. cond b (again P (greedy n (joined P))) (stop P)) q) ∙ sym (turn-rows k (rowsIn w) f))
-      (ap (λ c. w .passes + c .passes) (steps ∙ ap (λ b. cond b (again P (greedy n (joined P))) (stop P)) q) ∙ sym passes-are)
-      ∙ sym (turned-is k w)
+  pub turn-stops : test ≡ false → (greedyRows n rows ≡ turnRows k rows) × (greedyPasses n rows ≡ suc (greedyPasses k (orderRows n rows)))
+  turn-stops q =
+      let e = steps ∙ ap (λ b. cond b (again P (greedy n (joined P))) (stop P)) q in
+      (ap (λ c. c .rows ++ drop n rows) e ∙ sym (turn-rows k rows f), ap (λ c. c .passes) e ∙ sym (turn-passes k rows f))
 
   -- or the steps repeat
-  pub turn-repeats : test ≡ true → reduced n w ≡ reduced n (turned k w)
-  unfolding reduced
-  turn-repeats q = ap₂ workOf
-      (ap (λ c. c .rows ++ drop n (rowsIn w)) (steps ∙ ap (λ b. cond b (again P (greedy n (joined P))) (stop P)) q)
-      ∙ sym (ap₂ (λ a b. greedy n a .rows ++ b) (ap (take n) (turned-rows k w) ∙ turn-take k (rowsIn w) f) (ap (drop n) (turned-rows k w) ∙ turn-drop k (rowsIn w) f)))
-      (ap (λ c. w .passes + c .passes) (steps ∙ ap (λ b. cond b (again P (greedy n (joined P))) (stop P)) q)
-      ∙ sums ∙ ap (λ a. turned k w .passes + greedy n a .passes) (sym (ap (take n) (turned-rows k w) ∙ turn-take k (rowsIn w) f)))
-    where
-      sums : w .passes + (P .passes + greedy n (joined P) .passes) ≡ turned k w .passes + greedy n (joined P) .passes
-      sums = omega (arith, passes-are)
-
-  pub turned-fine : Fine n (rowsIn (turned k w))
-  turned-fine = subst (Fine n) (sym (turned-rows k w)) (turn-fine k (rowsIn w) f)
-
-  pub turned-falls : test ≡ true → natAbs (total (take n (rowsIn (turned k w)))) < natAbs (total (take n (rowsIn w)))
-  turned-falls q = subst (λ l. natAbs (total (take n l)) < natAbs (total (take n (rowsIn w)))) (sym (turned-rows k w)) (turn-falls k (rowsIn w) f q)
+  pub turn-repeats : test ≡ true → (greedyRows n rows ≡ greedyRows n (turnRows k rows)) × (greedyPasses n rows ≡ suc (greedyPasses k (orderRows n rows)) + greedyPasses n (turnRows k rows))
+  turn-repeats q =
+      let e = steps ∙ ap (λ b. cond b (again P (greedy n (joined P))) (stop P)) q in (
+        ap (λ c. c .rows ++ drop n rows) e ∙ sym (ap₂ (λ a b. greedy n a .rows ++ b) (turn-take k rows f) (turn-drop k rows f)),
+        ap (λ c. c .passes) e ∙ ap₂ (λ a b. a + greedy n b .passes) (sym (turn-passes k rows f)) (sym (turn-take k rows f)),
+      )
 
   first-count : length (P .first) ≡ k
-  first-count = omega (arith, joined-count k (rowsIn w) f, length-append (P .first) (P .last ∷ []))
+  first-count = omega (arith, joined-count k rows f, length-append (P .first) (P .last ∷ []))
 
-  whole : rowsIn (turned k w) ≡ P .first ++ (P .last ∷ drop n (rowsIn w))
-  whole = turned-rows k w ∙ turn-rows k (rowsIn w) f ∙ append-assoc (P .first) (P .last ∷ []) (drop n (rowsIn w))
+  whole : turnRows k rows ≡ P .first ++ (P .last ∷ drop n rows)
+  whole = turn-rows k rows f ∙ append-assoc (P .first) (P .last ∷ []) (drop n rows)
 
   -- step 6 compares row k with the row before it
-  pub test-is : test ≡ ltZ (N (getD (rowsIn (turned k w)) k blank .vector)) (N (getD (rowsIn (turned k w)) j blank .vector))
+  pub test-is : test ≡ ltZ (N (getD (turnRows k rows) k blank .vector)) (N (getD (turnRows k rows) j blank .vector))
   test-is = compared (P .last) (P .first) j first-count
       ∙ ap₂ (λ a b. ltZ (N (a .vector)) (N (b .vector)))
-      (sym (ap (λ l. getD l k blank) whole ∙ row-at k (P .first) (P .last) (drop n (rowsIn w)) first-count))
-      (sym (ap (λ l. getD l j blank) whole ∙ List·getD-append (P .first) (P .last ∷ drop n (rowsIn w)) blank j (omega (arith, first-count))))
+      (sym (ap (λ l. getD l k blank) whole ∙ row-at k (P .first) (P .last) (drop n rows) first-count))
+      (sym (ap (λ l. getD l j blank) whole ∙ List·getD-append (P .first) (P .last ∷ drop n rows) blank j (omega (arith, first-count))))

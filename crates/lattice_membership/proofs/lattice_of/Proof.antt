@@ -17,7 +17,7 @@ four-rows : (c : tie.Start) → length (c .args .b) ≡ 4
 four-rows c = search needs
 
 first-minor-requires : tie.Need-first-minor-requires
-first-minor-requires c κs = search needs
+first-minor-requires c κs = (c .pre .few, c .pre .short)
 
 vector-rows-requires : tie.Need-vector-rows-requires
 vector-rows-requires c κs = search needs

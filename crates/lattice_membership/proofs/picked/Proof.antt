@@ -2,7 +2,7 @@
 use mathlib.Core.List.{[], _∷_}
 use mathlib.Core.Path.{refl, ap₂, _∙_}
 use Rattle.row_operations.specs.Rows.{map-four}
-use Rattle.lattice_membership.specs.Choice.{coordinates}
+use Rattle.lattice_membership.specs.Coordinates.{coordinates}
 use borrow.Author.Needs.{needs}
 use Rattle.lattice_membership.proofs.picked.Statement.{statement}
 use Rattle.lattice_membership.proofs.picked.Tie as tie

@@ -13,11 +13,9 @@ use Rattle.integers.specs.Identity.{by-ring, reads}
 use Rattle.integers.specs.Ring.{pos-one-*ℤ, negsuc-zero-*ℤ, *ℤ-assoc}
 use Rattle.integers.specs.Size.{Within, within-neg}
 use Rattle.integers.specs.AllLaws.{take-map}
-use Rattle.integers.specs.Filled.{filled}
 use Rattle.lattices.specs.Vector.{Vec, N, nth, dot}
 use Rattle.lattices.specs.Volume.{Index, wedge, volume}
 use Rattle.lattices.specs.Answer.{padded}
-use Rattle.lattices.specs.Refusal.{mostCoordinates}
 use Rattle.exterior_algebra.specs.Forms.{Multiple, multiple-of, wedge-multiple}
 use Rattle.exterior_algebra.specs.Exterior.{anti}
 use Rattle.exterior_algebra.specs.Cramer.{put}
@@ -25,7 +23,8 @@ use Rattle.exterior_algebra.specs.Minors.{marks, pick}
 use Rattle.exterior_algebra.specs.Sizes.{Short}
 use Rattle.input_checks.specs.Volumes.{minors, minors-within, short-from}
 use Rattle.row_operations.specs.Rows.{firstFour}
-use Rattle.lattice_membership.specs.Choice.{places, firsts, coordinates}
+use Rattle.input_checks.specs.Choice.{places, firsts}
+use Rattle.lattice_membership.specs.Coordinates.{coordinates}
 use Rattle.lattice_membership.specs.Cofactor.{without, missingPlace, others, cofactor, cofactors}
 use Rattle.lattice_membership.specs.Laws.Minor.{length-pick, at-places, table-minor, table-short}
 
@@ -196,23 +195,23 @@ set-map f [] j x = refl
 set-map f (y ∷ l) zero x = refl
 set-map f (y ∷ l) (suc j) x = ap (λ k. f y ∷ k) (set-map f l j x)
 
-module _ (s : Index) (d : ℕ) (e : marks s ≡ d) (few : d ≤ 4) (wide : length s ≡ mostCoordinates) (b : List Vec) (four-rows : length b ≡ 4)
+module _ (s : Index) (d : ℕ) (e : marks s ≡ d) (few : d ≤ 4) (at : List ℕ) (taken : take d at ≡ places 0 s) (b : List Vec) (four-rows : length b ≡ 4)
     (short : (i : ℕ) → i < d → N (getD b i []) ≤ℤ pos 400000000) where
   abbrev f : Vec → Vec
-  f = coordinates (filled 0 mostCoordinates (places 0 s)) d
+  f = coordinates at d
 
   pub picked-rows : length (map f b) ≡ 4
   picked-rows = length-map b f ∙ four-rows
 
   pub picked-short : (i : ℕ) → i < d → N (getD (map f b) i []) ≤ℤ pos 400000000
-  picked-short i h = table-short s d e few wide (pos 400000000) b i (omega arith) (short i h)
+  picked-short i h = table-short s d e few at taken (pos 400000000) b i (omega arith) (short i h)
 
   pub cofactors-give : (j : ℕ) → j < d → (v : Vec) → dot (cofactors (map f b) d j) (padded 4 (pick s v)) ≡ volume (put j v (take d b)) s
   cofactors-give j h v =
       numerator-is (map f b) d j picked-rows few h picked-short (pick s v) (length-pick s v ∙ e)
-      ∙ ap₂ (λ p l. volume (put j p l) (firsts 4 d)) (sym (at-places s d e few wide v)) (take-map f d b)
+      ∙ ap₂ (λ p l. volume (put j p l) (firsts 4 d)) (sym (at-places s d e few at taken v)) (take-map f d b)
       ∙ ap (λ l. volume l (firsts 4 d)) (set-map f (take d b) j v)
-      ∙ table-minor s d e few wide (put j v (take d b))
+      ∙ table-minor s d e few at taken (put j v (take d b))
 
 pub first-four : (j : ℕ) → j < 4 → getD firstFour j 0 ≡ j
 first-four zero h = refl

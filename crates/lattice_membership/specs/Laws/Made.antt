@@ -1,9 +1,9 @@
 -- A lattice that is made of the first minor and the cofactors is known.
 use mathlib.Core.Path.{_≡_, refl, sym, ap, ap₂, _∙_, subst}
 use mathlib.Core.Logic.{_≢_}
+use mathlib.Core.Bool.{true≢false}
 use mathlib.Core.List.{List, [], _∷_, map}
 use Prim.Native.Nat.{ℕ, zero, suc, _≤_, _<_}
-use native.Mathlib.Decide.{ℕ-discrete}
 use native.Mathlib.Omega.{arith}
 use lib.IntN.{pos}
 use lib.ListN.{length, getD, take, length-take, length-map}
@@ -17,30 +17,24 @@ use Rattle.lattices.specs.Volume.{Index, volume}
 use Rattle.lattices.specs.Answer.{padded}
 use Rattle.lattices.specs.Laws.Answer.{length-padded}
 use Rattle.lattices.specs.Refusal.{mostVectors, mostCoordinates}
-use Rattle.exterior_algebra.specs.Dependence.{Fit}
-use Rattle.exterior_algebra.specs.Minors.{marks, volume-off}
+use Rattle.exterior_algebra.specs.Dependence.{Fit, independent-exactly}
+use Rattle.exterior_algebra.specs.Minors.{marks}
 use Rattle.exterior_algebra.specs.Sizes.{Short}
 use Rattle.input_checks.specs.Volumes.{short-from}
 use Rattle.successive_minima.specs.Reduced.{Reduced}
+use Rattle.successive_minima.specs.Laws.ReducedLaws.{reduced-independent}
 use Rattle.row_operations.specs.declared.TableRow.{TableRow}
 use Rattle.row_operations.specs.RowStructs.{vectorRow, tableRow}
 use Rattle.row_operations.specs.Rows.{firstFour}
-use Rattle.lattice_membership.specs.declared.Minor.{Minor}
+use Rattle.input_checks.specs.declared.minors.Minor.{Minor}
+use Rattle.input_checks.specs.Choice.{places}
+use Rattle.input_checks.specs.FirstMinor.{Chosen, FirstMinor, all-zero}
 use Rattle.lattice_membership.specs.declared.Lattice.{Lattice}
-use Rattle.lattice_membership.specs.Choice.{choice, places, coordinates}
+use Rattle.lattice_membership.specs.Coordinates.{coordinates}
 use Rattle.lattice_membership.specs.Cofactor.{cofactors, cofactorRows}
-use Rattle.lattice_membership.specs.Known.{ReducedBasis, FirstMinor, Known, Cofactors, vectorsIn, rowIn}
-use Rattle.lattice_membership.specs.Laws.Choices.{length-choice}
+use Rattle.lattice_membership.specs.Known.{ReducedBasis, Known, Cofactors, vectorsIn, rowIn}
 use Rattle.lattice_membership.specs.Laws.Minor.{place-within}
 use Rattle.lattice_membership.specs.Laws.Cofactors.{picked-rows, picked-short, cofactors-small, cofactors-give, first-four}
-
--- a minor that is not zero takes as many coordinates as there are vectors
-pub count-of : (bs : List Vec) (s : Index) → volume bs s ≢ pos 0 → marks s ≡ length bs
-count-of bs s h = pick-one (ℕ-discrete (marks s) (length bs))
-  where
-    pick-one : Dec (marks s ≡ length bs) → marks s ≡ length bs
-    pick-one (yes e) = e
-    pick-one (no f) = absurd (h (volume-off bs s f))
 
 pub rows-back : (l : List Vec) → map (λ row. row .at) (map vectorRow l) ≡ l
 rows-back [] = refl
@@ -61,36 +55,51 @@ row-of t d j few h =
     ∙ getD-map f (take d firstFour) 0 (tableRow []) j (omega (arith, long)))
     ∙ ap (cofactors t d) (getD-take d firstFour j 0 h ∙ first-four j (omega arith))
 
+-- a reduced list has a minor that is not zero
+pub has-minor : {d : ℕ} {b : List Vec} → ReducedBasis d b → {m : Minor} → FirstMinor (take d b) m → m .minor ≢ pos 0
+has-minor {d} {b} r k e = true≢false
+    (sym (all-zero (take d b) (k .none e)) ∙ independent-exactly mostCoordinates (take d b) (r .fit) .1 (reduced-independent (take d b) (r .reduced) (omega (arith, length-take d b, r .few))))
+
 module _ (d : ℕ) (b : List Vec) (r : ReducedBasis d b) (four-rows : length b ≡ 4) (m : Minor) (k : FirstMinor (take d b) m) where
-  abbrev s : Index
-  s = choice mostCoordinates (k .number)
+  chosen : Chosen (take d b) (m .at) (m .minor)
+  chosen = k .some (has-minor r k)
 
-  pub count-first : marks s ≡ d
-  count-first = count-of (take d b) s (k .nonzero) ∙ omega (arith, length-take d b, r .few, four-rows)
+  s : Index
+  s = chosen .index
 
-  wide-first : length s ≡ mostCoordinates
-  wide-first = length-choice mostCoordinates (k .number)
+  vectors-count : length (take d b) ≡ d
+  vectors-count = omega (arith, length-take d b, r .few, four-rows)
+
+  count-first : marks s ≡ d
+  unfolding s
+  count-first = chosen .count ∙ vectors-count
+
+  taken : take d (m .at) ≡ places 0 s
+  unfolding s
+  taken = ap (λ n. take n (m .at)) (sym vectors-count) ∙ chosen .taken
 
   -- its places, and the length of what they pick
   pub first-within : (i : ℕ) → i < d → getD (m .at) i 0 < mostCoordinates
-  first-within i h = subst (λ l. getD l i 0 < mostCoordinates) (sym (k .at)) (place-within s d count-first (r .few) wide-first i h)
+  unfolding s
+  first-within i h = place-within s d count-first (r .few) (m .at) taken (chosen .wide) i h
 
   pub first-short : (i : ℕ) → i < d → N (getD (map (coordinates (m .at) d) b) i []) ≤ℤ pos 400000000
-  first-short i h = subst (λ at. N (getD (map (coordinates at d) b) i []) ≤ℤ pos 400000000) (sym (k .at)) (picked-short s d count-first (r .few) wide-first b four-rows (r .short) i h)
+  first-short i h = picked-short s d count-first (r .few) (m .at) taken b four-rows (r .short) i h
 
   pub made : (l : Lattice) → l .d ≡ d → l .vectors ≡ map vectorRow b → l .choice ≡ m .at → l .minor ≡ m .minor
       → l .cofactors ≡ cofactorRows (map (coordinates (m .at) d) b) d → Known l
+  unfolding s
   made l e-d e-vectors e-choice e-minor e-rows = record {
     few = subst (λ n. n ≤ 4) (sym e-d) (r .few);
     four = (ap length e-vectors ∙ length-map b vectorRow ∙ four-rows, ap length e-rows ∙ length-filled (tableRow (padded 4 [])) 4 (map (λ j. tableRow (cofactors t d j)) (take d firstFour)));
     reduced = subst Reduced (sym vs) (r .reduced);
     short = subst (Short (pos 400000000)) (sym vs) (short-from 400000000 d 0 b (r .short));
     index = s;
-    wide = wide-first;
+    wide = chosen .wide;
     count = count-first ∙ sym e-d;
-    chosen = e-choice ∙ k .at;
-    at-index = e-minor ∙ k .minor ∙ ap (λ l. volume l s) (sym vs);
-    nonzero = λ e. k .nonzero (sym (e-minor ∙ k .minor) ∙ e);
+    chosen = ap₂ take e-d e-choice ∙ taken;
+    at-index = e-minor ∙ chosen .minor ∙ ap (λ l. volume l s) (sym vs);
+    nonzero = λ e. has-minor r k (sym e-minor ∙ e);
     rows = λ j h. subst (λ bs. Cofactors bs s j (rowIn l j)) (sym vs) (subst (Cofactors (take d b) s j) (sym (row j (subst (λ n. j < n) e-d h))) (cofactors-known j (subst (λ n. j < n) e-d h)));
   }
     where
@@ -103,15 +112,11 @@ module _ (d : ℕ) (b : List Vec) (r : ReducedBasis d b) (four-rows : length b �
       row : (j : ℕ) → j < d → rowIn l j ≡ cofactors t d j
       row j h = ap (λ rs. getD rs j (tableRow []) .at) e-rows ∙ row-of t d j (r .few) h
 
-      table : t ≡ map (coordinates (filled 0 mostCoordinates (places 0 s)) d) b
-      table = ap (λ at. map (coordinates at d) b) (k .at)
-
       cofactors-known : (j : ℕ) → j < d → Cofactors (take d b) s j (cofactors t d j)
-      cofactors-known j h = subst (λ u. Cofactors (take d b) s j (cofactors u d j)) (sym table) (record {
-        give = cofactors-give s d count-first (r .few) wide-first b four-rows (r .short) j h;
-        small = cofactors-small (map (coordinates (filled 0 mostCoordinates (places 0 s)) d) b) d j
-            (picked-rows s d count-first (r .few) wide-first b four-rows (r .short)) (r .few) h (picked-short s d count-first (r .few) wide-first b four-rows (r .short));
-      })
+      cofactors-known j h = record {
+        give = cofactors-give s d count-first (r .few) (m .at) taken b four-rows (r .short) j h;
+        small = cofactors-small t d j (picked-rows s d count-first (r .few) (m .at) taken b four-rows (r .short)) (r .few) h (picked-short s d count-first (r .few) (m .at) taken b four-rows (r .short));
+      }
 
 -- ---- the basis that a reduction leaves: vectors filled up to the width
 

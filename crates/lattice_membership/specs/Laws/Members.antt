@@ -39,7 +39,7 @@ use Rattle.row_operations.specs.RowStructs.{vectorRow, tableRow}
 use Rattle.row_operations.specs.Dot.{DotTurn, dot-within}
 use Rattle.row_operations.specs.Minus.{nth-minus, room}
 use Rattle.lattice_membership.specs.declared.Lattice.{Lattice}
-use Rattle.lattice_membership.specs.Choice.{coordinates}
+use Rattle.lattice_membership.specs.Coordinates.{coordinates}
 use Rattle.lattice_membership.specs.Known.{Known, vectorsIn, rowIn, quotientsOf, mostTimes, isWhole}
 use Rattle.lattice_membership.specs.Laws.Minor.{N-picked, at-places, place-within}
 
@@ -204,10 +204,10 @@ module _ (l : Lattice) (k : Known l) (v : Vec) (limit : N v ≤ℤ pos 400000000
   quotients = quotientsOf l p
 
   pub places-known : (i : ℕ) → i < l .d → getD (l .choice) i 0 < mostCoordinates
-  places-known i h = subst (λ at. getD at i 0 < mostCoordinates) (sym (k .chosen)) (place-within (k .index) (l .d) (k .count) (k .few) (k .wide) i h)
+  places-known i h = place-within (k .index) (l .d) (k .count) (k .few) (l .choice) (k .chosen) (k .wide) i h
 
   pub coordinates-are : coordinates (l .choice) (l .d) v ≡ p
-  coordinates-are = ap (λ at. coordinates at (l .d) v) (k .chosen) ∙ at-places (k .index) (l .d) (k .count) (k .few) (k .wide) v
+  coordinates-are = at-places (k .index) (l .d) (k .count) (k .few) (l .choice) (k .chosen) v
 
   pub coordinates-small : (c : ℕ) → Within 20000 (nth p c)
   coordinates-small = short-within p (≤ℤ-trans (N-picked (k .index) (subst (λ n. n ≤ 4) (sym (k .count)) (k .few)) v) limit)

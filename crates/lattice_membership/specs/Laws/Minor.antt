@@ -1,33 +1,27 @@
 -- A minor is the determinant of the coordinates picked.
 use mathlib.Core.Path.{_≡_, refl, sym, ap, ap₂, _∙_, subst}
-use mathlib.Core.Bool.{true, false, true≢false}
+use mathlib.Core.Bool.{true, false}
 use mathlib.Core.List.{List, [], _∷_, map}
-use Prim.Native.Nat.{ℕ, zero, suc, _+_, _^_, _≤_, _<_}
-use native.Mathlib.Nat.{lt-of-lt-of-le}
-use native.Mathlib.Decide.{decLt}
+use Prim.Native.Nat.{ℕ, zero, suc, _≤_, _<_}
 use native.Mathlib.Omega.{arith}
 use lib.IntN.{ℤ, pos, _*ℤ_, +ℤ-idl}
-use lib.ListN.{length, getD, take, replicate, length-take}
+use lib.ListN.{length, getD, take, replicate}
+use lib.Seq.{getD-take}
 use lib.Signed.{_≤ℤ_}
 use Rattle.integers.specs.AllLaws.{getD-map}
-use Rattle.integers.specs.Filled.{filled}
-use Rattle.integers.specs.Order.{≤ℤ-trans, ≤ℤ-of-≡, ≤ℤ-leZ, +ℤ-mono-r}
+use Rattle.integers.specs.Order.{≤ℤ-trans, +ℤ-mono-r}
 use Rattle.lattices.specs.Vector.{Vec, N, nth, dot}
 use Rattle.lattices.specs.Laws.Vector.{N-nonneg, ≈-N}
 use Rattle.lattices.specs.Laws.Answer.{padded-≈}
-use Rattle.lattices.specs.Volume.{Index, rest, volume, squaredVolume, isDependent}
+use Rattle.lattices.specs.Volume.{Index, rest, volume}
 use Rattle.lattices.specs.Refusal.{mostCoordinates}
-use Rattle.exterior_algebra.specs.Forms.{inner-zero}
-use Rattle.exterior_algebra.specs.Dependence.{independent-exactly}
 use Rattle.lattices.specs.Answer.{padded}
 use Rattle.exterior_algebra.specs.Hadamard.{rest-≤}
 use Rattle.exterior_algebra.specs.Minors.{marks, pick, full, minor-picked}
-use Rattle.input_checks.specs.Volumes.{minors}
-use Rattle.successive_minima.specs.Laws.ReducedLaws.{reduced-independent}
-use Rattle.lattice_membership.specs.Choice.{choice, places, firsts, firstPlace, coordinates}
+use Rattle.input_checks.specs.Choice.{places, firsts}
+use Rattle.input_checks.specs.Choices.{marks-firsts, places-<, pick-from}
+use Rattle.lattice_membership.specs.Coordinates.{coordinates}
 use Rattle.lattice_membership.specs.Cofactor.{missingPlace}
-use Rattle.lattice_membership.specs.Known.{ReducedBasis}
-use Rattle.lattice_membership.specs.Laws.Choices.{number, number-<, choice-number, marks-≤, coordinates-picked, places-within}
 
 pub length-pick : (s : Index) (v : Vec) → length (pick s v) ≡ marks s
 length-pick [] v = refl
@@ -38,12 +32,6 @@ full-is : (s : Index) → full s ≡ replicate (marks s) true
 full-is [] = refl
 full-is (false ∷ s) = full-is s
 full-is (true ∷ s) = ap (λ l. true ∷ l) (full-is s)
-
-marks-firsts : (n d : ℕ) → d ≤ n → marks (firsts n d) ≡ d
-marks-firsts zero zero h = refl
-marks-firsts zero (suc d) h = absurd (omega arith)
-marks-firsts (suc n) zero h = marks-firsts n zero (omega arith)
-marks-firsts (suc n) (suc d) h = ap suc (marks-firsts n d (omega arith))
 
 pick-firsts : (n : ℕ) (v : Vec) → length v ≤ n → pick (firsts n (length v)) (padded n v) ≡ v
 pick-firsts zero [] h = refl
@@ -64,14 +52,6 @@ minor-here s d e h cs =
     ∙ ap₂ volume (picked-again s d e h cs) (full-is (firsts 4 d) ∙ ap (λ n. replicate n true) (marks-firsts 4 d h ∙ sym e) ∙ sym (full-is s))
     ∙ sym (minor-picked cs s)
 
-pub first-place-< : (d : ℕ) → firstPlace d < 16
-first-place-< zero = omega arith
-first-place-< (suc zero) = omega arith
-first-place-< (suc (suc zero)) = omega arith
-first-place-< (suc (suc (suc zero))) = omega arith
-first-place-< (suc (suc (suc (suc zero)))) = omega arith
-first-place-< (suc (suc (suc (suc (suc d))))) = omega arith
-
 row-< : (a b c e : ℕ) → a < 16 → b < 16 → c < 16 → e < 16 → (i : ℕ) → getD (a ∷ b ∷ c ∷ e ∷ []) i 0 < 16
 row-< a b c e p q r s zero = p
 row-< a b c e p q r s (suc zero) = q
@@ -86,16 +66,6 @@ missing-place-< (suc (suc zero)) c = row-< 4 8 0 0 (omega arith) (omega arith) (
 missing-place-< (suc (suc (suc zero))) c = row-< 6 10 12 0 (omega arith) (omega arith) (omega arith) (omega arith) c
 missing-place-< (suc (suc (suc (suc zero)))) c = row-< 7 11 13 14 (omega arith) (omega arith) (omega arith) (omega arith) c
 missing-place-< (suc (suc (suc (suc (suc d))))) c = omega arith
-
--- its place among the sixteen entries
-pub first-place : (cs : List Vec) (d : ℕ) → d ≤ 4 → nth (minors cs) (firstPlace d) ≡ volume cs (firsts 4 d)
-unfolding minors
-first-place cs zero h = refl
-first-place cs (suc zero) h = refl
-first-place cs (suc (suc zero)) h = refl
-first-place cs (suc (suc (suc zero))) h = refl
-first-place cs (suc (suc (suc (suc zero)))) h = refl
-first-place cs (suc (suc (suc (suc (suc d))))) h = absurd (omega arith)
 
 -- ---- picking makes no vector longer
 
@@ -115,45 +85,20 @@ map-same : {A B : Type 0} {f g : A → B} → ((a : A) → f a ≡ g a) → (l :
 map-same h [] = refl
 map-same h (a ∷ l) = ap₂ _∷_ (h a) (map-same h l)
 
-module _ (s : Index) (d : ℕ) (e : marks s ≡ d) (few : d ≤ 4) (wide : length s ≡ mostCoordinates) where
-  -- the coordinates at the places of the choice
-  pub at-places : (v : Vec) → coordinates (filled 0 mostCoordinates (places 0 s)) d v ≡ padded 4 (pick s v)
-  at-places v = coordinates-picked mostCoordinates d s v e (omega (arith, marks-≤ s))
+-- at, a list of places, begins with those of the choice
+module _ (s : Index) (d : ℕ) (e : marks s ≡ d) (few : d ≤ 4) (at : List ℕ) (taken : take d at ≡ places 0 s) where
+  -- the coordinates at these places
+  pub at-places : (v : Vec) → coordinates at d v ≡ padded 4 (pick s v)
+  at-places v = ap (padded 4) (ap (map (nth v)) taken ∙ pick-from 0 s v)
 
-  pub table-minor : (cs : List Vec) → volume (map (coordinates (filled 0 mostCoordinates (places 0 s)) d) cs) (firsts 4 d) ≡ volume cs s
+  pub table-minor : (cs : List Vec) → volume (map (coordinates at d) cs) (firsts 4 d) ≡ volume cs s
   table-minor cs = ap (λ l. volume l (firsts 4 d)) (map-same at-places cs) ∙ minor-here s d e few cs
 
-  pub table-short : (M : ℤ) (b : List Vec) (i : ℕ) → i < length b → N (getD b i []) ≤ℤ M → N (getD (map (coordinates (filled 0 mostCoordinates (places 0 s)) d) b) i []) ≤ℤ M
+  pub table-short : (M : ℤ) (b : List Vec) (i : ℕ) → i < length b → N (getD b i []) ≤ℤ M → N (getD (map (coordinates at d) b) i []) ≤ℤ M
   table-short M b i h k =
-      subst (λ v. N v ≤ℤ M) (sym (getD-map (coordinates (filled 0 mostCoordinates (places 0 s)) d) b [] [] i h ∙ at-places (getD b i [])))
+      subst (λ v. N v ≤ℤ M) (sym (getD-map (coordinates at d) b [] [] i h ∙ at-places (getD b i [])))
       (≤ℤ-trans (N-picked s (omega arith) (getD b i [])) k)
 
-  pub place-within : (i : ℕ) → i < d → getD (filled 0 mostCoordinates (places 0 s)) i 0 < mostCoordinates
-  place-within i h = places-within mostCoordinates s wide i (omega arith)
-
--- ---- where every minor before a number is zero, that number is one of a choice
-
-pub number-within : {d : ℕ} {b : List Vec} → ReducedBasis d b → (n : ℕ) → ((k : ℕ) → k < n → volume (take d b) (choice mostCoordinates k) ≡ pos 0) → n < 2 ^ mostCoordinates
-unfolding isDependent squaredVolume
-number-within {d} {b} r n zeros = pick-one (decLt n (2 ^ mostCoordinates))
-  where
-    bs : List Vec
-    bs = take d b
-
-    vanishes : 2 ^ mostCoordinates ≤ n → (s : Index) → length s ≡ mostCoordinates → volume bs s ≡ pos 0
-    vanishes h s e =
-        ap (volume bs) (sym (ap (λ m. choice m (number s)) (sym e) ∙ choice-number s))
-        ∙ zeros (number s) (lt-of-lt-of-le (subst (λ m. number s < 2 ^ m) e (number-< s)) h)
-
-    pick-one : Dec (n < 2 ^ mostCoordinates) → n < 2 ^ mostCoordinates
-    pick-one (yes h) = h
-    pick-one (no f) = absurd (true≢false
-        (sym (≤ℤ-leZ (≤ℤ-of-≡ (inner-zero mostCoordinates (volume bs) (volume bs) (vanishes (omega (arith, f))))))
-        ∙ independent-exactly mostCoordinates bs (r .fit) .1 (reduced-independent bs (r .reduced) (omega (arith, length-take d b, r .few)))))
-
-pub one-more : (P : ℕ → Type 0) (n : ℕ) → ((k : ℕ) → k < n → P k) → P n → (k : ℕ) → k < n + 1 → P k
-one-more P n f p k h = pick-one (decLt k n)
-  where
-    pick-one : Dec (k < n) → P k
-    pick-one (yes l) = f k l
-    pick-one (no l) = let e : n ≡ k = omega (arith, l) in subst P e p
+  pub place-within : length s ≡ mostCoordinates → (i : ℕ) → i < d → getD at i 0 < mostCoordinates
+  place-within wide i h =
+      subst (λ k. k < mostCoordinates) (ap (λ l. getD l i 0) (sym taken) ∙ getD-take d at i 0 h) (places-< 0 mostCoordinates s (omega arith) i (omega arith))

@@ -8,16 +8,17 @@ use lib.Seq.{take-all}
 use mir.Syntax.{w64}
 use mir.Val.{ofZ, toZ}
 use mir.Facts.{toZ-ofZ}
+use Rattle.lattices.specs.Refusal.{mostCoordinates}
 use Rattle.lattices.specs.Vector.{dot}
 use Rattle.row_operations.specs.Dot.{DotTurn, dot-suc, dot-turn}
 use Rattle.row_operations.proofs.dot.Statement.{statement}
 use Rattle.row_operations.proofs.dot.Tie as tie
 
 abbrev Inv-loop : tie.InvT-loop
-Inv-loop a b sum₀ i₀ sum i = (i ≤ 4) × (sum ≡ ofZ w64 (dot (take i a) (take i b)))
+Inv-loop a b sum₀ i₀ sum i = (i ≤ mostCoordinates) × (sum ≡ ofZ w64 (dot (take i a) (take i b)))
 
 abbrev μ-loop : tie.MeasureT-loop
-μ-loop a b sum₀ i₀ sum i = 4 - i
+μ-loop a b sum₀ i₀ sum i = mostCoordinates - i
 
 loop-holds : tie.Need-loop-holds Inv-loop μ-loop
 unfolding dot

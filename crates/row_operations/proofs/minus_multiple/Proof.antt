@@ -9,6 +9,7 @@ use lib.IntN.{pos}
 use mir.Syntax.{w64}
 use mir.Val.{SFits, ofZ, toZ}
 use mir.Facts.{toZ-ofZ}
+use Rattle.lattices.specs.Refusal.{mostCoordinates}
 use Rattle.lattices.specs.Vector.{_⊖_, _⊙_}
 use Rattle.row_operations.specs.Front.{front, front-all}
 use Rattle.row_operations.specs.Loss.{⊖-nothing}
@@ -17,10 +18,10 @@ use Rattle.row_operations.proofs.minus_multiple.Statement.{statement}
 use Rattle.row_operations.proofs.minus_multiple.Tie as tie
 
 abbrev Inv-loop : tie.InvT-loop
-Inv-loop q b r₀ i₀ r i = (i ≤ 4) × (r ≡ front i (r₀ ⊖ toZ w64 q ⊙ b) r₀)
+Inv-loop q b r₀ i₀ r i = (i ≤ mostCoordinates) × (r ≡ front i (r₀ ⊖ toZ w64 q ⊙ b) r₀)
 
 abbrev μ-loop : tie.MeasureT-loop
-μ-loop q b r₀ i₀ r i = 4 - i
+μ-loop q b r₀ i₀ r i = mostCoordinates - i
 
 returns : tie.Need-returns Inv-loop μ-loop
 returns c =

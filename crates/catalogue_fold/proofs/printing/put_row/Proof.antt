@@ -8,6 +8,7 @@ use mir.Facts.{toZ-ofZ}
 use borrow.Author.Needs.{needs}
 use lib.Seq.{sets, length-sets}
 use Rattle.catalogue_fold.specs.Spread.{sets-more}
+use Rattle.lattices.specs.Refusal.{mostCoordinates}
 use Rattle.catalogue_fold.proofs.printing.put_row.Statement.{statement}
 use Rattle.catalogue_fold.proofs.printing.put_row.Tie as tie
 
@@ -29,7 +30,7 @@ array-copy-out-out c = search needs
 long : (c : tie.At-loop Inv-loop μ-loop) → length (c .loop .out) ≡ length (c .before .args .out .now)
 long c = let a = c .before .args in ap length (c .loop .inv .1) ∙ length-sets (a .out .now) (a .n) (take (c .loop .j) (a .t3))
 
-wide : (c : tie.Start Inv-loop μ-loop) → length (c .args .t3) ≡ 4
+wide : (c : tie.Start Inv-loop μ-loop) → length (c .args .t3) ≡ mostCoordinates
 wide c = search needs
 
 add-t12 : tie.Need-add-t12 Inv-loop μ-loop

@@ -12,11 +12,13 @@ use lib.Seq.{sets}
 use Rattle.integers.specs.Filled.{filled}
 use Rattle.integers.specs.FilledLaws.{length-filled}
 use Rattle.catalogue_fold.specs.Spread.{cut, cut-more, length-cut, put-filled}
+use Rattle.catalogue_rules.specs.Catalogue.{mostNumbers}
+use Rattle.lattices.specs.Refusal.{mostVectors, mostCoordinates}
 use Rattle.catalogue_fold.proofs.printing.spread.Statement.{statement}
 use Rattle.catalogue_fold.proofs.printing.spread.Tie as tie
 
 abbrev Inv-loop : tie.InvT-loop
-Inv-loop k rows out₀ i₀ i-end out i = (i ≤ i-end) × (out ≡ filled (pos 0) 16 (cut (k .m) rows i))
+Inv-loop k rows out₀ i₀ i-end out i = (i ≤ i-end) × (out ≡ filled (pos 0) mostNumbers (cut (k .m) rows i))
 
 abbrev μ-loop : tie.MeasureT-loop
 μ-loop k rows out₀ i₀ i-end out i = i-end - i
@@ -27,20 +29,20 @@ vectors-of-requires c κs = search needs
 loop-holds : tie.Need-loop-holds Inv-loop μ-loop
 loop-holds c = (search needs, refl)
 
-long : (c : tie.At-loop Inv-loop μ-loop) → length (c .loop .out) ≡ 16
-long c = ap length (c .loop .inv .1) ∙ length-filled (pos 0) 16 (cut (c .before .before .before .args .k .m) (c .before .vectors-of .result) (c .loop .i))
+long : (c : tie.At-loop Inv-loop μ-loop) → length (c .loop .out) ≡ mostNumbers
+long c = ap length (c .loop .inv .1) ∙ length-filled (pos 0) mostNumbers (cut (c .before .before .before .args .k .m) (c .before .vectors-of .result) (c .loop .i))
 
 -- what is kept, of the array
-full : (c : tie.After-vectors-of Inv-loop μ-loop) (i : ℕ) → i < c .before .before .args .k .d → length (getD (c .vectors-of .result) i []) ≡ 4
+full : (c : tie.After-vectors-of Inv-loop μ-loop) (i : ℕ) → i < c .before .before .args .k .d → length (getD (c .vectors-of .result) i []) ≡ mostCoordinates
 full c i h = ap (λ l. length (getD l i [])) (c .vectors-of .ensures) ∙ c .before .before .pre .rows i h
 
 many : (c : tie.After-vectors-of Inv-loop μ-loop) → c .before .before .args .k .d ≤ length (c .vectors-of .result)
 many c = subst (λ l. c .before .before .args .k .d ≤ length l) (sym (c .vectors-of .ensures)) (c .before .before .pre .count)
 
 -- the row after the first i has room
-room : (i d m : ℕ) → i < d → d ≤ 4 → m ≤ 4 → i * m + m ≤ 16
+room : (i d m : ℕ) → i < d → d ≤ mostVectors → m ≤ mostCoordinates → i * m + m ≤ mostNumbers
 room i d m h k w =
-    let f : i + 1 ≤ 4 = omega arith in
+    let f : i + 1 ≤ mostVectors = omega arith in
     let e : (i + 1) * m ≤ 4 * 4 = mul-le-mul f w in
     omega (arith, e)
 
@@ -53,7 +55,7 @@ array-copy-out-v c = omega (arith, c .before .before .before .before .pre .few, 
 slice-aggregate-put-row : tie.Need-slice-aggregate-put-row Inv-loop μ-loop
 slice-aggregate-put-row c = sym (long (c .before .before .before))
 
-fits : (c : tie.In-loop Inv-loop μ-loop) → let k = c .before .before .before .before .args .k in c .before .loop .i * k .m + k .m ≤ 16
+fits : (c : tie.In-loop Inv-loop μ-loop) → let k = c .before .before .before .before .args .k in c .before .loop .i * k .m + k .m ≤ mostNumbers
 fits c = let s = c .before .before .before .before in room (c .before .loop .i) (s .args .k .d) (s .args .k .m) (c .loop-test .taken) (s .pre .few) (s .pre .narrow)
 
 mul-put-row : tie.Need-mul-put-row Inv-loop μ-loop
@@ -88,8 +90,8 @@ loop-again c =
       search needs,
       c .before .put-row .ensures
           ∙ ap₂ (λ o n. sets o n v) (l .loop .inv .1) (sym done)
-          ∙ put-filled (pos 0) 16 (cut m rows i) v (omega (arith, done, wide, fits (c .before .before .before .before .before)))
-          ∙ ap (filled (pos 0) 16) (sym (cut-more m rows i below)),
+          ∙ put-filled (pos 0) mostNumbers (cut m rows i) v (omega (arith, done, wide, fits (c .before .before .before .before .before)))
+          ∙ ap (filled (pos 0) mostNumbers) (sym (cut-more m rows i below)),
     )
 
 returns : tie.Need-returns Inv-loop μ-loop
@@ -97,7 +99,7 @@ returns c =
     let l = c .before in
     let k = l .before .before .before .args .k in
     let end : l .loop .i ≡ k .d = omega (arith, l .loop .inv .0, c .loop-test .left) in
-    l .loop .inv .1 ∙ ap₂ (λ rows i. filled (pos 0) 16 (cut (k .m) rows i)) (l .before .vectors-of .ensures) end
+    l .loop .inv .1 ∙ ap₂ (λ rows i. filled (pos 0) mostNumbers (cut (k .m) rows i)) (l .before .vectors-of .ensures) end
 
 pub spread-spec : {M : Type 1} → statement M
 spread-spec =

@@ -6,7 +6,7 @@ use native.Mathlib.Omega.{arith}
 use lib.ListN.{length, take}
 use Rattle.lattices.specs.Answer.{reductionOf}
 use Rattle.row_operations.specs.RowStructs.{vectorRow}
-use Rattle.catalogue_rules.specs.Catalogue.{coordinates}
+use Rattle.catalogue_rules.specs.Catalogue.{coordinates, mostNumbers}
 use Rattle.catalogue_rules.specs.Laws.EntriesAccepted.{numbers-back}
 use Rattle.catalogue_records.specs.EntriesIn.{entryIn}
 use Rattle.catalogue_records.specs.Coordinates.{most, cut}
@@ -15,10 +15,10 @@ use borrow.Author.Needs.{needs}
 use Rattle.catalogue_standing.proofs.reduced_entry.keep.Statement.{statement}
 use Rattle.catalogue_standing.proofs.reduced_entry.keep.Tie as tie
 
-long : (c : tie.Start) → length (c .args .e .coordinates) ≡ 16
+long : (c : tie.Start) → length (c .args .e .coordinates) ≡ mostNumbers
 long c = search needs
 
-at-most : (c : tie.Start) → c .args .e .d * c .args .e .m ≤ 16
+at-most : (c : tie.Start) → c .args .e .d * c .args .e .m ≤ mostNumbers
 at-most c = most (c .args .e) (c .pre) (long c)
 
 same : (c : tie.Start) → let e = c .args .e in take (e .d * e .m) (e .coordinates) ≡ coordinates (entryIn e .vectors)
@@ -38,11 +38,11 @@ reduce-requires c κs = search needs
 
 returns : tie.Need-returns
 returns c =
-    let s = c .before .before .before .before .before in
+    let s = c .before .before .before .before .before .before in
     let e = s .args .e in
-    let kept : _ → _ → ReducedEntry = λ vectors passes. record { d = e .d; m = e .m; vectors = vectors; passes = passes } in
-    ap (λ r. kept (r .vectors) (r .passes)) (c .before .reduce .ensures)
-    ∙ ap (λ l. let r = reductionOf (record { numbers = l; d = e .d; m = e .m; target = [] }) in kept (map vectorRow (r .basis)) (r .passes)) (same s)
+    let kept : _ → _ → _ → ReducedEntry = λ vectors squares passes. record { d = e .d; m = e .m; vectors = vectors; squares = squares; passes = passes } in
+    ap (λ r. kept (r .vectors) (r .squares) (r .passes)) (c .before .before .reduce .ensures)
+    ∙ ap (λ l. let r = reductionOf (record { numbers = l; d = e .d; m = e .m; target = [] }) in kept (map vectorRow (r .basis)) (r .squares) (r .passes)) (same s)
 
 pub keep-spec : {M : Type 1} → statement M
 keep-spec =

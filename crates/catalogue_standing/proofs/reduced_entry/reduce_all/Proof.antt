@@ -7,6 +7,7 @@ use borrow.Author.Needs.{needs}
 use Rattle.catalogue_rules.specs.Form.{EntryFits}
 use Rattle.catalogue_records.specs.Entries.{all-stored, entry-has}
 use Rattle.catalogue_standing.specs.ReducedEntries.{HoldReduced, keeps-none, keeps-more}
+use Rattle.catalogue_rules.specs.Catalogue.{mostEntries}
 use Rattle.catalogue_standing.proofs.reduced_entry.reduce_all.Statement.{statement}
 use Rattle.catalogue_standing.proofs.reduced_entry.reduce_all.Tie as tie
 
@@ -16,7 +17,7 @@ Inv-loop c list₀ k₀ k-end list k = (k ≤ k-end) × HoldReduced c k list
 abbrev μ-loop : tie.MeasureT-loop
 μ-loop c list₀ k₀ k-end list k = k-end - k
 
-long : (c : tie.Start Inv-loop μ-loop) → length (c .args .t1 .entries) ≡ 256
+long : (c : tie.Start Inv-loop μ-loop) → length (c .args .t1 .entries) ≡ mostEntries
 long c = all-stored (c .args .t1) _ (c .good .0 .1 .1 .1 .1 .1 .0 .1 .0 .1)
 
 loop-holds : tie.Need-loop-holds Inv-loop μ-loop

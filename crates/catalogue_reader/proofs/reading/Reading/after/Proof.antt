@@ -25,14 +25,14 @@ enum-told c = search needs
 stop-requires : tie.Need-stop-requires
 stop-requires c κs = search needs
 
-enum-known-w-2 : tie.Need-enum-known-w-2
-enum-known-w-2 c = search needs
+enum-told-2 : tie.Need-enum-told-2
+enum-told-2 c = search needs
 
 with-entry-requires-2 : tie.Need-with-entry-requires-2
 with-entry-requires-2 c κs = search needs
 
-enum-known-w-3 : tie.Need-enum-known-w-3
-enum-known-w-3 c = search needs
+enum-known-w-2 : tie.Need-enum-known-w-2
+enum-known-w-2 c = search needs
 
 with-entry-requires-3 : tie.Need-with-entry-requires-3
 with-entry-requires-3 c κs = search needs
@@ -40,8 +40,8 @@ with-entry-requires-3 c κs = search needs
 at-end-requires : tie.Need-at-end-requires
 at-end-requires c κs = search needs
 
-enum-told-2 : tie.Need-enum-told-2
-enum-told-2 c = search needs
+enum-told-3 : tie.Need-enum-told-3
+enum-told-3 c = search needs
 
 stop-requires-2 : tie.Need-stop-requires-2
 stop-requires-2 c κs = search needs
@@ -59,18 +59,18 @@ returns-2 c =
 
 returns-3 : tie.Need-returns-3
 returns-3 c =
-    let s = c .before .before .before .before .before in
-    c .with-entry2 .ensures ∙ sym (ap (λ w. afterRead (s .args .numbers .now) (s .args .self) (s .args .i) (wordIn w)) (c .before .before .w2 .given .1))
+    let s = c .before .before .before .before in
+    c .with-entry2 .ensures ∙ sym (ap (λ w. afterRead (s .args .numbers .now) (s .args .self) (s .args .i) (wordIn w)) (c .before .enum-told2 .given .1))
 
 returns-4 : tie.Need-returns-4
 returns-4 c =
     let s = c .before .before .before .before .before .before in
-    c .at-end .ensures ∙ ap (λ r. endRead r (c .before .before .before .w3 .given .0 .0)) (c .before .with-entry3 .ensures) ∙ sym (ap (λ w. afterRead (s .args .numbers .now) (s .args .self) (s .args .i) (wordIn w)) (c .before .before .before .w3 .given .1))
+    c .at-end .ensures ∙ ap (λ r. endRead r (c .before .before .before .w2 .given .0 .0)) (c .before .with-entry3 .ensures) ∙ sym (ap (λ w. afterRead (s .args .numbers .now) (s .args .self) (s .args .i) (wordIn w)) (c .before .before .before .w2 .given .1))
 
 returns-5 : tie.Need-returns-5
 returns-5 c =
     let s = c .before .before .before .before in
-    c .stop2 .ensures ∙ sym (ap (λ w. afterRead (s .args .numbers .now) (s .args .self) (s .args .i) (wordIn w)) (c .before .enum-told2 .given .1))
+    c .stop2 .ensures ∙ sym (ap (λ w. afterRead (s .args .numbers .now) (s .args .self) (s .args .i) (wordIn w)) (c .before .enum-told3 .given .1))
 
 pub after-spec : {M : Type 1} → statement M
 after-spec =
@@ -81,12 +81,12 @@ after-spec =
     at-head-requires
     enum-told
     stop-requires
-    enum-known-w-2
+    enum-told-2
     with-entry-requires-2
-    enum-known-w-3
+    enum-known-w-2
     with-entry-requires-3
     at-end-requires
-    enum-told-2
+    enum-told-3
     stop-requires-2
     returns
     returns-2

@@ -3,21 +3,22 @@ use mathlib.Core.Path.{_≡_, sym, ap, _∙_}
 use mathlib.Core.Bool.{not, false}
 use lib.Dec.{leb}
 use borrow.Author.Tests.{le-leb, lt-leb}
-use Rattle.lattices.specs.Refusal.{oneTo}
+use Rattle.lattices.specs.Refusal.{oneTo, mostVectors, mostCoordinates}
 use Rattle.catalogue_reader.specs.declared.reading.Phase.the-variants.{Inside}
 use Rattle.catalogue_reader.specs.Readings.{going}
 use Rattle.catalogue_reader.specs.Turns.{head-15, head-1, head-2, head-11, head-goes}
+use Rattle.catalogue_rules.specs.Catalogue.{mostEntries}
 use borrow.Author.Needs.{needs}
 use Rattle.catalogue_reader.proofs.reading.Reading.at_head.Statement.{statement}
 use Rattle.catalogue_reader.proofs.reading.Reading.at_head.Tie as tie
 
-room : (c : tie.Else1) → leb 256 (c .before .before .before .args .self .count) ≡ false
-room c = lt-leb 256 _ (c .if1 .left)
+room : (c : tie.Else1) → leb mostEntries (c .before .before .before .args .self .count) ≡ false
+room c = lt-leb mostEntries _ (c .if1 .left)
 
-counted : (c : tie.Else2) → not (oneTo 4 (c .before .before .before .before .before .args .d)) ≡ false
+counted : (c : tie.Else2) → not (oneTo mostVectors (c .before .before .before .before .before .args .d)) ≡ false
 counted c = ap not (sym (c .before .one-to .ensures)) ∙ c .if2 .left
 
-narrow : (c : tie.Else3) → not (oneTo 4 (c .before .before .before .before .before .before .before .args .m)) ≡ false
+narrow : (c : tie.Else3) → not (oneTo mostCoordinates (c .before .before .before .before .before .before .before .args .m)) ≡ false
 narrow c = ap not (sym (c .before .one-to2 .ensures)) ∙ c .if3 .left
 
 stop-requires : tie.Need-stop-requires
@@ -26,7 +27,7 @@ stop-requires c κs = search needs
 returns : tie.Need-returns
 returns c =
     let s = c .before .before .before .before in
-    c .stop .ensures ∙ head-15 (s .args .numbers .now) (s .args .self) (s .args .number) (s .args .d) (s .args .m) (s .args .i) (le-leb 256 _ (c .before .if1 .taken))
+    c .stop .ensures ∙ head-15 (s .args .numbers .now) (s .args .self) (s .args .number) (s .args .d) (s .args .m) (s .args .i) (le-leb mostEntries _ (c .before .if1 .taken))
 
 one-to-requires : tie.Need-one-to-requires
 one-to-requires c κs = search needs
@@ -75,7 +76,7 @@ returns-5 c =
     let o = c .before .before .before in
     let s = c .before .before .before .before .before .before .before .before .before .before .before in
     c .going .ensures
-    ∙ ap (λ p. going Inside (s .args .self .count) p (s .args .self .last)) (c .before .start .ensures)
+    ∙ ap (λ p. going Inside (s .args .self .count) p) (c .before .start .ensures)
     ∙ head-goes (s .args .numbers .now) (s .args .self) (s .args .number) (s .args .d) (s .args .m) (s .args .i) (room (o .before .before .before .before .before)) (counted (o .before .before .before)) (narrow (o .before)) (sym (o .not-free .ensures) ∙ c .before .before .if4 .left)
 
 pub at-head-spec : {M : Type 1} → statement M

@@ -1,19 +1,27 @@
 -- Too long, the last vector of the entry, or another.
-use mathlib.Core.Path.{sym, _∙_}
+use mathlib.Core.Path.{_≡_, sym, ap, _∙_}
 use mathlib.Core.List.{[]}
+use lib.IntN.{pos}
+use lib.Signed.{ltZ}
+use mir.Syntax.{w64}
+use mir.Val.{toZ, ofZ}
+use mir.Facts.{toZ-ofZ}
+use Rattle.integers.specs.Size.{fits-within}
+use Rattle.lattices.specs.Refusal.{mostSquare}
 use Rattle.catalogue_reader.specs.Turns.{applies, last-vector, more-vectors}
 use borrow.Author.Needs.{needs}
 use Rattle.catalogue_reader.proofs.reading.Reading.at_vector.Statement.{statement}
 use Rattle.catalogue_reader.proofs.reading.Reading.at_vector.Tie as tie
 
-long-requires : tie.Need-long-requires
-long-requires c κs = search needs
+-- the test of the code is that of the definition
+tested : (c : tie.Start) → ltZ (pos mostSquare) (c .args .part .square) ≡ ltZ (pos mostSquare) (toZ w64 (ofZ w64 (c .args .part .square)))
+tested c = ap (ltZ (pos mostSquare)) (sym (toZ-ofZ {w = w64} (fits-within (c .pre .1) tt)))
 
 stop-requires : tie.Need-stop-requires
 stop-requires c κs = search needs
 
 returns : tie.Need-returns
-returns c = c .stop .ensures ∙ applies 4 [] _ (sym (c .before .before .long .ensures) ∙ c .before .if1 .taken)
+returns c = c .stop .ensures ∙ applies 4 [] _ (tested (c .before .before .before .before) ∙ c .before .if1 .taken)
 
 with-vector-requires : tie.Need-with-vector-requires
 with-vector-requires c κs = search needs
@@ -24,8 +32,8 @@ going-requires c κs = search needs
 returns-2 : tie.Need-returns-2
 returns-2 c =
     let w = c .before .before .before in
-    let l = w .before .before in
-    c .going .ensures ∙ last-vector (l .before .before .args .self) (l .before .before .args .part) (w .with-vector .result) (w .with-vector .ensures) (sym (l .long .ensures) ∙ w .before .if1 .left) (c .before .if2 .taken)
+    let s = w .before .before .before .before in
+    c .going .ensures ∙ last-vector (s .args .self) (s .args .part) (w .with-vector .result) (w .with-vector .ensures) (tested s ∙ w .before .if1 .left) (c .before .if2 .taken)
 
 going-requires-2 : tie.Need-going-requires-2
 going-requires-2 c κs = search needs
@@ -33,14 +41,13 @@ going-requires-2 c κs = search needs
 returns-3 : tie.Need-returns-3
 returns-3 c =
     let w = c .before .before .before in
-    let l = w .before .before in
-    c .going2 .ensures ∙ more-vectors (l .before .before .args .self) (l .before .before .args .part) (w .with-vector .result) (w .with-vector .ensures) (sym (l .long .ensures) ∙ w .before .if1 .left) (c .before .if2 .left)
+    let s = w .before .before .before .before in
+    c .going2 .ensures ∙ more-vectors (s .args .self) (s .args .part) (w .with-vector .result) (w .with-vector .ensures) (tested s ∙ w .before .if1 .left) (c .before .if2 .left)
 
 pub at-vector-spec : {M : Type 1} → statement M
 at-vector-spec =
     tie.close
     (tie.spec
-    long-requires
     stop-requires
     returns
     with-vector-requires

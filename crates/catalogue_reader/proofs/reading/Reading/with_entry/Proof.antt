@@ -1,5 +1,5 @@
--- The part becomes the last entry.
-use mathlib.Core.Path.{ap₂}
+-- One entry more, and an empty part.
+use mathlib.Core.Path.{ap}
 use Prim.Native.Nat.{_+_}
 use Rattle.catalogue_reader.specs.declared.reading.Phase.the-variants.{Outside}
 use Rattle.catalogue_reader.specs.Readings.{going}
@@ -7,17 +7,14 @@ use borrow.Author.Needs.{needs}
 use Rattle.catalogue_reader.proofs.reading.Reading.with_entry.Statement.{statement}
 use Rattle.catalogue_reader.proofs.reading.Reading.with_entry.Tie as tie
 
-entry-requires : tie.Need-entry-requires
-entry-requires c κs = search needs
-
-add-t8 : tie.Need-add-t8
-add-t8 c = search needs
+add-t3 : tie.Need-add-t3
+add-t3 c = search needs
 
 empty-requires : tie.Need-empty-requires
 empty-requires c κs = search needs
 
 returns : tie.Need-returns
-returns c = ap₂ (λ p e. going Outside (c .before .before .before .before .args .self .count + 1) p e) (c .empty .ensures) (c .before .before .entry .ensures)
+returns c = ap (λ p. going Outside (c .before .before .args .self .count + 1) p) (c .empty .ensures)
 
 pub with-entry-spec : {M : Type 1} → statement M
-with-entry-spec = tie.close (tie.spec entry-requires add-t8 empty-requires returns)
+with-entry-spec = tie.close (tie.spec add-t3 empty-requires returns)

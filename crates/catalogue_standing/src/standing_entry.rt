@@ -1,0 +1,78 @@
+// The standing entry of one entry, found without those of the others: the first before it of the same lattice, else itself.
+ghost use mathlib.Core.Path.{_≡_};
+ghost use mathlib.Core.List.{map};
+ghost use Prim.Native.Nat.{_<_};
+ghost use Rattle.integers.specs.Every.{every};
+ghost use Rattle.lattices.specs.Answer.{padded};
+ghost use Rattle.lattices.specs.Refusal.{mostCoordinates};
+ghost use Rattle.successive_minima.specs.Member.{isMember};
+ghost use Rattle.lattice_membership.specs.Known.{Known, vectorsIn};
+ghost use Rattle.catalogue_rules.specs.Form.{EntryFits};
+ghost use Rattle.catalogue_records.specs.EntriesIn.{entryIn};
+ghost use Rattle.catalogue_records.specs.Entries.{entryAt};
+ghost use Rattle.fold_rules.specs.Fold.{sameLattice};
+ghost use Rattle.fold_rules.specs.Laws.SameLattice.{Sound};
+ghost use Rattle.catalogue_standing.specs.ReducedEntry.{reducedEntry};
+ghost use Rattle.catalogue_standing.specs.SameLattice.{LatticeOf};
+ghost use Rattle.catalogue_standing.specs.Places.{First};
+ghost use Rattle.catalogue_standing.specs.ReducedEntries.{WasRead};
+use super::reduced_entry::keep;
+use super::same_lattice::lattice_of;
+use catalogue_records::Catalogue;
+use catalogue_records::Entry;
+use lattice_membership::Lattice;
+use lattice_membership::holds_lattice;
+
+// The lattice of an entry as it was read.
+fn entry_lattice(e: Entry) -> Lattice
+    requires { ⌜ Sound (entryIn e) ⌝ }
+    ensures { λ r. ⌜ LatticeOf (reducedEntry (entryIn e)) r ⌝ }
+{
+    lattice_of(keep(e))
+}
+
+// Whether a lattice holds the vectors of an entry as they were read.
+fn holds_entry(l: Lattice, e: Entry) -> bool
+    requires { ⌜ Known l ⌝ }
+    requires { ⌜ EntryFits (entryIn e) ⌝ }
+    ensures { λ r. ⌜ r ≡ every (isMember (vectorsIn l)) (map (padded mostCoordinates) (entryIn e .vectors)) ⌝ }
+{
+    let coordinates = e.coordinates;
+    let n = e.d * e.m;
+    lattice_membership::holds_numbers(l, &coordinates[..n], e.d, e.m)
+}
+
+// Whether f is of the lattice of e, which is given. Only where that holds all vectors of f is f reduced.
+fn same_entry(f: Entry, e: Entry, l: Lattice) -> bool
+    requires { ⌜ (Sound (entryIn f)) × (Sound (entryIn e)) ⌝ }
+    requires { ⌜ LatticeOf (reducedEntry (entryIn e)) l ⌝ }
+    ensures { λ r. ⌜ r ≡ sameLattice (entryIn f) (entryIn e) ⌝ }
+{
+    if f.m != e.m {
+        return false;
+    }
+    if f.d != e.d {
+        return false;
+    }
+    if !holds_entry(l, f) {
+        return false;
+    }
+    holds_lattice(entry_lattice(f), l)
+}
+
+// The place of the standing entry of entry k.
+pub fn standing_place(c: Catalogue, k: usize) -> usize
+    requires { ⌜ WasRead c ⌝ }
+    requires { ⌜ k < c .count ⌝ }
+    ensures { λ r. ⌜ First (λ j. sameLattice (entryIn (entryAt c j)) (entryIn (entryAt c k))) k r ⌝ }
+{
+    let e = c.entries[k];
+    let l = entry_lattice(e);
+    for j in 0..k {
+        let f = c.entries[j];
+        if same_entry(f, e, l) {
+            return j;
+        }
+    }
+    k
+}

@@ -1,0 +1,59 @@
+-- The exchanges on the four tables are that of the rows.
+use mathlib.Core.Path.{_≡_, ap, _∙_}
+use mathlib.Core.List.{map}
+use native.Mathlib.Omega.{arith}
+use lib.ListN.{length, length-map}
+use denote.Ref.{now}
+use Rattle.gram_matrix.specs.Order.{exchanged, swapped, length-exchanged}
+use Rattle.gram_matrix.specs.Tied.{tied-exchanged, tied-length}
+use borrow.Author.Needs.{needs}
+use Rattle.gram_matrix.proofs.exchange.Statement.{statement}
+use Rattle.gram_matrix.proofs.exchange.Tie as tie
+use Rattle.gram_matrix.proofs.exchange.Reads as reads
+use Rattle.gram_matrix.proofs.exchange.Lts as lts
+use Rattle.gram_matrix.proofs.exchange_columns.Reads as exchange-columns-reads
+use Rattle.gram_matrix.proofs.exchange_rows.Reads as exchange-rows-reads
+use Rattle.gram_matrix.proofs.exchange_vectors.Reads as exchange-vectors-reads
+
+exchange-columns-requires : tie.Need-exchange-columns-requires
+exchange-columns-requires c κs = (c .before .pre .1 .gram, c .before .pre .0)
+
+exchange-rows-requires : tie.Need-exchange-rows-requires
+exchange-rows-requires c κs = (ap length (c .before .exchange-columns .ensures) ∙ length-map (now (c .before .before .before .args .g)) (swapped (c .before .before .before .args .j)) ∙ c .before .before .before .pre .1 .gram, c .before .before .before .pre .0)
+
+exchange-vectors-requires : tie.Need-exchange-vectors-requires
+exchange-vectors-requires c κs = (c .before .before .before .before .before .pre .1 .vectors, c .before .before .before .before .before .pre .0)
+
+exchange-rows-requires-2 : tie.Need-exchange-rows-requires-2
+exchange-rows-requires-2 c κs = (c .before .before .before .before .before .before .before .pre .1 .us, c .before .before .before .before .before .before .before .pre .0)
+
+exchange-columns-requires-2 : tie.Need-exchange-columns-requires-2
+exchange-columns-requires-2 c κs = (c .before .before .before .before .before .before .before .before .before .pre .1 .vs, c .before .before .before .before .before .before .before .before .before .pre .0)
+
+returns : tie.Need-returns
+returns c = let s = c .before .before .before .before .before .before .before .before .before .before in
+    let j = s .args .j in
+    let h = s .pre .1 in
+    let g = c .before .before .before .before .before .before .exchange-rows .ensures ∙ ap (exchanged j) (c .before .before .before .before .before .before .before .before .exchange-columns .ensures) in
+    let b = c .before .before .before .before .exchange-vectors .ensures in
+    let u = c .before .before .exchange-rows2 .ensures in
+    let v = c .exchange-columns2 .ensures in (
+      record {
+        gram = ap length g ∙ length-exchanged j (map (swapped j) (now (s .args .g))) ∙ length-map (now (s .args .g)) (swapped j) ∙ h .gram;
+        vectors = ap length b ∙ length-exchanged j (now (s .args .b)) ∙ h .vectors;
+        us = ap length u ∙ length-exchanged j (now (s .args .u)) ∙ h .us;
+        vs = ap length v ∙ length-map (now (s .args .v)) (swapped j) ∙ h .vs;
+      },
+      λ K rows t. rw (g, b, u, v) (tied-exchanged j (omega (arith, tied-length t, h .us, s .pre .0)) t),
+    )
+
+pub exchange-spec : {M : Type 1} → statement M
+exchange-spec =
+    tie.close
+    (tie.spec
+    exchange-columns-requires
+    exchange-rows-requires
+    exchange-vectors-requires
+    exchange-rows-requires-2
+    exchange-columns-requires-2
+    returns)

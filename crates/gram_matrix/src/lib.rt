@@ -1,0 +1,313 @@
+// The greedy steps on the Gram matrix of the vectors: squared lengths are on its diagonal. Vectors, U and V go through the same steps beside it.
+ghost use mathlib.Core.Path.{_≡_};
+ghost use mathlib.Core.List.{List, [], _++_, map};
+ghost use Prim.Native.Nat.{ℕ, suc, _+_, _-_, _≤_, _<_};
+ghost use lib.IntN.{natAbs, _-ℤ_, _*ℤ_};
+ghost use lib.ListN.{length, getD, set, take, drop};
+ghost use Rattle.lattices.specs.Vector.{nth, dot, _⊖_, _⊙_};
+ghost use Rattle.row_operations.specs.Minus.{room};
+ghost use Rattle.gram_matrix.specs.Columns.{gainedAt, gainedColumns};
+ghost use Rattle.gram_matrix.specs.Lose.{Losable, Gainable, Loses, Gains, lost};
+ghost use Rattle.gram_matrix.specs.Gram.{losing, losingEntry};
+ghost use Rattle.gram_matrix.specs.Cross.{entered, crossed};
+ghost use Rattle.integers.specs.Size.{Within};
+ghost use Rattle.gram_matrix.specs.Formed.{products, formed, grown};
+ghost use Rattle.gram_matrix.specs.Work.{workOf};
+ghost use Rattle.lattices.specs.Greedy.{Row, order};
+ghost use Rattle.gram_matrix.specs.Order.{exchanged, swapped, insertAt};
+ghost use Rattle.gram_matrix.specs.Tied.{Held, Kind, Tied, shorterIn};
+use row_operations::Basis;
+use row_operations::TableRow;
+use row_operations::Vector;
+use row_operations::VectorRow;
+
+// A number for each two vectors.
+pub type Table = [[i64; 4]; 4];
+
+// The inner products of the first d vectors with v, zeros behind.
+fn products(b: &Basis, d: usize, v: Vector) -> [i64; 4]
+    requires { ⌜ d ≤ 4 ⌝ }
+    requires { ⌜ length (now b) ≡ 4 ⌝ }
+    requires { ⌜ ((i j : ℕ) → Within 100000 (nth (getD (now b) i []) j)) ⌝ }
+    requires { ⌜ ((j : ℕ) → Within 100000 (nth v j)) ⌝ }
+    ensures { λ r. ⌜ r ≡ products (take d (now (b .entry))) v ⌝ }
+{
+    let mut r = [0; 4];
+    for j in 0..d {
+        r[j] = row_operations::dot(b[j], v);
+    }
+    r
+}
+
+// Entry k of each row becomes that of r at its place.
+fn enter(g: &mut Table, k: usize, r: &[i64; 4])
+    requires { ⌜ k ≤ 3 ⌝ }
+    requires { ⌜ length (now g) ≡ 4 ⌝ }
+    ensures { λ _. ⌜ now (g .exit) ≡ entered k (now (r .entry)) (now (g .entry)) ⌝ }
+{
+    for i in 0..4 {
+        g[i][k] = r[i];
+    }
+}
+
+// The Gram matrix of the first d vectors, zeros behind: with each vector its row and its column are added.
+pub fn formed(b: &Basis, d: usize) -> Table
+    requires { ⌜ d ≤ 4 ⌝ }
+    requires { ⌜ length (now b) ≡ 4 ⌝ }
+    requires { ⌜ ((i j : ℕ) → Within 100000 (nth (getD (now b) i []) j)) ⌝ }
+    ensures { λ r. ⌜ r ≡ formed (take d (now (b .entry))) ⌝ }
+{
+    let mut g = [[0; 4]; 4];
+    for i in 0..d {
+        let r = products(b, i + 1, b[i]);
+        g[i] = r;
+        enter(&mut g, i, &r);
+    }
+    g
+}
+
+// Is vector k shorter than the one before it?
+pub fn shorter(g: &Table, k: usize) -> bool
+    requires { ⌜ (0 < k) × (k ≤ 3) ⌝ }
+    requires { ⌜ length (now g) ≡ 4 ⌝ }
+    ensures { λ r. ⌜ r ≡ shorterIn (now (g .entry)) k ⌝ }
+{
+    g[k][k] < g[k - 1][k - 1]
+}
+
+// Vectors j and j + 1 change places.
+fn exchange_vectors(b: &mut Basis, j: usize)
+    requires { ⌜ length (now b) ≡ 4 ⌝ }
+    requires { ⌜ suc j < 4 ⌝ }
+    ensures { λ _. ⌜ now (b .exit) ≡ exchanged j (now (b .entry)) ⌝ }
+{
+    let row = b[j];
+    b[j] = b[j + 1];
+    b[j + 1] = row;
+}
+
+// Rows j and j + 1 change places.
+fn exchange_rows(t: &mut Table, j: usize)
+    requires { ⌜ length (now t) ≡ 4 ⌝ }
+    requires { ⌜ suc j < 4 ⌝ }
+    ensures { λ _. ⌜ now (t .exit) ≡ exchanged j (now (t .entry)) ⌝ }
+{
+    let row = t[j];
+    t[j] = t[j + 1];
+    t[j + 1] = row;
+}
+
+// Entries j and j + 1 of a row change places.
+fn exchange_entries(r: &mut [i64; 4], j: usize)
+    requires { ⌜ suc j < 4 ⌝ }
+    ensures { λ _. ⌜ now (r .exit) ≡ swapped j (now (r .entry)) ⌝ }
+{
+    let x = r[j];
+    r[j] = r[j + 1];
+    r[j + 1] = x;
+}
+
+// Columns j and j + 1 change places.
+fn exchange_columns(t: &mut Table, j: usize)
+    requires { ⌜ length (now t) ≡ 4 ⌝ }
+    requires { ⌜ suc j < 4 ⌝ }
+    ensures { λ _. ⌜ now (t .exit) ≡ map (swapped j) (now (t .entry)) ⌝ }
+{
+    for i in 0..4 {
+        exchange_entries(&mut t[i], j);
+    }
+}
+
+// Row j of all tables changes places with the next one: in the Gram matrix rows and columns, in V columns.
+fn exchange(g: &mut Table, b: &mut Basis, u: &mut Table, v: &mut Table, j: usize)
+    requires { ⌜ suc j < 4 ⌝ }
+    requires { ⌜ Held (now g) (now b) (now u) (now v) ⌝ }
+    ensures { λ _. ⌜ Held (now (g .exit)) (now (b .exit)) (now (u .exit)) (now (v .exit)) ⌝ }
+    ensures { λ _. ⌜ ((K : Kind) (rows : List Row) → Tied K rows (now (g .entry)) (now (b .entry)) (now (u .entry)) (now (v .entry)) → Tied K (exchanged j rows) (now (g .exit)) (now (b .exit)) (now (u .exit)) (now (v .exit))) ⌝ }
+{
+    exchange_columns(g, j);
+    exchange_rows(g, j);
+    exchange_vectors(b, j);
+    exchange_rows(u, j);
+    exchange_columns(v, j);
+}
+
+// Row i goes past those behind it, up to n, that are shorter.
+fn insert(g: &mut Table, b: &mut Basis, u: &mut Table, v: &mut Table, i: usize, n: usize)
+    requires { ⌜ (i < n) × (n ≤ 4) ⌝ }
+    requires { ⌜ Held (now g) (now b) (now u) (now v) ⌝ }
+    ensures { λ _. ⌜ Held (now (g .exit)) (now (b .exit)) (now (u .exit)) (now (v .exit)) ⌝ }
+    ensures { λ _. ⌜ ((K : Kind) (rows : List Row) → Tied K rows (now (g .entry)) (now (b .entry)) (now (u .entry)) (now (v .entry)) → Tied K (insertAt i (n - suc i) rows) (now (g .exit)) (now (b .exit)) (now (u .exit)) (now (v .exit))) ⌝ }
+{
+    let mut j = i;
+    while j + 1 < n {
+        if !shorter(g, j + 1) {
+            return;
+        }
+        exchange(g, b, u, v, j);
+        j += 1;
+    }
+}
+
+// The first n rows in order of length, shortest first and equal lengths in their order; the rows from n on stay.
+pub fn order(g: &mut Table, b: &mut Basis, u: &mut Table, v: &mut Table, n: usize)
+    requires { ⌜ n ≤ 4 ⌝ }
+    requires { ⌜ Held (now g) (now b) (now u) (now v) ⌝ }
+    ensures { λ _. ⌜ Held (now (g .exit)) (now (b .exit)) (now (u .exit)) (now (v .exit)) ⌝ }
+    ensures { λ _. ⌜ ((K : Kind) (rows : List Row) → Tied K rows (now (g .entry)) (now (b .entry)) (now (u .entry)) (now (v .entry)) → Tied K (order (take n rows) ++ drop n rows) (now (g .exit)) (now (b .exit)) (now (u .exit)) (now (v .exit))) ⌝ }
+{
+    let mut i = n;
+    while 1 < i {
+        i -= 1;
+        insert(g, b, u, v, i - 1, n);
+    }
+}
+
+// Entry i loses q times z. Many entries of the tables are 0.
+fn lose_entry(a: &mut [i64], i: usize, q: i64, z: i64)
+    requires { ⌜ i < length (now a) ⌝ }
+    requires { ⌜ natAbs (nth (now a) i) + natAbs (q *ℤ z) ≤ room ⌝ }
+    ensures { λ _. ⌜ now (a .exit) ≡ set (now (a .entry)) i (nth (now (a .entry)) i -ℤ q *ℤ z) ⌝ }
+{
+    if z == 0 {
+        return;
+    }
+    a[i] -= q * z;
+}
+
+// A row loses q times another.
+fn lose(a: &mut [i64], q: i64, b: &[i64])
+    requires { ⌜ length (now a) ≡ length (now b) ⌝ }
+    requires { ⌜ ((i : ℕ) → natAbs (nth (now a) i) + natAbs (q *ℤ nth (now b) i) ≤ room) ⌝ }
+    ensures { λ _. ⌜ now (a .exit) ≡ now (a .entry) ⊖ q ⊙ now (b .entry) ⌝ }
+{
+    for i in 0..a.len() {
+        lose_entry(a, i, q, b[i]);
+    }
+}
+
+// Entry j gains q times entry k.
+fn gain_entry(r: &mut [i64; 4], j: usize, q: i64, k: usize)
+    requires { ⌜ (j < 4) × (k < 4) ⌝ }
+    requires { ⌜ natAbs (nth (now r) j) + natAbs (q *ℤ nth (now r) k) ≤ room ⌝ }
+    ensures { λ _. ⌜ now (r .exit) ≡ gainedAt j q k (now (r .entry)) ⌝ }
+{
+    r[j] += q * r[k];
+}
+
+// Column j gains q times column k.
+fn gain_column(t: &mut Table, j: usize, q: i64, k: usize)
+    requires { ⌜ (j < 4) × (k < 4) ⌝ }
+    requires { ⌜ length (now t) ≡ 4 ⌝ }
+    requires { ⌜ ((i : ℕ) → natAbs (nth (getD (now t) i []) j) + natAbs (q *ℤ nth (getD (now t) i []) k) ≤ room) ⌝ }
+    ensures { λ _. ⌜ now (t .exit) ≡ map (gainedAt j q k) (now (t .entry)) ⌝ }
+{
+    for i in 0..4 {
+        gain_entry(&mut t[i], j, q, k);
+    }
+}
+
+// Row k of the vectors and of U loses q times row j; column j of V gains q times column k. Most multiples are by 0.
+fn lose_multiple(b: &mut Basis, u: &mut Table, v: &mut Table, k: usize, j: usize, q: i64)
+    requires { ⌜ (j < k) × (k ≤ 3) ⌝ }
+    requires { ⌜ Losable k j q (now b) ⌝ }
+    requires { ⌜ Losable k j q (now u) ⌝ }
+    requires { ⌜ Gainable k j q (now v) ⌝ }
+    ensures { λ _. ⌜ now (b .exit) ≡ lost k j q (now (b .entry)) ⌝ }
+    ensures { λ _. ⌜ now (u .exit) ≡ lost k j q (now (u .entry)) ⌝ }
+    ensures { λ _. ⌜ now (v .exit) ≡ map (gainedAt j q k) (now (v .entry)) ⌝ }
+{
+    if q == 0 {
+        return;
+    }
+    let vector = b[j];
+    lose(&mut b[k], q, &vector);
+    let row = u[j];
+    lose(&mut u[k], q, &row);
+    gain_column(v, j, q, k);
+}
+
+// Row k of the vectors and of U loses the combination x of the rows before it; their columns of V gain.
+pub fn lose_combination(b: &mut Basis, u: &mut Table, v: &mut Table, k: usize, x: &[i64; 3])
+    requires { ⌜ k ≤ 3 ⌝ }
+    requires { ⌜ length (now x) ≡ 3 ⌝ }
+    requires { ⌜ Loses k (now x) (now b) ⌝ }
+    requires { ⌜ Loses k (now x) (now u) ⌝ }
+    requires { ⌜ Gains k (now x) (now v) ⌝ }
+    ensures { λ _. ⌜ now (b .exit) ≡ losing (take k (now (x .entry))) (now (b .entry)) k ⌝ }
+    ensures { λ _. ⌜ now (u .exit) ≡ losing (take k (now (x .entry))) (now (u .entry)) k ⌝ }
+    ensures { λ _. ⌜ now (v .exit) ≡ gainedColumns (take k (now (x .entry))) k (now (v .entry)) ⌝ }
+{
+    for j in 0..k {
+        lose_multiple(b, u, v, k, j, x[j]);
+    }
+}
+
+// The inner product of the first k places.
+fn dot_first(x: &[i64; 3], r: &[i64; 4], k: usize) -> i64
+    requires { ⌜ k ≤ 3 ⌝ }
+    requires { ⌜ ((i : ℕ) → Within 3000000000000000000 (nth (now x) i *ℤ nth (now r) i)) ⌝ }
+    ensures { λ s. ⌜ s ≡ dot (take k (now (x .entry))) (take k (now (r .entry))) ⌝ }
+{
+    let mut sum = 0;
+    for i in 0..k {
+        sum += x[i] * r[i];
+    }
+    sum
+}
+
+// Entry k of a row loses the combination x of the entries before it.
+fn less_entry(r: &[i64; 4], k: usize, x: &[i64; 3]) -> [i64; 4]
+    requires { ⌜ k ≤ 3 ⌝ }
+    requires { ⌜ ((i : ℕ) → Within 2000000000000000000 (nth (now x) i *ℤ nth (now r) i)) ⌝ }
+    requires { ⌜ Within 1000000000000000000 (nth (now r) k) ⌝ }
+    ensures { λ s. ⌜ s ≡ losingEntry (take k (now (x .entry))) k (now (r .entry)) ⌝ }
+{
+    let mut s = *r;
+    s[k] = r[k] - dot_first(x, r, k);
+    s
+}
+
+// Row and column k of the Gram matrix become r, what is left of row k when the rows before it are taken away x times; its entry k, the
+// squared length, loses the same once more.
+pub fn cross(g: &mut Table, k: usize, r: &[i64; 4], x: &[i64; 3])
+    requires { ⌜ k ≤ 3 ⌝ }
+    requires { ⌜ length (now g) ≡ 4 ⌝ }
+    requires { ⌜ ((i : ℕ) → Within 2000000000000000000 (nth (now x) i *ℤ nth (now r) i)) ⌝ }
+    requires { ⌜ Within 1000000000000000000 (nth (now r) k) ⌝ }
+    ensures { λ _. ⌜ now (g .exit) ≡ crossed (take k (now (x .entry))) k (now (r .entry)) (now (g .entry)) ⌝ }
+{
+    enter(g, k, r);
+    g[k] = less_entry(r, k, x);
+}
+
+// The work on a list of vectors, packed in row structs, which a struct can hold: the tables and the passes made so far.
+pub struct Work {
+    pub gram: [TableRow; 4],
+    pub vectors: [VectorRow; 4],
+    pub u: [TableRow; 4],
+    pub v: [TableRow; 4],
+    pub passes: u64,
+}
+
+pub fn packed(g: &Table, b: &Basis, u: &Table, v: &Table, passes: u64) -> Work
+    requires { ⌜ Held (now g) (now b) (now u) (now v) ⌝ }
+    ensures { λ r. ⌜ r ≡ workOf (now (g .entry)) (now (b .entry)) (now (u .entry)) (now (v .entry)) passes ⌝ }
+{
+    let mut w = Work {
+        gram: [TableRow { at: [0; 4] }; 4],
+        vectors: [VectorRow {
+            at: [0; row_operations::WIDTH],
+        }; 4],
+        u: [TableRow { at: [0; 4] }; 4],
+        v: [TableRow { at: [0; 4] }; 4],
+        passes: passes,
+    };
+    for i in 0..4 {
+        w.gram[i] = TableRow { at: g[i] };
+        w.vectors[i] = VectorRow { at: b[i] };
+        w.u[i] = TableRow { at: u[i] };
+        w.v[i] = TableRow { at: v[i] };
+    }
+    w
+}

@@ -1,0 +1,58 @@
+-- The first coordinates, or any.
+use mathlib.Core.Path.{_≡_, sym, ap, _∙_, subst}
+use Prim.Native.Nat.{_<_}
+use native.Mathlib.Omega.{arith}
+use lib.ListN.{length, getD, take, length-take}
+use mir.Syntax.{w64}
+use mir.Val.{ofZ}
+use mir.Facts.{toZ-ofZ}
+use borrow.Author.Needs.{needs}
+use Rattle.lattices.specs.Refusal.{mostCoordinates}
+use Rattle.input_checks.specs.Choice.{places, firsts}
+use Rattle.input_checks.specs.Choices.{places-firsts, length-firsts, marks-firsts, counts-at}
+use Rattle.input_checks.proofs.minors.first_minor.Statement.{statement}
+use Rattle.input_checks.proofs.minors.first_minor.Tie as tie
+
+in-order-requires : tie.Need-in-order-requires
+in-order-requires c κs = search needs
+
+minor-of-requires : tie.Need-minor-of-requires
+minor-of-requires c κs =
+    let s = c .before in
+    (s .pre .0, (s .pre .1, λ i h. subst (λ l. getD l i 0 < mostCoordinates) (sym (c .in-order .ensures)) (omega (arith, counts-at 0 mostCoordinates i h, h))))
+
+rows : (s : tie.Start) → length (s .args .b) ≡ 4
+rows s = search needs
+
+returns : tie.Need-returns
+returns c =
+    let f = c .before in
+    let o = f .before in
+    let s = o .before in
+    let a = s .args in
+    let few = s .pre .0 in
+    let bs = take (a .d) (a .b) in
+    let n : length bs ≡ a .d = omega (arith, length-take (a .d) (a .b), rows s, few) in
+    let index = firsts mostCoordinates (a .d) in
+    let taken : take (a .d) (o .in-order .result) ≡ places 0 index = ap (take (a .d)) (o .in-order .ensures) ∙ sym (places-firsts 0 mostCoordinates (a .d) few) in
+    let held = toZ-ofZ {w = w64} (record { sfits = f .minor-of .ok }) in
+    record {
+      none = λ e. absurd (c .if1 .taken (ap (ofZ w64) (sym held ∙ e)));
+      some = λ h. record {
+        index = index;
+        wide = length-firsts mostCoordinates (a .d);
+        count = marks-firsts mostCoordinates (a .d) few ∙ sym n;
+        taken = ap (λ k. take k (o .in-order .result)) n ∙ taken;
+        minor = held ∙ f .minor-of .ensures index (marks-firsts mostCoordinates (a .d) few) taken;
+      };
+    }
+
+other-minor-requires : tie.Need-other-minor-requires
+other-minor-requires c κs = search needs
+
+returns-2 : tie.Need-returns-2
+returns-2 c = search needs
+
+pub first-minor-spec : {M : Type 1} → statement M
+first-minor-spec =
+    tie.close (tie.spec in-order-requires minor-of-requires returns other-minor-requires returns-2)
