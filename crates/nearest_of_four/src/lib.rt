@@ -15,8 +15,6 @@ ghost use Rattle.lattices.specs.Answer.{padded};
 ghost use Rattle.successive_minima.specs.Laws.Digits.{Bounded};
 ghost use Rattle.nearest_of_three.specs.Meant.{Known};
 ghost use Rattle.nearest_of_three.specs.Numbers.{moved, negative};
-ghost use Rattle.successive_minima.specs.Member.{isMember};
-ghost use Rattle.nearest_of_four.specs.Near.{Near};
 ghost use Rattle.nearest_of_four.specs.MeantNear.{MeantNear, KnownNear};
 ghost use Rattle.nearest_of_four.specs.LayerLaws.{Passed, LayerPassed, LayerKnown};
 ghost use Rattle.nearest_of_four.specs.Turns.{Turned, Jumped, AllPassed, Descended};
@@ -255,39 +253,4 @@ pub fn among(g: &[[i64; 4]; 4], d: usize, n: i64, r: &mut [i64; 4], x: &mut [i64
     let mut y = [0; 3];
     nearest_of_three::among(g, d, r, &mut y);
     *x = [y[0], y[1], y[2], 0];
-}
-
-// The nearest vector's coefficients, and what it leaves of the target.
-pub struct Found {
-    pub list: [i64; 4],
-    pub rest: [i64; 4],
-}
-
-// The nearest vector in the lattice of the first d vectors.
-pub fn closest(b: [[i64; 4]; 4], d: usize, t: [i64; 4]) -> Found
-    requires { ⌜ d ≤ 4 ⌝ }
-    requires { ⌜ Near d b t ⌝ }
-    ensures { λ c. ⌜ c .list ≡ padded 4 (nearest (take d b) t) ⌝ }
-    ensures { λ c. ⌜ c .rest ≈ t ⊖ comb (nearest (take d b) t) (take d b) ⌝ }
-{
-    let g = nearest_of_three::gram(&b, d);
-    let mut r = [0; 4];
-    nearest_of_three::products(&b, d, t, &mut r);
-    let n = row_operations::dot(t, t);
-    let mut x = [0; 4];
-    among(&g, d, n, &mut r, &mut x);
-    let mut rest = t;
-    take_all(&b, d, x, &mut rest);
-    Found { list: x, rest }
-}
-
-// Whether v is in the lattice of the first d vectors: the nearest vector leaves nothing of it.
-pub fn member(b: [[i64; 4]; 4], d: usize, v: [i64; 4]) -> bool
-    requires { ⌜ d ≤ 4 ⌝ }
-    requires { ⌜ Near d b v ⌝ }
-    ensures { λ r. ⌜ r ≡ isMember (take d b) v ⌝ }
-{
-    let c = closest(b, d, v);
-    let r = c.rest;
-    row_operations::dot(r, r) <= 0
 }

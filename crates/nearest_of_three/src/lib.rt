@@ -19,8 +19,7 @@ ghost use Rattle.nearest_of_three.specs.Numbers.{moved, Sized};
 ghost use Rattle.nearest_of_three.specs.Multiples.{Still, Along, SettledAlong};
 ghost use Rattle.nearest_of_three.specs.Sweep.{Swept};
 ghost use Rattle.nearest_of_three.specs.Stepped.{Stepped};
-ghost use Rattle.nearest_of_three.specs.Searchable.{Searchable};
-ghost use Rattle.nearest_of_three.specs.Formed.{ProductsOf, GramOf};
+ghost use Rattle.nearest_of_three.specs.Formed.{ProductsOf};
 
 mod table;
 
@@ -198,7 +197,7 @@ pub fn among(g: &[[i64; 4]; 4], k: usize, r: &mut [i64; 4], x: &mut [i64; 3])
 }
 
 // The inner products of the first k vectors with v, zeros behind, to where they are kept.
-pub fn products(b: &[[i64; 4]; 4], k: usize, v: [i64; 4], r: &mut [i64; 4])
+pub fn products(b: &row_operations::Basis, k: usize, v: row_operations::Vector, r: &mut [i64; 4])
     requires { ⌜ k ≤ 4 ⌝ }
     requires { ⌜ ((i : ℕ) → i < k → Bounded 100000 (getD (now b) i [])) ⌝ }
     requires { ⌜ Bounded 100000 v ⌝ }
@@ -208,31 +207,4 @@ pub fn products(b: &[[i64; 4]; 4], k: usize, v: [i64; 4], r: &mut [i64; 4])
     for i in 0..k {
         r[i] = row_operations::dot(b[i], v);
     }
-}
-
-// The Gram matrix of the first k vectors, zeros behind.
-pub fn gram(b: &[[i64; 4]; 4], k: usize) -> [[i64; 4]; 4]
-    requires { ⌜ k ≤ 4 ⌝ }
-    requires { ⌜ ((i : ℕ) → i < k → Bounded 100000 (getD (now b) i [])) ⌝ }
-    ensures { λ r. ⌜ GramOf (take k (now (b .entry))) r ⌝ }
-{
-    let mut g = [[0; 4]; 4];
-    for i in 0..k {
-        products(b, k, b[i], &mut g[i]);
-    }
-    g
-}
-
-// The coefficients of the vector nearest to t in the lattice of the first k vectors.
-pub fn search(b: &[[i64; 4]; 4], k: usize, t: [i64; 4]) -> [i64; 3]
-    requires { ⌜ k ≤ 3 ⌝ }
-    requires { ⌜ Searchable k (now b) t ⌝ }
-    ensures { λ r. ⌜ r ≡ padded 3 (nearest (take k (now (b .entry))) t) ⌝ }
-{
-    let g = gram(b, k);
-    let mut r = [0; 4];
-    products(b, k, t, &mut r);
-    let mut x = [0; 3];
-    among(&g, k, &mut r, &mut x);
-    x
 }
