@@ -14,8 +14,7 @@ use Rattle.integers.specs.FilledLaws.{filled-next}
 use Rattle.lattices.specs.Vector.{Vec, nth}
 use Rattle.lattices.specs.Volume.{Index, head, rest}
 use Rattle.exterior_algebra.specs.Minors.{marks, pick}
-use Rattle.input_checks.specs.Minors.{halves}
-use Rattle.input_checks.specs.Choice.{choice, places, firsts, counts}
+use Rattle.input_checks.specs.Choice.{choice, places, firsts, counts, halves}
 
 -- ---- one bit more
 

@@ -5,15 +5,12 @@ ghost use Prim.Native.Nat.{ℕ, _+_, _*_, _<_, _≤_};
 ghost use lib.IntN.{pos};
 ghost use lib.ListN.{length, take, drop, getD};
 ghost use lib.Signed.{_≤ℤ_};
-ghost use Rattle.integers.specs.Size.{Within};
-ghost use Rattle.lattices.specs.Vector.{N, nth};
+ghost use Rattle.lattices.specs.Vector.{N};
 ghost use Rattle.lattices.specs.Volume.{isDependent};
 ghost use Rattle.lattices.specs.Refusal.{mostVectors, mostCoordinates, vectorsOf, tooLong, oneTo, firstOf, vectorChecks, targetChecks};
 ghost use Rattle.integers.specs.Every.{any};
 ghost use Rattle.lattices.specs.Answer.{padded, table};
 ghost use Rattle.input_checks.specs.Any.{beyond};
-ghost use Rattle.input_checks.specs.Minors.{wedged};
-ghost use Rattle.input_checks.specs.Volumes.{minors};
 use minors::first_minor;
 use row_operations::Basis;
 use row_operations::Vector;
@@ -109,69 +106,6 @@ fn any_long(b: Basis, d: usize) -> bool
         }
     }
     false
-}
-
-// The entry at place s of the exterior product of a vector and a form: over the coordinates taken, from the last on.
-fn entry(a: [i64; 4], w: &[i64; 16], s: usize) -> i64
-    requires { ⌜ ((i : ℕ) → Within 20000 (nth a i)) ⌝ }
-    requires { ⌜ ((i : ℕ) → Within 8000000000000 (nth (now w) i)) ⌝ }
-    requires { ⌜ s < 16 ⌝ }
-    ensures { λ r. ⌜ r ≡ nth (wedged a (now (w .entry))) s ⌝ }
-{
-    let mut sum = 0;
-    let mut rest = s;
-    let mut bit = 1;
-    for k in 0..4 {
-        if rest % 2 == 1 {
-            sum = a[3 - k] * w[s - bit] - sum;
-        }
-        rest = rest / 2;
-        bit = bit * 2;
-    }
-    sum
-}
-
-// The exterior product of a vector and a form. Written out, each place is a constant where its entry is computed.
-pub fn wedge(a: [i64; 4], w: &[i64; 16]) -> [i64; 16]
-    requires { ⌜ ((i : ℕ) → Within 20000 (nth a i)) ⌝ }
-    requires { ⌜ ((i : ℕ) → Within 8000000000000 (nth (now w) i)) ⌝ }
-    ensures { λ r. ⌜ r ≡ wedged a (now (w .entry)) ⌝ }
-{
-    [
-        entry(a, w, 0),
-        entry(a, w, 1),
-        entry(a, w, 2),
-        entry(a, w, 3),
-        entry(a, w, 4),
-        entry(a, w, 5),
-        entry(a, w, 6),
-        entry(a, w, 7),
-        entry(a, w, 8),
-        entry(a, w, 9),
-        entry(a, w, 10),
-        entry(a, w, 11),
-        entry(a, w, 12),
-        entry(a, w, 13),
-        entry(a, w, 14),
-        entry(a, w, 15),
-    ]
-}
-
-// The volume of the first d vectors, from the last on: the minors of vectors within the length limit are small.
-pub fn volume(b: [[i64; 4]; 4], d: usize) -> [i64; 16]
-    requires { ⌜ d ≤ 4 ⌝ }
-    requires { ⌜ ((i : ℕ) → i < d → N (getD b i []) ≤ℤ pos 400000000) ⌝ }
-    ensures { λ r. ⌜ r ≡ minors (take d b) ⌝ }
-{
-    let mut w = [0; 16];
-    w[0] = 1;
-    let mut i = d;
-    while 0 < i {
-        i -= 1;
-        let next = wedge(b[i], &w);
-        w = next;
-    }
-    w
 }
 
 // Whether the first d vectors, within the length limit, are dependent: no minor is other than zero.
