@@ -77,24 +77,45 @@ dot-requires : tie.Need-dot-requires
 dot-requires c κs = let s = c .before .before in (wide s, wide s)
 
 among-requires : tie.Need-among-requires
-among-requires c κs =     let d = c .before .before in
+among-requires c κs = let d = c .before .before in
     let p = d .before in
     let s = p .before .before in
-    simp (toZ-ofZ, number d)
-    (s .pre .0, (s .pre .1 .1 .1 .count, (p .products .ensures .long, (refl, subst (λ n. KnownNear (s .args .d) n (now (s .args .g)) (p .products .last .1 .1 .1 .0)) (sym (d .dot .ensures))
-      (near-known-formed (s .args .d) (now (s .args .b)) (s .args .t) (enough s) (s .pre .1 .1 .0) (s .pre .1 .1 .1) (p .products .ensures))))))
+    simp (toZ-ofZ, number d) (
+      s .pre .0,
+      (
+        s .pre .1 .1 .1 .count,
+        (
+          p .products .ensures .long,
+          (
+            refl,
+            subst (λ n. KnownNear (s .args .d) n (now (s .args .g)) (p .products .last .1 .1 .1 .0)) (sym (d .dot .ensures))
+                (near-known-formed (s .args .d) (now (s .args .b)) (s .args .t) (enough s) (s .pre .1 .1 .0) (s .pre .1 .1 .1) (p .products .ensures)),
+          ),
+        ),
+      ),
+    )
 
 take-all-requires : tie.Need-take-all-requires
-take-all-requires c κs =     let a = c .before in
-    let s = a .before .before .before .before .before .before in
-    (s .pre .0, (s .pre .1 .0, (search needs, (λ i j h. within-le (omega arith) (rows-bounded (searchable (enough s) (s .pre .1 .1 .0)) i h j),
-      (λ i. within-le (omega arith) (wide s i), list-small (s .args .d) (now (s .args .b)) (s .args .t) (s .pre .0) (enough s) (found a) (small a))))))
+take-all-requires c κs = let a = c .before in
+    let s = a .before .before .before .before .before .before in (
+      s .pre .0,
+      (
+        s .pre .1 .0,
+        (
+          search needs,
+          (
+            λ i j h. within-le (omega arith) (rows-bounded (searchable (enough s) (s .pre .1 .1 .0)) i h j),
+            (λ i. within-le (omega arith) (wide s i), list-small (s .args .d) (now (s .args .b)) (s .args .t) (s .pre .0) (enough s) (found a) (small a)),
+          ),
+        ),
+      ),
+    )
 
 named-requires : tie.Need-named-requires
 named-requires c κs = let s = c .before .before .before .before .before .before .before .before in (coordinates (s .args .t) (s .pre .1 .1 .0 .target), left-bounded (s .pre .1 .1 .0) (left c))
 
 returns : tie.Need-returns
-returns c =     let l = c .before in
+returns c = let l = c .before in
     let a = l .before .before in
     record { list = found-list a; rest = rest-of l; is = c .named .ensures; places = l .take-all .ensures .1; coefficients = found a; left = left l }
 
