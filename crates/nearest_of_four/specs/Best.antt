@@ -1,26 +1,26 @@
 -- The best list of a layer as the search gives it, and what a step by it does.
-use mathlib.Core.Path.{_≡_, refl, sym, ap, ap₂, _∙_, subst}
-use mathlib.Core.Bool.{Bool, true, false}
+use mathlib.Core.Path.{_≡_, refl, sym, ap, _∙_, subst}
+use mathlib.Core.Bool.{true, false}
 use mathlib.Core.List.{List, [], _∷_, _++_}
-use Prim.Native.Nat.{ℕ, zero, suc, _+_, _*_, _≤_, _<_}
+use Prim.Native.Nat.{zero, suc, _+_, _*_, _≤_, _<_}
 use native.Mathlib.Omega.{arith}
 use native.Mathlib.Nat.{le-refl}
 use lib.IntN.{ℤ, pos, negℤ, natAbs, _+ℤ_, _*ℤ_}
 use mir.Syntax.{w64}
 use mir.Val.{SFits}
-use lib.ListN.{length, getD, take, length-append, List·getD-eq-default}
-use lib.Signed.{_≤ℤ_, _<ℤ_}
+use lib.ListN.{length, getD, take, List·getD-eq-default}
+use lib.Signed.{_<ℤ_}
 use Rattle.integers.specs.Size.{Within, within-le, within-mul, fits-within}
 use Rattle.integers.specs.Lex.{below-<}
 use Rattle.lattices.specs.Vector.{Vec, nth, dot, comb, _⊕_, _⊙_, _⊖_}
-use Rattle.lattices.specs.Laws.Vector.{_≈_, ≈-sym}
+use Rattle.lattices.specs.Laws.Vector.{_≈_}
 use Rattle.lattices.specs.Nearest.{nearest}
 use Rattle.lattices.specs.Answer.{padded}
 use Rattle.lattices.specs.Laws.Answer.{take-padded}
 use Rattle.successive_minima.specs.Laws.Digits.{Bounded, zeros}
 use Rattle.nearest_of_three.specs.Meant.{Meant, Known}
 use Rattle.nearest_of_three.specs.Numbers.{moved, gainOf, negative, improvesOf}
-use Rattle.nearest_of_three.specs.Moves.{Moved, moved-none, moved-better, moved-weaker, still-nothing}
+use Rattle.nearest_of_three.specs.Moves.{moved-none, moved-better, moved-weaker, still-nothing}
 use Rattle.nearest_of_three.specs.State.{sized}
 use Rattle.nearest_of_three.specs.End.{left-width}
 use Rattle.nearest_of_four.specs.MeantNear.{MeantNear, KnownNear}

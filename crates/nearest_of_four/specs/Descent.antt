@@ -1,26 +1,26 @@
 -- The descent through the layers on its way: the steps so far, and the squared length m of what they leave.
 use mathlib.Core.Path.{_≡_, refl, sym, ap, ap₂, _∙_, subst}
-use mathlib.Core.Logic.{inl, inr}
+use mathlib.Core.Logic.{inl}
 use mathlib.Core.Bool.{Bool, true, false}
 use mathlib.Core.List.{List, [], _∷_}
 use lib.Dec.{T}
 use Prim.Native.Nat.{ℕ, _≤_, _<_}
 use native.Mathlib.Omega.{arith}
-use lib.IntN.{ℤ, pos, _+ℤ_, _*ℤ_, +ℤ-assoc, +ℤ-idr}
-use lib.ListN.{length, getD, take, replicate, length-replicate}
+use lib.IntN.{ℤ, pos, _+ℤ_, +ℤ-assoc, +ℤ-idr}
+use lib.ListN.{length, replicate}
 use lib.Signed.{_≤ℤ_, _<ℤ_}
 use Rattle.integers.specs.Identity.{by-ring, reads}
 use Rattle.integers.specs.Size.{Within}
 use Rattle.integers.specs.ListLaws.{same, nth-⊕, nth-replicate, length-⊕-same}
-use Rattle.lattices.specs.Vector.{Vec, N, nth, comb, _⊕_, _⊖_}
+use Rattle.lattices.specs.Vector.{nth, _⊕_}
 use Rattle.lattices.specs.Laws.Vector.{_≈_}
 use Rattle.successive_minima.specs.Laws.Digits.{Bounded}
 use Rattle.nearest_of_three.specs.Numbers.{moved, gainOf}
 use Rattle.nearest_of_three.specs.Link.{gain-residual}
-use Rattle.nearest_of_three.specs.Moves.{Moved, moved-none, moved-then, moved-weaker, moved-length, gains, still-nothing}
+use Rattle.nearest_of_three.specs.Moves.{Moved, moved-none, moved-then, moved-length, gains, still-nothing}
 use Rattle.nearest_of_three.specs.State.{measure, small, descends, from-zeros}
 use Rattle.nearest_of_four.specs.MeantNear.{KnownNear}
-use Rattle.nearest_of_four.specs.LayerLaws.{Passed, known, near-known, square-within}
+use Rattle.nearest_of_four.specs.LayerLaws.{known, near-known, square-within}
 use Rattle.nearest_of_four.specs.Turns.{Turned, Jumped, AllPassed, Descended}
 
 pub record Descending (n : ℤ) (g : List (List ℤ)) (r₀ r x : List ℤ) (m : ℤ) : Type 0 where

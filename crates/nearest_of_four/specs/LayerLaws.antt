@@ -1,28 +1,25 @@
 -- A layer of the last of four vectors, in numbers: the search finds its best list, and the value of that list tells whether the layer has a
 -- nearer vector. Layers that are too far from the residual have none.
-use mathlib.Core.Path.{_≡_, refl, sym, ap, ap₂, _∙_, subst}
-use mathlib.Core.Logic.{_⊎_, inl, inr, ⊎-elim}
-use mathlib.Core.Bool.{Bool, true, false}
+use mathlib.Core.Path.{_≡_, sym, ap, ap₂, _∙_, subst}
+use mathlib.Core.Logic.{_⊎_, inl, ⊎-elim}
+use mathlib.Core.Bool.{Bool, false}
 use mathlib.Core.List.{List, [], _∷_, _++_}
-use Prim.Native.Nat.{ℕ, zero, suc, _+_, _*_, _≤_, _<_}
-use native.Mathlib.Nat.{le-refl}
+use Prim.Native.Nat.{ℕ, _+_, _*_, _≤_, _<_}
 use native.Mathlib.Omega.{arith}
 use native.Mathlib.Decide.{decLt}
 use lib.IntN.{ℤ, pos, negsuc, negℤ, natAbs, _+ℤ_, _-ℤ_, _*ℤ_}
-use lib.ListN.{length, getD, take, replicate, length-take, length-append, List·getD-eq-default}
+use lib.ListN.{length, getD, take, length-take, length-append, List·getD-eq-default}
 use lib.Seq.{take-all, take-suc}
 use lib.Signed.{_≤ℤ_, _<ℤ_, ltZ-yes, leZ-yes}
 use Rattle.integers.specs.Identity.{by-ring, reads}
 use Rattle.integers.specs.Order.{≤ℤ-trans, ≤ℤ-of-≡, ≤ℤ-or-<ℤ, *ℤ-cancel-≤}
-use Rattle.integers.specs.Certificate.{NN, _⊞_, _⊠_, le, lt, eq, nn-pos, nn-cancel, nn-ring, nn-false, le-of-nn, by-nn, by-lt}
+use Rattle.integers.specs.Certificate.{NN, _⊞_, _⊠_, le, lt, eq, nn-pos, nn-cancel, nn-ring, nn-false, le-of-nn, by-nn}
 use Rattle.integers.specs.Size.{Within, within-mul, within-upper, within-of-bounds}
-use Rattle.integers.specs.ListLaws.{same, entries, nth-⊕, nth-⊙, length-⊕, length-⊙}
+use Rattle.integers.specs.ListLaws.{same}
 use Rattle.integers.specs.Lex.{Nonneg}
 use Rattle.lattices.specs.Vector.{Vec, N, nth, dot, comb, _⊕_, _⊙_, _⊖_}
 use Rattle.lattices.specs.Laws.Vector.{_≈_, ≈-refl, ≈-sym, ≈-trans, ≈-of-≡, ≈-N, ≈-⊕, ≈-⊙, ≈-dot, bilinear, dot-comm, N-nonneg, comb-snoc, comb-cons}
 use Rattle.lattices.specs.Nearest.{nearest}
-use Rattle.lattices.specs.Answer.{padded}
-use Rattle.lattices.specs.Laws.Answer.{take-padded}
 use Rattle.exterior_algebra.specs.Sizes.{near-le}
 use Rattle.row_operations.specs.Minus.{nth-minus}
 use Rattle.successive_minima.specs.Reduced.{Top, Reduced}
@@ -32,9 +29,9 @@ use Rattle.successive_minima.specs.Laws.ReducedLaws.{pinned, reduced-last}
 use Rattle.successive_minima.specs.Laws.NearestLaws.{nearest-least, nearest-count, nearest-shorter}
 use Rattle.successive_minima.specs.Laws.Digits.{Bounded, power, not-below-nonneg}
 use Rattle.successive_minima.specs.Laws.Layers.{Layer, layer-by-search}
-use Rattle.nearest_of_three.specs.Meant.{Products, Gram, Meant, Known}
-use Rattle.nearest_of_three.specs.Numbers.{moved, gainOf, improvesOf, Sized}
-use Rattle.nearest_of_three.specs.Link.{products-≈, products-moved, products-dot, products-comb, gain-of, improves-is}
+use Rattle.nearest_of_three.specs.Meant.{Meant, Known}
+use Rattle.nearest_of_three.specs.Numbers.{moved, gainOf, improvesOf}
+use Rattle.nearest_of_three.specs.Link.{products-≈, products-moved, gain-of, improves-is}
 use Rattle.nearest_of_three.specs.Coefficients.{coefficient-square, coefficient-within}
 use Rattle.nearest_of_three.specs.State.{comb-front, diagonal, closer-moved, meant-moved}
 use Rattle.nearest_of_three.specs.Moves.{Moved}

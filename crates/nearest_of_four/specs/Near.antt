@@ -5,11 +5,11 @@ use Prim.Native.Nat.{ℕ, _≤_, _<_}
 use native.Mathlib.Omega.{arith}
 use lib.IntN.{ℤ, pos, negsuc, _*ℤ_}
 use lib.ListN.{length, getD, take, length-take, List·getD-eq-default}
-use lib.Seq.{take-all, take-take}
+use lib.Seq.{take-all}
 use lib.Signed.{_≤ℤ_, leZ-yes}
 use Rattle.integers.specs.Order.{≤ℤ-trans, ≤ℤ-of-≡}
 use Rattle.integers.specs.Ring.{pos-one-*ℤ}
-use Rattle.integers.specs.Size.{Within, within-le, root-within}
+use Rattle.integers.specs.Size.{Within, root-within}
 use Rattle.lattices.specs.Vector.{Vec, N, nth, comb, _⊖_}
 use Rattle.lattices.specs.Laws.Vector.{_≈_, ≈-refl, ≈-trans, ≈-of-≡, ≈-⊕, ≈-⊙, ≈-N, square-≤}
 use Rattle.lattices.specs.Nearest.{nearest}

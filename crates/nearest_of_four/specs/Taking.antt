@@ -1,17 +1,15 @@
 -- Rows taken away one after the other, and what fits on the way.
-use mathlib.Core.Path.{_≡_, refl, sym, ap, _∙_, subst}
+use mathlib.Core.Path.{_≡_, sym, ap, _∙_, subst}
 use mathlib.Core.List.{List, [], _∷_}
-use Prim.Native.Nat.{ℕ, zero, suc, _+_, _*_, _≤_, _<_}
+use Prim.Native.Nat.{ℕ, suc, _+_, _*_, _≤_}
 use native.Mathlib.Numerals.{add-one}
 use native.Mathlib.Omega.{arith}
-use lib.IntN.{ℤ, pos, negsuc, natAbs, _+ℤ_, _-ℤ_, _*ℤ_}
+use lib.IntN.{ℤ, negsuc, natAbs, _*ℤ_}
 use lib.ListN.{length, getD, take}
-use mir.Syntax.{w64}
-use mir.Val.{SFits}
 use Rattle.integers.specs.Identity.{by-ring, reads}
 use Rattle.integers.specs.Size.{Within, within-le, within-add, within-mul, fits-within, size-sub, size-mul}
 use Rattle.integers.specs.ListLaws.{same, entries, length-⊙}
-use Rattle.lattices.specs.Vector.{nth, dot, comb, _⊕_, _⊖_, _⊙_}
+use Rattle.lattices.specs.Vector.{nth, dot, _⊕_, _⊖_, _⊙_}
 use Rattle.lattices.specs.Laws.Vector.{_≈_, ≈-trans, ≈-of-≡, ≈-sym, comb-nil, ⊖-zero}
 use Rattle.row_operations.specs.Dot.{dot-within, DotTurn}
 use Rattle.row_operations.specs.Minus.{nth-minus, room}

@@ -1,18 +1,15 @@
 -- What the functions of the walk do: a step to a smaller value, by which the squared length changes by v ≤ 0, or, where v > 0, nothing, and P holds.
 use mathlib.Core.Path.{_≡_, refl, sym, ap, ap₂, _∙_, subst}
-use mathlib.Core.Logic.{_⊎_, inl, inr, ⊎-elim}
 use mathlib.Core.Bool.{Bool, true, false}
 use mathlib.Core.List.{List, [], _∷_, _++_}
 use Prim.Native.Nat.{ℕ, zero, suc, _+_, _*_, _≤_, _<_}
 use native.Mathlib.Omega.{arith}
-use native.Mathlib.Decide.{decLt}
-use lib.IntN.{ℤ, pos, negsuc, negℤ, natAbs, _+ℤ_, _-ℤ_, _*ℤ_}
-use lib.ListN.{length, getD, take, replicate, length-take, length-append, List·getD-eq-default}
-use lib.Seq.{take-all, take-suc}
-use lib.Signed.{_≤ℤ_, _<ℤ_, leZ-yes, ltZ-yes, clashℤ}
-use Rattle.integers.specs.Order.{≤ℤ-of-≡, ≤ℤ-of-<ℤ}
-use Rattle.integers.specs.Lex.{Nonneg, below-<}
-use Rattle.lattices.specs.Vector.{Vec, N, nth, dot, comb, _⊕_, _⊙_, _⊖_}
+use lib.IntN.{ℤ, pos, negsuc, natAbs, _+ℤ_, _*ℤ_}
+use lib.ListN.{length, getD, take, replicate, length-append, List·getD-eq-default}
+use lib.Seq.{take-all}
+use lib.Signed.{_≤ℤ_, _<ℤ_, clashℤ}
+use Rattle.integers.specs.Lex.{Nonneg}
+use Rattle.lattices.specs.Vector.{Vec, N, nth, comb, _⊕_, _⊙_, _⊖_}
 use Rattle.lattices.specs.Laws.Vector.{_≈_, ≈-refl, ≈-trans, ≈-of-≡, ≈-⊕, ≈-⊙}
 use Rattle.lattices.specs.Nearest.{nearest}
 use Rattle.lattices.specs.Answer.{padded}
@@ -20,13 +17,11 @@ use Rattle.lattices.specs.Laws.Answer.{padded-same}
 use Rattle.successive_minima.specs.Reduced.{Reduced}
 use Rattle.successive_minima.specs.Laws.Values.{change}
 use Rattle.successive_minima.specs.Laws.ValueLaws.{least-of}
-use Rattle.successive_minima.specs.Laws.Digits.{Bounded, zeros}
 use Rattle.successive_minima.specs.Laws.Layers.{Layer, layers}
 use Rattle.successive_minima.specs.Laws.NearestLaws.{ended, nearest-only, nearest-count}
-use Rattle.nearest_of_three.specs.Meant.{Known}
-use Rattle.nearest_of_three.specs.Numbers.{moved, gainOf, improvesOf}
+use Rattle.nearest_of_three.specs.Numbers.{gainOf}
 use Rattle.nearest_of_three.specs.State.{comb-front, from-zeros, long}
-use Rattle.nearest_of_three.specs.Moves.{Moved, moved-none, moved-better}
+use Rattle.nearest_of_three.specs.Moves.{Moved}
 use Rattle.nearest_of_three.specs.End.{gain-shifted}
 use Rattle.nearest_of_four.specs.MeantNear.{MeantNear}
 use Rattle.nearest_of_four.specs.LayerLaws.{Passed, near-moved, square-moved, four-is, last, three}

@@ -3,120 +3,24 @@
 // falls into layers, one for each multiple of the last vector, and the search finds the best of a layer.
 ghost use mathlib.Core.Path.{_≡_};
 ghost use mathlib.Core.List.{List, [], _∷_};
-ghost use mathlib.Core.Bool.{Bool, true};
+ghost use mathlib.Core.Bool.{true};
 ghost use Prim.Native.Nat.{ℕ, _≤_, _<_};
 ghost use lib.IntN.{ℤ, pos, negℤ, natAbs, _+ℤ_, _*ℤ_};
 ghost use lib.ListN.{length, getD, take, replicate};
 ghost use Rattle.integers.specs.Size.{Within};
-ghost use Rattle.lattices.specs.Vector.{Vec, N, nth, dot, comb, _⊕_, _⊖_};
+ghost use Rattle.lattices.specs.Vector.{Vec, N, nth, dot, comb, _⊖_};
 ghost use Rattle.lattices.specs.Laws.Vector.{_≈_};
 ghost use Rattle.lattices.specs.Nearest.{nearest};
 ghost use Rattle.lattices.specs.Answer.{padded};
 ghost use Rattle.successive_minima.specs.Laws.Digits.{Bounded};
 ghost use Rattle.nearest_of_three.specs.Meant.{Known};
 ghost use Rattle.nearest_of_three.specs.Numbers.{moved, negative};
-ghost use Rattle.successive_minima.specs.Member.{isMember};
-ghost use Rattle.nearest_of_four.specs.Near.{Near};
 ghost use Rattle.nearest_of_four.specs.MeantNear.{MeantNear, KnownNear};
 ghost use Rattle.nearest_of_four.specs.LayerLaws.{Passed, LayerPassed, LayerKnown};
 ghost use Rattle.nearest_of_four.specs.Turns.{Turned, Jumped, AllPassed, Descended};
 ghost use Rattle.nearest_of_four.specs.Best.{Best};
 
-// ---- A start in floats. Nothing is said of how near it is, and nothing depends on it: a start that does not shorten is not taken.
-
-// The whole part of x, if it is at most ten million; else 0, for a NaN too.
-fn whole(x: f64) -> i64
-    ensures { λ r. ⌜ Within 10000000 r ⌝ }
-{
-    if x >= -9223372036854775808.0 {
-        if x < 9223372036854775808.0 {
-            let n = std::num::truncating_f64_to_i64(x);
-            if -10000000 <= n {
-                if n <= 10000000 {
-                    return n;
-                }
-            }
-        }
-    }
-    0
-}
-
-fn rounded(x: f64) -> i64
-    ensures { λ r. ⌜ Within 10000000 r ⌝ }
-{
-    if x < 0.0 {
-        return whole(x - 0.5);
-    }
-    whole(x + 0.5)
-}
-
-// An equation: its coefficients, then its right side.
-fn equation(row: [i64; 4], c: i64) -> [f64; 5] {
-    let mut a = [0.0; 5];
-    for j in 0..4 {
-        a[j] = std::num::nearest_i64_to_f64(row[j]);
-    }
-    a[4] = std::num::nearest_i64_to_f64(c);
-    a
-}
-
-// The equation a less f times b.
-fn minus(a: [f64; 5], f: f64, b: [f64; 5]) -> [f64; 5] {
-    let mut e = a;
-    for j in 0..5 {
-        e[j] = a[j] - f * b[j];
-    }
-    e
-}
-
-// Unknown p is eliminated from the equations behind equation p.
-fn eliminate(a: &mut [[f64; 5]; 4], p: usize)
-    requires { ⌜ p < 4 ⌝ }
-    requires { ⌜ length (now a) ≡ 4 ⌝ }
-    ensures { λ _. ⌜ length (now (a .exit)) ≡ 4 ⌝ }
-{
-    let b = a[p];
-    for i in p + 1..4 {
-        let e = a[i];
-        a[i] = minus(e, e[p] / b[p], b);
-    }
-}
-
-// The equations of the point of the span nearest to the target.
-fn equations(g: &[[i64; 4]; 4], r: [i64; 4]) -> [[f64; 5]; 4]
-    requires { ⌜ length (now g) ≡ 4 ⌝ }
-{
-    let mut a = [[0.0; 5]; 4];
-    for i in 0..4 {
-        a[i] = equation(g[i], r[i]);
-    }
-    a
-}
-
-// The unknowns of equations of which each has one unknown less than the one before, rounded.
-fn unknowns(a: [[f64; 5]; 4]) -> [i64; 4]
-    ensures { λ e. ⌜ Bounded 10000000 e ⌝ }
-{
-    let z = a[3][4] / a[3][3];
-    let y = (a[2][4] - a[2][3] * z) / a[2][2];
-    let x = (a[1][4] - a[1][3] * z - a[1][2] * y) / a[1][1];
-    let w = (a[0][4] - a[0][3] * z - a[0][2] * y - a[0][1] * x) / a[0][0];
-    [rounded(w), rounded(x), rounded(y), rounded(z)]
-}
-
-// The coefficients of the point of the span nearest to the target, rounded.
-fn guess(g: &[[i64; 4]; 4], r: [i64; 4]) -> [i64; 4]
-    requires { ⌜ length (now g) ≡ 4 ⌝ }
-    ensures { λ e. ⌜ Bounded 10000000 e ⌝ }
-{
-    let mut a = equations(g, r);
-    eliminate(&mut a, 0);
-    eliminate(&mut a, 1);
-    eliminate(&mut a, 2);
-    unknowns(a)
-}
-
-// ---- Steps
+mod start;
 
 // The combination e of the first d rows of t is taken away from s.
 pub fn take_all(t: &[[i64; 4]; 4], d: usize, e: [i64; 4], s: &mut [i64; 4])
@@ -210,7 +114,7 @@ fn jump(g: &[[i64; 4]; 4], r: &mut [i64; 4], x: &mut [i64; 4]) -> i64
     requires { ⌜ Known 4 (now g) (now r) ⌝ }
     ensures { λ v. ⌜ Jumped (now (g .entry)) (now (r .entry)) (now (x .entry)) (now (r .exit)) (now (x .exit)) v ⌝ }
 {
-    let e = guess(g, *r);
+    let e = start::guess(g, *r);
     let mut s = *r;
     take_all(g, 4, e, &mut s);
     if !small(s) {
@@ -349,39 +253,4 @@ pub fn among(g: &[[i64; 4]; 4], d: usize, n: i64, r: &mut [i64; 4], x: &mut [i64
     let mut y = [0; 3];
     nearest_of_three::among(g, d, r, &mut y);
     *x = [y[0], y[1], y[2], 0];
-}
-
-// The nearest vector's coefficients, and what it leaves of the target.
-pub struct Found {
-    pub list: [i64; 4],
-    pub rest: [i64; 4],
-}
-
-// The nearest vector in the lattice of the first d vectors.
-pub fn closest(b: [[i64; 4]; 4], d: usize, t: [i64; 4]) -> Found
-    requires { ⌜ d ≤ 4 ⌝ }
-    requires { ⌜ Near d b t ⌝ }
-    ensures { λ c. ⌜ c .list ≡ padded 4 (nearest (take d b) t) ⌝ }
-    ensures { λ c. ⌜ c .rest ≈ t ⊖ comb (nearest (take d b) t) (take d b) ⌝ }
-{
-    let g = nearest_of_three::gram(&b, d);
-    let mut r = [0; 4];
-    nearest_of_three::products(&b, d, t, &mut r);
-    let n = row_operations::dot(t, t);
-    let mut x = [0; 4];
-    among(&g, d, n, &mut r, &mut x);
-    let mut rest = t;
-    take_all(&b, d, x, &mut rest);
-    Found { list: x, rest }
-}
-
-// Whether v is in the lattice of the first d vectors: the nearest vector leaves nothing of it.
-pub fn member(b: [[i64; 4]; 4], d: usize, v: [i64; 4]) -> bool
-    requires { ⌜ d ≤ 4 ⌝ }
-    requires { ⌜ Near d b v ⌝ }
-    ensures { λ r. ⌜ r ≡ isMember (take d b) v ⌝ }
-{
-    let c = closest(b, d, v);
-    let r = c.rest;
-    row_operations::dot(r, r) <= 0
 }

@@ -1,20 +1,20 @@
 -- The coefficients of a short combination of reduced vectors are small: x²·N(b) ≤ 4·10ᵏ·M for a combination of k vectors, of squared length
 -- at most M, and each coefficient x of it with its vector b. A common factor of all squared lengths drops out.
-use mathlib.Core.Path.{_≡_, sym, ap, ap₂, _∙_, subst}
-use mathlib.Core.List.{List, [], _∷_, _++_}
+use mathlib.Core.Path.{_≡_, sym, ap₂, subst}
+use mathlib.Core.List.{List, [], _∷_}
 use Prim.Native.Nat.{ℕ, zero, suc, _*_, _≤_, _<_}
 use native.Mathlib.Omega.{arith}
 use native.Mathlib.Decide.{ℕ-discrete}
-use lib.IntN.{ℤ, pos, negsuc, _+ℤ_, _-ℤ_, _*ℤ_}
+use lib.IntN.{ℤ, pos, negsuc, _+ℤ_, _*ℤ_}
 use lib.ListN.{length, getD, take, length-take}
 use lib.Seq.{take-suc}
 use lib.Signed.{_≤ℤ_, _<ℤ_, leZ-yes}
 use Rattle.integers.specs.Identity.{by-ring, reads}
-use Rattle.integers.specs.Order.{≤ℤ-trans, *ℤ-cancel-≤}
+use Rattle.integers.specs.Order.{*ℤ-cancel-≤}
 use Rattle.integers.specs.Certificate.{NN, _⊞_, _⊠_, nn-pos, nn-sq, le, lt, eq, by-nn}
 use Rattle.integers.specs.Size.{Within, root-within}
 use Rattle.lattices.specs.Vector.{Vec, N, nth, dot, comb, _⊕_, _⊙_}
-use Rattle.lattices.specs.Laws.Vector.{_≈_, ≈-refl, ≈-trans, ≈-of-≡, ≈-N, bilinear, dot-comm, N-nonneg, comb-cons, comb-snoc}
+use Rattle.lattices.specs.Laws.Vector.{_≈_, ≈-trans, ≈-of-≡, ≈-N, bilinear, dot-comm, N-nonneg, comb-cons, comb-snoc}
 use Rattle.successive_minima.specs.Reduced.{Top, Reduced}
 use Rattle.successive_minima.specs.Laws.ReducedLaws.{pinned, reduced-last}
 use Rattle.successive_minima.specs.Laws.Digits.{power}

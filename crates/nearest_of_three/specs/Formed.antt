@@ -5,15 +5,14 @@ use Prim.Native.Nat.{ℕ, _≤_, _<_}
 use native.Mathlib.Omega.{arith}
 use native.Mathlib.Decide.{decLt}
 use lib.IntN.{ℤ, pos, _*ℤ_}
-use lib.ListN.{length, getD, take, replicate, length-take, length-replicate, List·getD-eq-default}
+use lib.ListN.{length, getD, take, length-take, List·getD-eq-default}
 use lib.Seq.{getD-take, take-take}
-use lib.Signed.{_≤ℤ_, _<ℤ_, ltZ-yes}
+use lib.Signed.{_≤ℤ_, ltZ-yes}
 use Rattle.integers.specs.Certificate.{nn-pos}
 use Rattle.integers.specs.Ring.{pos-one-*ℤ}
-use Rattle.integers.specs.ListLaws.{nth-replicate}
 use Rattle.lattices.specs.Vector.{Vec, N, nth, dot}
-use Rattle.lattices.specs.Laws.Vector.{dot-nil, nil-dot}
-use Rattle.nearest_of_three.specs.Meant.{Products, Gram, Meant, Known}
+use Rattle.lattices.specs.Laws.Vector.{nil-dot}
+use Rattle.nearest_of_three.specs.Meant.{Products, Gram, Meant}
 use Rattle.nearest_of_three.specs.Filled.{Filled}
 use Rattle.nearest_of_three.specs.Searchable.{behind, Searchable}
 
@@ -36,22 +35,6 @@ module _ (k : ℕ) (short : k ≤ 4) (b : List Vec) where
       pick i (no h) (yes m) = p .rest i (omega (arith, h)) m ∙ sym (ap (λ u. dot u v) (behind k i b (omega (arith, h))) ∙ nil-dot v)
       pick i (no h) (no m) = List·getD-eq-default r (pos 0) (omega (arith, m, p .size)) ∙ sym (ap (λ u. dot u v) (behind k i b (omega (arith, h))) ∙ nil-dot v)
 
-  pub gram-filled : (g : List (List ℤ)) → Filled [] (replicate 4 (pos 0)) (λ j r. ProductsOf (take k b) (getD b j []) r) 4 k g → GramOf (take k b) g
-  gram-filled g p = record { gram = record { row = λ i. pick i (decLt i k) (decLt i 4) }; count = p .size; long = λ i. wide i (decLt i k) (decLt i 4) }
-    where
-      none : (i : ℕ) (r : List ℤ) → ((j : ℕ) → nth r j ≡ pos 0) → k ≤ i → Products (pos 1) (take k b) (getD (take k b) i []) r
-      none i r z h = record { at = λ j. pos-one-*ℤ (nth r j) ∙ z j ∙ sym (ap (λ u. dot (getD (take k b) j []) u) (behind k i b h) ∙ dot-nil (getD (take k b) j [])) }
-
-      pick : (i : ℕ) → Dec (i < k) → Dec (i < 4) → Products (pos 1) (take k b) (getD (take k b) i []) (getD g i [])
-      pick i (yes h) m = subst (λ v. Products (pos 1) (take k b) v (getD g i [])) (sym (getD-take k b i [] h)) (p .done i h .products)
-      pick i (no h) (yes m) = none i (getD g i []) (λ j. ap (λ r. nth r j) (p .rest i (omega (arith, h)) m) ∙ nth-replicate 4 j) (omega (arith, h))
-      pick i (no h) (no m) = none i (getD g i []) (λ j. ap (λ r. nth r j) (List·getD-eq-default g [] (omega (arith, m, p .size)))) (omega (arith, h))
-
-      wide : (i : ℕ) → Dec (i < k) → Dec (i < 4) → length (getD g i []) ≤ 4
-      wide i (yes h) m = omega (arith, p .done i h .long)
-      wide i (no h) (yes m) = subst (λ r. length r ≤ 4) (sym (p .rest i (omega (arith, h)) m)) (omega (arith, length-replicate 4 (pos 0)))
-      wide i (no h) (no m) = subst (λ r. length r ≤ 4) (sym (List·getD-eq-default g [] (omega (arith, m, p .size)))) (omega arith)
-
 -- they are the numbers of the search among the first k vectors
 module _ (k : ℕ) (b : List Vec) (t : Vec) (v : Searchable k b t) {g : List (List ℤ)} {r : List ℤ} (q : GramOf (take k b) g) (p : ProductsOf (take k b) t r) where
   pub meant-formed : Meant (pos 1) k (take k b) t g r
@@ -69,6 +52,3 @@ module _ (k : ℕ) (b : List Vec) (t : Vec) (v : Searchable k b t) {g : List (Li
       pick : (i : ℕ) → Dec (i < k) → N (getD (take k b) i []) ≤ℤ pos 400000000
       pick i (yes h) = rw (getD-take k b i [] h) (v .short i h)
       pick i (no h) = rw (behind k i b (omega (arith, h)), nil-dot []) (nn-pos 400000000)
-
-  pub known-formed : Known k g r
-  known-formed = record { factor = pos 1; vectors = take k b; target = t; meant = meant-formed }

@@ -1,20 +1,20 @@
 -- Numbers and vectors: what holds of the numbers because they are inner products, up to the factor F.
-use mathlib.Core.Path.{_≡_, refl, sym, ap, ap₂, _∙_, subst}
+use mathlib.Core.Path.{_≡_, refl, sym, ap, ap₂, _∙_}
 use mathlib.Core.Bool.{Bool, true, false}
 use mathlib.Core.List.{List, [], _∷_}
 use Prim.Native.Nat.{ℕ, zero, suc}
-use lib.IntN.{ℤ, pos, negsuc, _+ℤ_, _-ℤ_, _*ℤ_, *ℤ-zero, zero-*ℤ}
+use lib.IntN.{ℤ, pos, negsuc, _+ℤ_, _-ℤ_, _*ℤ_}
 use lib.ListN.{getD}
-use lib.Signed.{ltZ, _≤ℤ_, _<ℤ_}
-use Rattle.integers.specs.Identity.{by-ring, by-eq, reads}
+use lib.Signed.{_≤ℤ_, _<ℤ_}
+use Rattle.integers.specs.Identity.{by-ring, reads}
 use Rattle.integers.specs.Order.{≤ℤ-of-≡, ≤ℤ-antisymm, *ℤ-cancel-≤}
-use Rattle.integers.specs.ListLaws.{nth-⊕, nth-⊙, entries}
+use Rattle.integers.specs.ListLaws.{nth-⊙, entries}
 use Rattle.integers.specs.Lex.{nonneg-scale, nonneg-unscale}
-use Rattle.lattices.specs.Vector.{Vec, N, nth, dot, comb, _⊕_, _⊙_, _⊖_}
-use Rattle.lattices.specs.Laws.Vector.{_≈_, ≈-refl, ≈-sym, ≈-trans, ≈-dot, ≈-nth, ≈-⊕, nth-≈, bilinear, dot-comm, dot-nil, nil-dot, dot-⊙ʳ, comb-dot, comb-⊕, comb-≈, against}
+use Rattle.lattices.specs.Vector.{Vec, nth, dot, comb, _⊕_, _⊙_, _⊖_}
+use Rattle.lattices.specs.Laws.Vector.{_≈_, ≈-refl, ≈-dot, ≈-nth, ≈-⊕, nth-≈, bilinear, dot-comm, dot-⊙ʳ, comb-dot, comb-⊕, against}
 use Rattle.successive_minima.specs.Laws.Values.{gain, change}
 use Rattle.successive_minima.specs.Laws.ValueLaws.{gain-≈, gain-shift}
-use Rattle.successive_minima.specs.Laws.Digits.{zeros, nonneg-not-below, not-below-nonneg}
+use Rattle.successive_minima.specs.Laws.Digits.{nonneg-not-below, not-below-nonneg}
 use Rattle.successive_minima.specs.Laws.Table.{improves}
 use Rattle.nearest_of_three.specs.Meant.{Products, Gram}
 use Rattle.nearest_of_three.specs.Numbers.{moved, gainOf, negative, improvesOf}

@@ -1,21 +1,21 @@
 -- What a function of the search did: the coefficients x gained a step, the inner products r lost it, and the value did not rise.
 use mathlib.Core.Path.{_≡_, refl, sym, ap, ap₂, _∙_, subst}
-use mathlib.Core.Logic.{_⊎_, inl, inr, ⊎-elim}
+use mathlib.Core.Logic.{_⊎_, ⊎-elim}
 use mathlib.Core.Bool.{Bool, true, false}
 use mathlib.Core.List.{List, [], _∷_}
 use Prim.Native.Nat.{ℕ, zero, suc, _≤_, _<_}
 use lib.Dec.{T}
 use native.Mathlib.Omega.{arith}
-use lib.IntN.{ℤ, pos, negsuc, _+ℤ_, _-ℤ_, _*ℤ_}
+use lib.IntN.{ℤ, pos, _+ℤ_, _-ℤ_, _*ℤ_}
 use lib.ListN.{length, replicate, length-replicate}
 use lib.Signed.{_≤ℤ_, _<ℤ_}
 use Rattle.integers.specs.Identity.{by-ring, reads}
 use Rattle.integers.specs.Order.{≤ℤ-of-≡, ≤ℤ-of-<ℤ, ≤ℤ-or-<ℤ}
-use Rattle.integers.specs.Certificate.{NN, _⊞_, le, lt, by-nn, by-lt}
+use Rattle.integers.specs.Certificate.{_⊞_, le, lt, by-nn, by-lt}
 use Rattle.integers.specs.ListLaws.{same, nth-replicate, nth-⊕, length-⊕-same}
 use Rattle.integers.specs.Lex.{below->}
-use Rattle.lattices.specs.Vector.{Vec, N, nth, dot, comb, _⊕_, _⊖_}
-use Rattle.lattices.specs.Laws.Vector.{_≈_, ≈-refl, ≈-sym, ≈-trans, zero-dot, comb-zero, ⊖-zero}
+use Rattle.lattices.specs.Vector.{nth, comb, _⊕_, _⊖_}
+use Rattle.lattices.specs.Laws.Vector.{_≈_, ≈-sym, ≈-trans, zero-dot, comb-zero, ⊖-zero}
 use Rattle.successive_minima.specs.Laws.Digits.{Bounded, zeros, power, number, number-⊕, number-negative}
 use Rattle.nearest_of_three.specs.Meant.{Known, Meant}
 use Rattle.nearest_of_three.specs.Numbers.{moved, gainOf, improvesOf}

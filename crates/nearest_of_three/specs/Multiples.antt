@@ -15,15 +15,15 @@ use lib.Signed.{quotZ, _≤ℤ_, _<ℤ_, ltZ-yes, leZ-yes, clashℤ}
 use mir.Syntax.{w64}
 use mir.Val.{ofZ, SFits}
 use Rattle.integers.specs.Identity.{by-ring, reads}
-use Rattle.integers.specs.Certificate.{NN, _⊞_, _⊠_, le, lt, by-lt, by-nn, nn-pos, nn-false}
+use Rattle.integers.specs.Certificate.{_⊞_, _⊠_, le, lt, by-lt, by-nn, nn-pos}
 use Rattle.integers.specs.Order.{≤ℤ-or-<ℤ, ≤ℤ-antisymm}
 use Rattle.integers.specs.Size.{Within, within-le, within-neg, within-add, within-sub, within-mul, fits-within, size-neg, size-add}
 use Rattle.integers.specs.ListLaws.{same, nth-⊕, nth-replicate, length-⊕-same}
 use Rattle.integers.specs.Lex.{below-<, below->, below-≡}
 use Rattle.lattices.specs.Vector.{nth, dot, comb, _⊕_, _⊙_, _⊖_}
-use Rattle.lattices.specs.Laws.Vector.{_≈_, ≈-refl, ≈-⊕, ≈-⊙, ≈-trans, ≈-sym, ≈-of-≡, ≈-dot, bilinear, dot-comm, dot-⊙ʳ, zero-dot, comb-dot, against}
-use Rattle.successive_minima.specs.Laws.Digits.{Bounded, zeros}
-use Rattle.nearest_of_three.specs.Numbers.{moved, gainOf, negative, improvesOf}
+use Rattle.lattices.specs.Laws.Vector.{_≈_, ≈-refl, ≈-⊕, ≈-⊙, ≈-sym, ≈-dot, bilinear, dot-⊙ʳ, zero-dot, comb-dot, against}
+use Rattle.successive_minima.specs.Laws.Digits.{zeros}
+use Rattle.nearest_of_three.specs.Numbers.{gainOf, negative, improvesOf}
 use Rattle.nearest_of_three.specs.Link.{nth-against}
 use Rattle.nearest_of_three.specs.Steps.{steps, count}
 use Rattle.nearest_of_three.specs.Moves.{Moved, moved-none, moved-better}

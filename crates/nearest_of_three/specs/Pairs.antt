@@ -2,12 +2,11 @@
 -- (twice its vector's inner product with the residual). The list improves where the square is below the sum, its opposite where the sum is at
 -- most the square with the other sign: at equality the first is not below the list of zeros, and its opposite is.
 use mathlib.Core.Path.{_≡_, refl, sym, ap, ap₂, _∙_, subst}
-use mathlib.Core.Logic.{_⊎_, inl, inr, ⊎-elim}
-use mathlib.Core.Bool.{Bool, true, false}
+use mathlib.Core.Logic.{_⊎_, ⊎-elim}
+use mathlib.Core.Bool.{true, false}
 use mathlib.Core.List.{List, [], _∷_}
 use Prim.Native.Nat.{ℕ, zero, suc, _+_, _*_, _≤_, _<_}
 use native.Mathlib.Omega.{arith}
-use native.Mathlib.Decide.{decLt}
 use lib.IntN.{ℤ, pos, negsuc, negℤ, _+ℤ_, _-ℤ_, _*ℤ_, *ℤ-zero}
 use lib.ListN.{length, getD}
 use lib.Signed.{_≤ℤ_, _<ℤ_}
@@ -15,14 +14,12 @@ use Rattle.integers.specs.Identity.{by-ring, reads}
 use Rattle.integers.specs.Order.{≤ℤ-or-<ℤ, ≤ℤ-antisymm}
 use Rattle.integers.specs.Certificate.{le, lt, by-nn, by-lt}
 use Rattle.integers.specs.Lex.{below-<, below->, below-≡}
-use Rattle.lattices.specs.Vector.{nth, dot, comb, _⊕_, _⊙_}
+use Rattle.lattices.specs.Vector.{nth, dot, comb, _⊙_}
 use Rattle.lattices.specs.Laws.Vector.{≈-refl, ≈-dot, bilinear, dot-⊙ʳ, comb-⊙}
 use Rattle.successive_minima.specs.Laws.Digits.{zeros}
-use Rattle.nearest_of_three.specs.Meant.{Known}
 use Rattle.nearest_of_three.specs.Numbers.{gainOf, negative, improvesOf}
-use Rattle.nearest_of_three.specs.Link.{column, nth-column, nth-comb, mirrored}
-use Rattle.nearest_of_three.specs.Steps.{steps, pairs, count, steps-long, opposite-at}
-use Rattle.nearest_of_three.specs.State.{None}
+use Rattle.nearest_of_three.specs.Link.{column, nth-column, nth-comb}
+use Rattle.nearest_of_three.specs.Steps.{steps, pairs, steps-long, opposite-at}
 
 -- a·x² + b·xy + c·xz + d·y² + e·yz + f·z², and a·x + b·y + c·z
 abbrev pub square : ℤ → ℤ → ℤ → ℤ → ℤ → ℤ → List ℤ → ℤ

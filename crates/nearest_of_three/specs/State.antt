@@ -1,31 +1,30 @@
 -- The search on its way: r and x were reached from r₀ and zeros by steps that did not raise the value. Then the numbers mean the same vectors
 -- with what is left of the target, sizes are bounded, a step to a smaller value lowers a measure, and where no list of the table improves,
 -- x is the nearest.
-use mathlib.Core.Path.{_≡_, refl, sym, ap, ap₂, _∙_, subst}
-use mathlib.Core.Logic.{_⊎_, inl, inr, ⊎-elim}
+use mathlib.Core.Path.{_≡_, refl, sym, ap, _∙_, subst}
+use mathlib.Core.Logic.{_⊎_, inr, ⊎-elim}
 use mathlib.Core.Bool.{Bool, true, false}
 use mathlib.Core.List.{List, [], _∷_}
 use Prim.Native.Nat.{ℕ, zero, suc, _+_, _*_, _≤_, _<_}
-use native.Mathlib.Nat.{le-refl}
 use native.Mathlib.Omega.{arith}
 use native.Mathlib.Decide.{decLt}
-use lib.Dec.{T, ltb→lt}
-use lib.IntN.{ℤ, pos, negsuc, negℤ, natAbs, _+ℤ_, _-ℤ_, _*ℤ_, *ℤ-zero}
+use lib.Dec.{ltb→lt}
+use lib.IntN.{ℤ, pos, negsuc, negℤ, natAbs, _+ℤ_, _-ℤ_, _*ℤ_}
 use lib.ListN.{length, getD, take, replicate, length-take, length-replicate}
 use lib.Seq.{getD-take}
 use lib.Signed.{_≤ℤ_, _<ℤ_, leZ-yes}
 use Rattle.integers.specs.Identity.{by-ring, reads}
-use Rattle.integers.specs.Order.{≤ℤ-trans, ≤ℤ-of-≡, ≤ℤ-or-<ℤ, *ℤ-cancel-≤}
+use Rattle.integers.specs.Order.{≤ℤ-trans, ≤ℤ-or-<ℤ, *ℤ-cancel-≤}
 use Rattle.integers.specs.Certificate.{NN, _⊞_, _⊠_, le, lt, eq, nn-pos, nn-ring, nn-false, by-nn, by-lt}
-use Rattle.integers.specs.Size.{Within, within-add, within-mul, within-lower, within-of-bounds}
+use Rattle.integers.specs.Size.{Within, within-lower, within-of-bounds}
 use Rattle.integers.specs.ListLaws.{same, nth-replicate, nth-⊕, length-⊕-same}
-use Rattle.lattices.specs.Vector.{Vec, N, nth, dot, comb, _⊕_, _⊙_, _⊖_}
-use Rattle.lattices.specs.Laws.Vector.{_≈_, ≈-refl, ≈-sym, ≈-trans, ≈-of-≡, ≈-N, ≈-⊕, ≈-⊙, nth-≈, bilinear, dot-comm, nil-dot, zero-dot, against, comb-≈, comb-dot, N-nonneg}
+use Rattle.lattices.specs.Vector.{Vec, N, nth, dot, comb, _⊕_, _⊖_}
+use Rattle.lattices.specs.Laws.Vector.{_≈_, ≈-refl, ≈-sym, ≈-N, ≈-⊕, bilinear, dot-comm, nil-dot, zero-dot, against, comb-dot, N-nonneg}
 use Rattle.exterior_algebra.specs.Sizes.{near-le}
 use Rattle.successive_minima.specs.Laws.Values.{gain}
 use Rattle.successive_minima.specs.Laws.ValueLaws.{gain-is}
 use Rattle.successive_minima.specs.Laws.Digits.{Bounded, power, power-nonneg, number}
-use Rattle.nearest_of_three.specs.Meant.{Products, Gram, Meant, Known}
+use Rattle.nearest_of_three.specs.Meant.{Meant, Known}
 use Rattle.nearest_of_three.specs.Numbers.{moved, gainOf, improvesOf, Sized}
 use Rattle.nearest_of_three.specs.Link.{products-≈, products-moved, gain-of}
 use Rattle.nearest_of_three.specs.Steps.{steps}

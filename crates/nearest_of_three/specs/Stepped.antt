@@ -1,8 +1,8 @@
 -- A step to a smaller value, or word that no list of the table improves.
 use mathlib.Core.Path.{_≡_, refl, sym, ap, _∙_, subst}
-use mathlib.Core.Logic.{_⊎_, inl, inr}
+use mathlib.Core.Logic.{inr}
 use mathlib.Core.Bool.{Bool, true, false}
-use mathlib.Core.List.{List, [], _∷_, _++_}
+use mathlib.Core.List.{List, [], _∷_}
 use Prim.Native.Nat.{ℕ, zero, suc, _+_, _*_, _≤_, _<_}
 use native.Mathlib.Omega.{arith}
 use native.Mathlib.Decide.{ℕ-discrete, decLt}
@@ -15,11 +15,11 @@ use Rattle.integers.specs.Identity.{by-ring, reads}
 use Rattle.integers.specs.Size.{Within, within-le, size-sub, size-add}
 use Rattle.row_operations.specs.Minus.{nth-minus}
 use Rattle.integers.specs.ListLaws.{same, nth-⊕, length-⊕}
-use Rattle.lattices.specs.Vector.{Vec, nth, dot, comb, _⊕_, _⊖_, _⊙_}
+use Rattle.lattices.specs.Vector.{nth, dot, comb, _⊕_, _⊖_, _⊙_}
 use Rattle.lattices.specs.Laws.Vector.{_≈_, ≈-refl, ≈-trans, ≈-sym, ≈-of-≡, ≈-⊕, ≈-⊙, bilinear, nil-dot, comb-nil, ⊖-zero}
 use Rattle.successive_minima.specs.Laws.Digits.{Bounded}
 use Rattle.nearest_of_three.specs.Meant.{Known}
-use Rattle.nearest_of_three.specs.Numbers.{moved, improvesOf}
+use Rattle.nearest_of_three.specs.Numbers.{moved}
 use Rattle.nearest_of_three.specs.Steps.{steps, count, steps-bounded, steps-long, steps-behind}
 use Rattle.nearest_of_three.specs.Moves.{Moved, moved-none, moved-better, moved-then}
 use Rattle.nearest_of_three.specs.State.{None}

@@ -57,13 +57,6 @@ pairs-≤ (suc (suc zero)) h = omega arith
 pairs-≤ (suc (suc (suc zero))) h = omega arith
 pairs-≤ (suc (suc (suc (suc k)))) h = absurd (omega arith)
 
-pub two-pairs : (k : ℕ) → k ≤ 3 → 2 ≤ k → 2 ≤ pairs k
-two-pairs zero h l = absurd (omega arith)
-two-pairs (suc zero) h l = absurd (omega arith)
-two-pairs (suc (suc zero)) h l = omega arith
-two-pairs (suc (suc (suc zero))) h l = omega arith
-two-pairs (suc (suc (suc (suc k)))) h l = absurd (omega arith)
-
 -- the list behind an even place is the opposite
 pub opposite-at : (i : ℕ) → i < 13 → getD steps (2 * i + 1) [] ≡ negsuc 0 ⊙ getD steps (2 * i) []
 unfolding steps

@@ -2,7 +2,7 @@
 // searched, r holds the inner products of the four with what is left of the target, and x the coefficients taken so far.
 ghost use mathlib.Core.Path.{_≡_};
 ghost use mathlib.Core.List.{List, []};
-ghost use mathlib.Core.Bool.{Bool, true, false, _||_};
+ghost use mathlib.Core.Bool.{true, false, _||_};
 ghost use Prim.Native.Nat.{ℕ, _+_, _≤_, _<_};
 ghost use lib.IntN.{ℤ, pos, natAbs, _+ℤ_, _-ℤ_, _*ℤ_};
 ghost use lib.ListN.{length, getD, set, take, replicate};
@@ -16,16 +16,12 @@ ghost use Rattle.successive_minima.specs.Laws.Digits.{Bounded};
 ghost use Rattle.row_operations.specs.Minus.{room};
 ghost use Rattle.nearest_of_three.specs.Meant.{Meant, Known};
 ghost use Rattle.nearest_of_three.specs.Numbers.{moved, Sized};
-ghost use Rattle.nearest_of_three.specs.Steps.{count};
-ghost use Rattle.nearest_of_three.specs.Moves.{Moved};
-ghost use Rattle.nearest_of_three.specs.State.{None};
 ghost use Rattle.nearest_of_three.specs.Multiples.{Still, Along, SettledAlong};
-ghost use Rattle.nearest_of_three.specs.Pairs.{squaresOf, sumsOf};
-ghost use Rattle.nearest_of_three.specs.Places.{Walked, Placed};
 ghost use Rattle.nearest_of_three.specs.Sweep.{Swept};
 ghost use Rattle.nearest_of_three.specs.Stepped.{Stepped};
-ghost use Rattle.nearest_of_three.specs.Searchable.{Searchable};
-ghost use Rattle.nearest_of_three.specs.Formed.{ProductsOf, GramOf};
+ghost use Rattle.nearest_of_three.specs.Formed.{ProductsOf};
+
+mod table;
 
 // The multiple of a vector nearest to what is left, of two equally near the smaller: n is the vector's squared length, p its inner product with
 // what is left.
@@ -123,140 +119,6 @@ fn sweep(g: &[[i64; 4]; 4], k: usize, r: &mut [i64; 4], x: &mut [i64; 3]) -> boo
     moved
 }
 
-// The lists with entries −1, 0, 1, not all 0, each before its opposite: the first 1, 4 and 13 pairs are those of 1, 2 and 3 vectors.
-const LISTS: [[i64; 3]; 26] = [
-    [1, 0, 0],
-    [-1, 0, 0],
-    [0, 1, 0],
-    [0, -1, 0],
-    [1, 1, 0],
-    [-1, -1, 0],
-    [1, -1, 0],
-    [-1, 1, 0],
-    [0, 0, 1],
-    [0, 0, -1],
-    [1, 0, 1],
-    [-1, 0, -1],
-    [1, 0, -1],
-    [-1, 0, 1],
-    [0, 1, 1],
-    [0, -1, -1],
-    [0, 1, -1],
-    [0, -1, 1],
-    [1, 1, 1],
-    [-1, -1, -1],
-    [1, 1, -1],
-    [-1, -1, 1],
-    [1, -1, 1],
-    [-1, 1, -1],
-    [1, -1, -1],
-    [-1, 1, 1],
-];
-
-// a·x + b·y + c·z for the first list of each pair.
-fn sums(a: i64, b: i64, c: i64) -> [i64; 13]
-    requires { ⌜ Within 4000000000 a ⌝ }
-    requires { ⌜ Within 4000000000 b ⌝ }
-    requires { ⌜ Within 4000000000 c ⌝ }
-    ensures { λ r. ⌜ r ≡ sumsOf a b c ⌝ }
-{
-    let s = a + b;
-    let t = a - b;
-    [
-        a,
-        b,
-        s,
-        t,
-        c,
-        a + c,
-        a - c,
-        b + c,
-        b - c,
-        s + c,
-        s - c,
-        t + c,
-        t - c,
-    ]
-}
-
-// a·x² + b·xy + c·xz + d·y² + e·yz + f·z² for the first list of each pair.
-fn squares(a: i64, b: i64, c: i64, d: i64, e: i64, f: i64) -> [i64; 13]
-    requires { ⌜ Within 400000000 a ⌝ }
-    requires { ⌜ Within 800000000 b ⌝ }
-    requires { ⌜ Within 800000000 c ⌝ }
-    requires { ⌜ Within 400000000 d ⌝ }
-    requires { ⌜ Within 800000000 e ⌝ }
-    requires { ⌜ Within 400000000 f ⌝ }
-    ensures { λ r. ⌜ r ≡ squaresOf a b c d e f ⌝ }
-{
-    let ad = a + d;
-    let af = a + f;
-    let df = d + f;
-    let all = ad + f;
-    let p = all + b;
-    let q = all - b;
-    let s = c + e;
-    let t = c - e;
-    [
-        a,
-        d,
-        ad + b,
-        ad - b,
-        f,
-        af + c,
-        af - c,
-        df + e,
-        df - e,
-        p + s,
-        p - s,
-        q + t,
-        q - t,
-    ]
-}
-
-// The place of the first list that improves, by the squares q and the sums l of the first n pairs, 26 for none. Those of the first two pairs, of
-// one vector each, do not.
-fn walk(q: [i64; 13], l: [i64; 13], n: usize) -> usize
-    requires { ⌜ n ≤ 13 ⌝ }
-    requires { ⌜ 2 ≤ n ⌝ }
-    requires { ⌜ Bounded 20000000000 q ⌝ }
-    ensures { λ r. ⌜ Walked n q l r ⌝ }
-{
-    for i in 2..n {
-        let a = q[i];
-        let b = l[i];
-        if a < b {
-            return 2 * i;
-        }
-        if b <= -a {
-            return 2 * i + 1;
-        }
-    }
-    26
-}
-
-// The place of the first list of the table that improves, 26 for none.
-fn place(g: &[[i64; 4]; 4], k: usize, r: &[i64; 4]) -> usize
-    requires { ⌜ k ≤ 3 ⌝ }
-    requires { ⌜ 2 ≤ k ⌝ }
-    requires { ⌜ length (now g) ≡ 4 ⌝ }
-    requires { ⌜ length (now r) ≡ 4 ⌝ }
-    requires { ⌜ Known k (now g) (now r) ⌝ }
-    requires { ⌜ SettledAlong k (now g) (now r) ⌝ }
-    ensures { λ p. ⌜ Placed k (now (g .entry)) (now (r .entry)) p ⌝ }
-{
-    let l = sums(2 * r[0], 2 * r[1], 2 * r[2]);
-    let u = g[0];
-    let v = g[1];
-    let w = g[2];
-    let q = squares(u[0], 2 * u[1], 2 * u[2], v[1], 2 * v[2], w[2]);
-    // a number of pairs that the compiler sees
-    if k == 2 {
-        return walk(q, l, 4);
-    }
-    walk(q, l, 13)
-}
-
 // The combination e of the first three vectors is taken away.
 fn take_list(g: &[[i64; 4]; 4], e: [i64; 3], r: &mut [i64; 4], x: &mut [i64; 3])
     requires { ⌜ length (now g) ≡ 4 ⌝ }
@@ -286,11 +148,11 @@ fn step(g: &[[i64; 4]; 4], k: usize, r: &mut [i64; 4], x: &mut [i64; 3]) -> bool
     requires { ⌜ SettledAlong k (now g) (now r) ⌝ }
     ensures { λ b. ⌜ Stepped k (now (g .entry)) (now (r .entry)) (now (x .entry)) (now (r .exit)) (now (x .exit)) b ⌝ }
 {
-    let at = place(g, k, r);
+    let at = table::place(g, k, r);
     if at == 26 {
         return false;
     }
-    let lists = LISTS;
+    let lists = table::LISTS;
     take_list(g, lists[at], r, x);
     true
 }
@@ -335,7 +197,7 @@ pub fn among(g: &[[i64; 4]; 4], k: usize, r: &mut [i64; 4], x: &mut [i64; 3])
 }
 
 // The inner products of the first k vectors with v, zeros behind, to where they are kept.
-pub fn products(b: &[[i64; 4]; 4], k: usize, v: [i64; 4], r: &mut [i64; 4])
+pub fn products(b: &row_operations::Basis, k: usize, v: row_operations::Vector, r: &mut [i64; 4])
     requires { ⌜ k ≤ 4 ⌝ }
     requires { ⌜ ((i : ℕ) → i < k → Bounded 100000 (getD (now b) i [])) ⌝ }
     requires { ⌜ Bounded 100000 v ⌝ }
@@ -345,31 +207,4 @@ pub fn products(b: &[[i64; 4]; 4], k: usize, v: [i64; 4], r: &mut [i64; 4])
     for i in 0..k {
         r[i] = row_operations::dot(b[i], v);
     }
-}
-
-// The Gram matrix of the first k vectors, zeros behind.
-pub fn gram(b: &[[i64; 4]; 4], k: usize) -> [[i64; 4]; 4]
-    requires { ⌜ k ≤ 4 ⌝ }
-    requires { ⌜ ((i : ℕ) → i < k → Bounded 100000 (getD (now b) i [])) ⌝ }
-    ensures { λ r. ⌜ GramOf (take k (now (b .entry))) r ⌝ }
-{
-    let mut g = [[0; 4]; 4];
-    for i in 0..k {
-        products(b, k, b[i], &mut g[i]);
-    }
-    g
-}
-
-// The coefficients of the vector nearest to t in the lattice of the first k vectors.
-pub fn search(b: &[[i64; 4]; 4], k: usize, t: [i64; 4]) -> [i64; 3]
-    requires { ⌜ k ≤ 3 ⌝ }
-    requires { ⌜ Searchable k (now b) t ⌝ }
-    ensures { λ r. ⌜ r ≡ padded 3 (nearest (take k (now (b .entry))) t) ⌝ }
-{
-    let g = gram(b, k);
-    let mut r = [0; 4];
-    products(b, k, t, &mut r);
-    let mut x = [0; 3];
-    among(&g, k, &mut r, &mut x);
-    x
 }

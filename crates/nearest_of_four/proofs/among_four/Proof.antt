@@ -1,5 +1,5 @@
 -- `among_four` descends from the start.
-use mathlib.Core.Path.{_≡_, refl, sym, ap, _∙_, subst}
+use mathlib.Core.Path.{_≡_, refl, ap, _∙_}
 use denote.Ref.{now}
 use lib.IntN.{_+ℤ_}
 use lib.ListN.{length}

@@ -1,10 +1,9 @@
 -- `jump` takes what was guessed, where the numbers show that it shortens.
 use mathlib.Core.Path.{_≡_, sym, ap, _∙_, subst}
 use native.Mathlib.Omega.{arith}
-use borrow.Author.Tests.{not-true, not-false}
+use borrow.Author.Tests.{not-false}
 use denote.Ref.{now}
-use lib.IntN.{pos, negsuc, _*ℤ_}
-use lib.ListN.{length, replicate}
+use lib.ListN.{length}
 use lib.Seq.{take-all}
 use mir.Syntax.{w64}
 use mir.Val.{SFits}
@@ -23,7 +22,7 @@ use borrow.Author.Needs.{needs}
 use Rattle.nearest_of_four.proofs.jump.Statement.{statement}
 use Rattle.nearest_of_four.proofs.jump.Tie as tie
 use Rattle.nearest_of_four.proofs.gain.Reads as gain-reads
-use Rattle.nearest_of_four.proofs.guess.Reads as guess-reads
+use Rattle.nearest_of_four.proofs.start.guess.Reads as guess-reads
 use Rattle.nearest_of_four.proofs.small.Reads as small-reads
 use Rattle.nearest_of_four.proofs.take_all.Reads as take-all-reads
 use Rattle.nearest_of_three.proofs.lose.Reads as lose-reads

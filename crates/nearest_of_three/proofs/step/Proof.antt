@@ -1,16 +1,14 @@
 -- `step` takes the list at the place that was found.
-use mathlib.Core.Path.{_≡_, sym, _∙_}
+use mathlib.Core.Path.{sym, _∙_}
 use native.Mathlib.Omega.{arith}
-use denote.Ref.{now}
-use Prim.Native.Nat.{_≤_, _<_}
-use Rattle.lattices.specs.Vector.{_⊙_, _⊕_}
+use Prim.Native.Nat.{_<_}
+use Rattle.lattices.specs.Vector.{_⊙_}
 use Rattle.nearest_of_three.specs.Steps.{steps, steps-bounded}
 use Rattle.nearest_of_three.specs.State.{sized}
 use Rattle.nearest_of_three.specs.Stepped.{stepped-none, stepped-at}
-use borrow.Author.Needs.{needs}
 use Rattle.nearest_of_three.proofs.step.Statement.{statement}
 use Rattle.nearest_of_three.proofs.step.Tie as tie
-use Rattle.nearest_of_three.proofs.place.Reads as place-reads
+use Rattle.nearest_of_three.proofs.table.place.Reads as place-reads
 use Rattle.nearest_of_three.proofs.take_list.Reads as take-list-reads
 
 -- the place is one of the table

@@ -2,8 +2,8 @@
 use mathlib.Core.Path.{refl}
 use mir.Facts.{toZ-ofZ}
 use Rattle.nearest_of_three.specs.PairFits.{SumsFit, sums-fit}
-use Rattle.nearest_of_three.proofs.sums.Statement.{statement}
-use Rattle.nearest_of_three.proofs.sums.Tie as tie
+use Rattle.nearest_of_three.proofs.table.sums.Statement.{statement}
+use Rattle.nearest_of_three.proofs.table.sums.Tie as tie
 
 here : (c : tie.Start) → SumsFit (c .args .a) (c .args .b) (c .args .c)
 here c = sums-fit (c .pre .0) (c .pre .1 .0) (c .pre .1 .1)

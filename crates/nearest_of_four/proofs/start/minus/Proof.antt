@@ -1,8 +1,8 @@
 -- `minus` computes an entry a turn.
 use Prim.Native.Nat.{_≤_, _-_}
 use borrow.Author.Needs.{needs}
-use Rattle.nearest_of_four.proofs.minus.Statement.{statement}
-use Rattle.nearest_of_four.proofs.minus.Tie as tie
+use Rattle.nearest_of_four.proofs.start.minus.Statement.{statement}
+use Rattle.nearest_of_four.proofs.start.minus.Tie as tie
 
 abbrev Inv-loop : tie.InvT-loop
 Inv-loop f a b e₀ j₀ e j = j ≤ 5

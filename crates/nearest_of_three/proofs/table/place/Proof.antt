@@ -1,6 +1,5 @@
 -- `place` walks over squares and sums that are those of the table's lists.
 use mathlib.Core.Path.{_≡_, sym, ap}
-use Prim.Native.Nat.{_≤_}
 use native.Mathlib.Omega.{arith}
 use mir.Facts.{toZ-ofZ}
 use denote.Ref.{now}
@@ -12,11 +11,11 @@ use Rattle.nearest_of_three.specs.PairFits.{NumbersFit, numbers-fit, squ
 use Rattle.nearest_of_three.specs.Places.{walked-as, placed}
 use Rattle.nearest_of_three.specs.State.{sized}
 use borrow.Author.Needs.{needs}
-use Rattle.nearest_of_three.proofs.place.Statement.{statement}
-use Rattle.nearest_of_three.proofs.place.Tie as tie
-use Rattle.nearest_of_three.proofs.squares.Reads as squares-reads
-use Rattle.nearest_of_three.proofs.sums.Reads as sums-reads
-use Rattle.nearest_of_three.proofs.walk.Reads as walk-reads
+use Rattle.nearest_of_three.proofs.table.place.Statement.{statement}
+use Rattle.nearest_of_three.proofs.table.place.Tie as tie
+use Rattle.nearest_of_three.proofs.table.squares.Reads as squares-reads
+use Rattle.nearest_of_three.proofs.table.sums.Reads as sums-reads
+use Rattle.nearest_of_three.proofs.table.walk.Reads as walk-reads
 
 size : (s : tie.Start) → Sized (now (s .args .g)) (now (s .args .r))
 size s = sized (s .pre .1 .1 .1 .1 .0 .meant)

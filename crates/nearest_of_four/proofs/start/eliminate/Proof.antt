@@ -3,9 +3,9 @@ use mathlib.Core.Path.{_≡_}
 use lib.ListN.{length}
 use Prim.Native.Nat.{_≤_, _-_}
 use borrow.Author.Needs.{needs}
-use Rattle.nearest_of_four.proofs.eliminate.Statement.{statement}
-use Rattle.nearest_of_four.proofs.eliminate.Tie as tie
-use Rattle.nearest_of_four.proofs.minus.Reads as minus-reads
+use Rattle.nearest_of_four.proofs.start.eliminate.Statement.{statement}
+use Rattle.nearest_of_four.proofs.start.eliminate.Tie as tie
+use Rattle.nearest_of_four.proofs.start.minus.Reads as minus-reads
 
 abbrev Inv-loop : tie.InvT-loop
 Inv-loop a₀ p b i₀ a i = (i ≤ 4) × (length a ≡ 4)

@@ -1,9 +1,9 @@
 -- `equations` fills in an equation a turn.
 use Prim.Native.Nat.{_≤_, _-_}
 use borrow.Author.Needs.{needs}
-use Rattle.nearest_of_four.proofs.equations.Statement.{statement}
-use Rattle.nearest_of_four.proofs.equations.Tie as tie
-use Rattle.nearest_of_four.proofs.equation.Reads as equation-reads
+use Rattle.nearest_of_four.proofs.start.equations.Statement.{statement}
+use Rattle.nearest_of_four.proofs.start.equations.Tie as tie
+use Rattle.nearest_of_four.proofs.start.equation.Reads as equation-reads
 
 abbrev Inv-loop : tie.InvT-loop
 Inv-loop g r a₀ i₀ a i = i ≤ 4

@@ -10,8 +10,8 @@ use Rattle.integers.specs.Order.{ltZ-true, ltZ-false, leZ-true, leZ-false}
 use Rattle.integers.specs.Size.{within-neg, fits-within}
 use Rattle.lattices.specs.Vector.{nth}
 use Rattle.nearest_of_three.specs.Places.{Neither, walked-first, walked-opposite, walked-none, neither-next}
-use Rattle.nearest_of_three.proofs.walk.Statement.{statement}
-use Rattle.nearest_of_three.proofs.walk.Tie as tie
+use Rattle.nearest_of_three.proofs.table.walk.Statement.{statement}
+use Rattle.nearest_of_three.proofs.table.walk.Tie as tie
 
 abbrev Inv-loop : tie.InvT-loop
 Inv-loop n q l i₀ i = (2 ≤ i) × ((i ≤ n) × ((j : ℕ) → 2 ≤ j → j < i → Neither (nth q j) (nth l j)))

@@ -1,8 +1,8 @@
 -- `equation` converts an entry a turn.
 use Prim.Native.Nat.{_≤_, _-_}
 use borrow.Author.Needs.{needs}
-use Rattle.nearest_of_four.proofs.equation.Statement.{statement}
-use Rattle.nearest_of_four.proofs.equation.Tie as tie
+use Rattle.nearest_of_four.proofs.start.equation.Statement.{statement}
+use Rattle.nearest_of_four.proofs.start.equation.Tie as tie
 use Rattle.std.proofs.num.nearest_i64_to_f64.Reads as nearest-i64-to-f64-reads
 
 abbrev Inv-loop : tie.InvT-loop

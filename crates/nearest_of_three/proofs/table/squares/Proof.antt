@@ -2,8 +2,8 @@
 use mathlib.Core.Path.{refl}
 use mir.Facts.{toZ-ofZ}
 use Rattle.nearest_of_three.specs.PairFits.{SquaresFit, squares-fit}
-use Rattle.nearest_of_three.proofs.squares.Statement.{statement}
-use Rattle.nearest_of_three.proofs.squares.Tie as tie
+use Rattle.nearest_of_three.proofs.table.squares.Statement.{statement}
+use Rattle.nearest_of_three.proofs.table.squares.Tie as tie
 
 here : (c : tie.Start) → SquaresFit (c .args .a) (c .args .b) (c .args .c) (c .args .d) (c .args .e) (c .args .f)
 here c = squares-fit (c .pre .0) (c .pre .1 .0) (c .pre .1 .1 .0) (c .pre .1 .1 .1 .0) (c .pre .1 .1 .1 .1 .0) (c .pre .1 .1 .1 .1 .1)

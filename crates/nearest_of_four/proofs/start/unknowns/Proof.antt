@@ -10,9 +10,9 @@ use mir.Facts.{toZ-ofZ}
 use Rattle.integers.specs.Size.{Within, fits-within}
 use Rattle.successive_minima.specs.Laws.Digits.{Bounded}
 use borrow.Author.Needs.{needs}
-use Rattle.nearest_of_four.proofs.unknowns.Statement.{statement}
-use Rattle.nearest_of_four.proofs.unknowns.Tie as tie
-use Rattle.nearest_of_four.proofs.rounded.Reads as rounded-reads
+use Rattle.nearest_of_four.proofs.start.unknowns.Statement.{statement}
+use Rattle.nearest_of_four.proofs.start.unknowns.Tie as tie
+use Rattle.nearest_of_four.proofs.start.rounded.Reads as rounded-reads
 
 -- what is stored fits
 back : {z : ℤ} → Within 10000000 z → Within 10000000 (toZ w64 (ofZ w64 z))

@@ -5,8 +5,8 @@ use lib.Ieee.{ofBits, neg}
 use Rattle.integers.specs.Order.{leZ-true}
 use Rattle.integers.specs.Size.{within-of-bounds}
 use borrow.Author.Needs.{needs}
-use Rattle.nearest_of_four.proofs.whole.Statement.{statement}
-use Rattle.nearest_of_four.proofs.whole.Tie as tie
+use Rattle.nearest_of_four.proofs.start.whole.Statement.{statement}
+use Rattle.nearest_of_four.proofs.start.whole.Tie as tie
 use Rattle.std.proofs.num.truncating_f64_to_i64.Reads as truncating-f64-to-i64-reads
 
 truncating-f64-to-i64-requires : tie.Need-truncating-f64-to-i64-requires
