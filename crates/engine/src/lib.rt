@@ -3,9 +3,7 @@ ghost use mathlib.Core.Path.{_≡_};
 ghost use Prim.Native.Nat.{ℕ, _+_, _-_, _≤_, _<_};
 ghost use mathlib.Core.List.{[]};
 ghost use lib.ListN.{length, take};
-ghost use Rattle.lattices.specs.Refusal.{firstOf, vectorChecks};
-ghost use Rattle.engine.specs.Laws.Begin.{first};
-ghost use Rattle.gram_matrix.specs.Tied.{Held, Tied, whole};
+ghost use Rattle.gram_matrix.specs.Tied.{Held, Tied};
 ghost use Rattle.engine.specs.Laws.Tables.{Passable};
 ghost use Rattle.engine.specs.Laws.Repeat.{Reducible, Outcome};
 ghost use Rattle.engine.specs.Laws.Answer.{diagonalOf, finished};
@@ -182,17 +180,6 @@ fn refused_nearest(n: u64) -> NearestVector
     }
 }
 
-// The greedy steps on an input that is accepted, with the Gram matrix that they leave.
-fn reduced(numbers: &[i64], d: usize, m: usize) -> Work
-    requires { ⌜ firstOf vectorChecks (record { numbers = now numbers; d = d; m = m; target = [] }) ≡ 0 ⌝ }
-    ensures { λ r. ⌜ ((e : firstOf vectorChecks (record { numbers = now (numbers .entry); d = d; m = m; target = [] }) ≡ 0) → Outcome whole d 0 (first (record { numbers = now (numbers .entry); d = d; m = m; target = [] }) e) r) ⌝ }
-{
-    let b = input_checks::basis(numbers, d, m);
-    let g = gram_matrix::formed(&b, d);
-    let e = row_operations::unit_table(d);
-    reduce_first(g, b, e, e, d, 0)
-}
-
 // The answer from the coefficients and what the nearest vector leaves of the target t.
 fn named(t: Vector, x: [i64; 4], rest: Vector) -> NearestVector
     requires { ⌜ Bounded 20000 t ⌝ }
@@ -231,7 +218,8 @@ fn searched(g: &Table, b: &Basis, d: usize, t: Vector) -> NearestVector
 pub fn nearest(numbers: &[i64], d: usize, m: usize, target: &[i64]) -> NearestVector
     ensures { λ r. ⌜ r ≡ packedNearest (nearestOf (record { numbers = now (numbers .entry); d = d; m = m; target = now (target .entry) })) ⌝ }
 {
-    let number = input_checks::refusal(numbers, d, m);
+    let mut a = [[0; WIDTH]; 4];
+    let number = input_checks::checked(numbers, d, m, &mut a);
     if number != 0 {
         return refused_nearest(number);
     }
@@ -239,7 +227,9 @@ pub fn nearest(numbers: &[i64], d: usize, m: usize, target: &[i64]) -> NearestVe
     if n != 0 {
         return refused_nearest(n);
     }
-    let w = reduced(numbers, d, m);
+    let h = gram_matrix::formed(&a, d);
+    let e = row_operations::unit_table(d);
+    let w = reduce_first(h, a, e, e, d, 0);
     let vectors = w.vectors;
     let gram = w.gram;
     let b = row_operations::vectors_of(vectors);

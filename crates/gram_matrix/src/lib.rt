@@ -17,7 +17,6 @@ ghost use Rattle.gram_matrix.specs.Order.{exchanged, swapped, insertAt};
 ghost use Rattle.gram_matrix.specs.Tied.{Held, Kind, Tied, shorterIn};
 use row_operations::Basis;
 use row_operations::Vector;
-
 pub use work::Work;
 pub use work::packed;
 

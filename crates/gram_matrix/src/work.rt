@@ -2,11 +2,11 @@
 ghost use mathlib.Core.Path.{_≡_};
 ghost use Rattle.gram_matrix.specs.Tied.{Held};
 ghost use Rattle.gram_matrix.specs.Work.{workOf};
+use super::Table;
 use row_operations::Basis;
 use row_operations::TableRow;
 use row_operations::VectorRow;
 use row_operations::WIDTH;
-use super::Table;
 
 // The work on a list of vectors: the tables and the passes made so far.
 pub struct Work {
@@ -23,9 +23,7 @@ pub fn packed(g: &Table, b: &Basis, u: &Table, v: &Table, passes: u64) -> Work
 {
     let mut w = Work {
         gram: [TableRow { at: [0; 4] }; 4],
-        vectors: [VectorRow {
-            at: [0; WIDTH],
-        }; 4],
+        vectors: [VectorRow { at: [0; WIDTH] }; 4],
         u: [TableRow { at: [0; 4] }; 4],
         v: [TableRow { at: [0; 4] }; 4],
         passes: passes,

@@ -151,14 +151,6 @@ pub fn checked(numbers: &[i64], d: usize, m: usize, b: &mut Basis) -> u64
     ACCEPTED
 }
 
-// The refusal alone.
-pub fn refusal(numbers: &[i64], d: usize, m: usize) -> u64
-    ensures { λ r. ⌜ r ≡ firstOf vectorChecks (record { numbers = now (numbers .entry); d = d; m = m; target = [] }) ⌝ }
-{
-    let mut b = [[0; WIDTH]; 4];
-    checked(numbers, d, m, &mut b)
-}
-
 // The first refusal that applies to a target of vectors of m coordinates, and 0 for none.
 pub fn target_refusal(target: &[i64], m: usize) -> u64
     requires { ⌜ m ≤ mostCoordinates ⌝ }

@@ -167,9 +167,13 @@ module _ (i : Input) (e : firstOf vectorChecks i ≡ 0) where
 
     pub gram-given : GramOf (take (i .d) (table mostVectors mostCoordinates (vectors (R i e)))) (tableIn (w .gram))
     gram-given = record {
-      gram = record { row = λ m. record { at = λ j. tied-entry (o .tied) m j ∙ ap (λ l. dot (getD l j []) (getD l m [])) (last-vectors i e)
-          ∙ taken-row j (getD (table mostVectors mostCoordinates (vectors (R i e))) m []) ∙ dot-comm (getD (take (i .d) (table mostVectors mostCoordinates (vectors (R i e)))) j []) (getD (table mostVectors mostCoordinates (vectors (R i e))) m [])
-          ∙ taken-row m (getD (take (i .d) (table mostVectors mostCoordinates (vectors (R i e)))) j []) ∙ dot-comm (getD (take (i .d) (table mostVectors mostCoordinates (vectors (R i e)))) m []) (getD (take (i .d) (table mostVectors mostCoordinates (vectors (R i e)))) j []) } };
+      gram = record {
+        row = λ m. record {
+          at = λ j. tied-entry (o .tied) m j ∙ ap (λ l. dot (getD l j []) (getD l m [])) (last-vectors i e)
+              ∙ taken-row j (getD (table mostVectors mostCoordinates (vectors (R i e))) m []) ∙ dot-comm (getD (take (i .d) (table mostVectors mostCoordinates (vectors (R i e)))) j []) (getD (table mostVectors mostCoordinates (vectors (R i e))) m [])
+              ∙ taken-row m (getD (take (i .d) (table mostVectors mostCoordinates (vectors (R i e)))) j []) ∙ dot-comm (getD (take (i .d) (table mostVectors mostCoordinates (vectors (R i e)))) m []) (getD (take (i .d) (table mostVectors mostCoordinates (vectors (R i e)))) j []);
+        };
+      };
       count = tied-length-gram (o .tied) ∙ G-count;
       long = λ m. wide m (decLt m 4);
     }
