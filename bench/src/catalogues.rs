@@ -17,7 +17,7 @@ use crate::sets::{inputs, SETS};
 
 const ENTRIES: usize = 256;
 
-pub const NAMES: [&str; 3] = ["typical", "equal", "worst"];
+pub const NAMES: [&str; 6] = ["typical", "equal", "worst", "passes", "index", "planes"];
 
 /// The entries of a catalogue, with see words to the entry before.
 fn entries(name: &str) -> Vec<Entry> {
@@ -25,7 +25,10 @@ fn entries(name: &str) -> Vec<Entry> {
     let bases = match name {
         "typical" => typical(&mut random),
         "equal" => equal(&mut random),
-        _ => worst(&mut random),
+        "worst" => worst(&mut random),
+        "passes" => passes(),
+        "index" => index(&mut random),
+        _ => planes(),
     };
     let numbered = bases.into_iter().zip(1..);
     numbered
@@ -71,6 +74,74 @@ fn worst(random: &mut Random) -> Vec<Vec<Vec<i64>>> {
         for signs in 0..8 {
             for b in [&basis, &turned] {
                 all.push(b.iter().map(|v| moved(v, order, signs)).collect());
+            }
+        }
+    }
+    all.truncate(ENTRIES);
+    all
+}
+
+/// Two bases of small lattices that take 87 passes each.
+const LONG: [[[i64; 4]; 4]; 2] = [
+    [
+        [6419, -10824, -82, -6430],
+        [-6920, 12146, -4107, -3789],
+        [-8667, 12803, 394, 10599],
+        [-9603, 13216, -1550, 7469],
+    ],
+    [
+        [-4744, -13559, 6529, 5027],
+        [10344, -8995, -1275, 5690],
+        [142, -11211, 3713, 4863],
+        [-15648, 5310, 4717, -5024],
+    ],
+];
+
+/// 256 small lattices of 87 passes each: coordinates permuted and with other signs.
+fn passes() -> Vec<Vec<Vec<i64>>> {
+    let mut all = vec![];
+    for order in orders() {
+        for signs in 0..8 {
+            for basis in LONG {
+                all.push(basis.iter().map(|v| moved(v, order, signs)).collect());
+            }
+        }
+    }
+    all.truncate(ENTRIES);
+    all
+}
+
+/// Sublattices of index 2 to 5 of one lattice, each scrambled.
+fn index(random: &mut Random) -> Vec<Vec<Vec<i64>>> {
+    let basis: Vec<Vec<i64>> = (0..4).map(|_| random.vector(4, 1_500)).collect();
+    (0..ENTRIES)
+        .map(|_| {
+            let (times, long) = (2 + random.index(4) as i64, random.index(4));
+            let part = (0..4)
+                .map(|i| {
+                    let own = if i == long { times } else { 1 };
+                    let more = if i == long { 0 } else { random.index(times as usize) as i64 };
+                    let pairs = basis[i].iter().zip(&basis[long]);
+                    pairs.map(|(x, y)| own * x + more * y).collect()
+                })
+                .collect();
+            scrambled(part, random)
+        })
+        .collect()
+}
+
+/// Lattices of determinant 127 and 126 in a plane, with (0, 0, 20000, 0) and (0, 0, 0, 20000).
+fn planes() -> Vec<Vec<Vec<i64>>> {
+    let mut all = vec![];
+    for determinant in [127, 126] {
+        for a in (1..=determinant).filter(|a| determinant % a == 0) {
+            for k in 0..determinant / a {
+                all.push(vec![
+                    vec![a, k, 0, 0],
+                    vec![0, determinant / a, 0, 0],
+                    vec![0, 0, 20_000, 0],
+                    vec![0, 0, 0, 20_000],
+                ]);
             }
         }
     }

@@ -5,8 +5,8 @@ use Prim.Native.Nat.{ℕ, zero, suc, _+_, _*_, _≤_, _<_}
 use native.Mathlib.Numerals.{add-one}
 use native.Mathlib.Omega.{arith}
 use lib.IntN.{ℤ, pos}
-use lib.ListN.{length, getD, set, take, length-append, length-set}
-use lib.Seq.{sets, length-sets, append-snoc, take-suc, length-take-le}
+use lib.ListN.{length, getD, set, take, length-append}
+use lib.Seq.{sets, append-snoc, take-suc, length-take-le}
 use Rattle.lattices.specs.Vector.{Vec}
 use Rattle.lattices.specs.Laws.Refusal.{one-to}
 use Rattle.lattices.specs.Answer.{padded, table}

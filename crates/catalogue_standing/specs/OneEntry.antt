@@ -1,5 +1,5 @@
 -- The standing entry of one entry, as the code finds it without those of the others.
-use mathlib.Core.Path.{_≡_, sym, ap, ap₂, _∙_, subst}
+use mathlib.Core.Path.{_≡_, refl, sym, ap, ap₂, _∙_}
 use mathlib.Core.Bool.{Bool, true, false, _&&_}
 use mathlib.Core.List.{List, _∷_, _++_, map}
 use Prim.Native.Nat.{ℕ, suc, _<_}
@@ -22,7 +22,7 @@ use Rattle.fold_rules.specs.Fold.{holds, sameLattice, firstEntry, standing}
 use Rattle.fold_rules.specs.Laws.SameLattice.{Sound, sound-entries, entry-basis}
 use Rattle.fold_rules.specs.Laws.Adding.{standing-new}
 use Rattle.fold_rules.specs.Laws.Searching.{first-found, first-none}
-use Rattle.catalogue_standing.specs.ReducedEntry.{reducedEntry, basisIn, heldIn, held-vectors, held-is}
+use Rattle.catalogue_standing.specs.ReducedEntry.{reducedEntry, held-vectors, held-is}
 use Rattle.catalogue_standing.specs.SameLattice.{LatticeOf, held-by}
 use Rattle.catalogue_standing.specs.Places.{First}
 
@@ -38,22 +38,19 @@ module _ (f e : Entry) (t : Sound f) (s : Sound e) (m : f .head .m ≡ e .head .
   tests a b g h = sym (ap₂ (λ x y. x && y) (eq-eqb _ _ m) (ap₂ _&&_ g h))
 
   pub entered-outside : every (isMember (vectorsIn l)) (map (padded mostCoordinates) (f .vectors)) ≡ false → false ≡ sameLattice f e
-  entered-outside h = sym (and-false (holds f e)) ∙ tests (holds f e) false refl′ (sym entered ∙ h)
+  entered-outside h = sym (and-false (holds f e)) ∙ tests (holds f e) false refl (sym entered ∙ h)
     where
-      refl′ : holds f e ≡ holds f e
-      refl′ = λ i. holds f e
-
       and-false : (b : Bool) → (b && false) ≡ false
-      and-false true = λ i. false
-      and-false false = λ i. false
+      and-false true = refl
+      and-false false = refl
 
   pub entered-inside : every (isMember (vectorsIn l)) (map (padded mostCoordinates) (f .vectors)) ≡ true → {k : Lattice} → LatticeOf (reducedEntry f) k
       → every (isMember (vectorsIn k)) (vectorsIn l) ≡ sameLattice f e
-  entered-inside h {k} q = held-by q p ∙ held-is f e t s m ∙ sym (and-true (holds f e)) ∙ tests (holds f e) true (λ i. holds f e) (sym entered ∙ h)
+  entered-inside h {k} q = held-by q p ∙ held-is f e t s m ∙ sym (and-true (holds f e)) ∙ tests (holds f e) true refl (sym entered ∙ h)
     where
       and-true : (b : Bool) → (b && true) ≡ b
-      and-true true = λ i. true
-      and-true false = λ i. false
+      and-true true = refl
+      and-true false = refl
 
 -- ---- the first before it
 

@@ -3,9 +3,7 @@ ghost use mathlib.Core.Path.{_≡_};
 ghost use Prim.Native.Nat.{ℕ, _+_, _-_, _≤_, _<_};
 ghost use mathlib.Core.List.{[]};
 ghost use lib.ListN.{length, take};
-ghost use Rattle.lattices.specs.Refusal.{firstOf, vectorChecks};
-ghost use Rattle.engine.specs.Laws.Begin.{first};
-ghost use Rattle.gram_matrix.specs.Tied.{Held, Tied, whole};
+ghost use Rattle.gram_matrix.specs.Tied.{Held, Tied};
 ghost use Rattle.engine.specs.Laws.Tables.{Passable};
 ghost use Rattle.engine.specs.Laws.Repeat.{Reducible, Outcome};
 ghost use Rattle.engine.specs.Laws.Answer.{diagonalOf, finished};
@@ -29,6 +27,7 @@ use gram_matrix::Work;
 use row_operations::Basis;
 use row_operations::TableRow;
 use row_operations::Vector;
+use row_operations::VectorRow;
 use row_operations::WIDTH;
 
 // Steps 4 and 5 for row k, the rows before it being reduced: the vector nearest to it in their lattice is subtracted from it.
@@ -88,9 +87,9 @@ fn reduce_first(gram: Table, vectors: Basis, us: Table, vs: Table, n: usize, bef
 pub struct Reduction {
     pub refusal: u64,
     pub place: u64,
-    pub vectors: [row_operations::VectorRow; 4],
-    pub u: [row_operations::TableRow; 4],
-    pub v: [row_operations::TableRow; 4],
+    pub vectors: [VectorRow; 4],
+    pub u: [TableRow; 4],
+    pub v: [TableRow; 4],
     pub squares: [i64; 4],
     pub passes: u64,
 }
@@ -102,9 +101,9 @@ fn refused(n: u64) -> Reduction
     Reduction {
         refusal: n,
         place: 0,
-        vectors: [row_operations::VectorRow { at: [0; 4] }; 4],
-        u: [row_operations::TableRow { at: [0; 4] }; 4],
-        v: [row_operations::TableRow { at: [0; 4] }; 4],
+        vectors: [VectorRow { at: [0; WIDTH] }; 4],
+        u: [TableRow { at: [0; 4] }; 4],
+        v: [TableRow { at: [0; 4] }; 4],
         squares: [0; 4],
         passes: 0,
     }
@@ -163,7 +162,7 @@ pub fn reduce(numbers: &[i64], d: usize, m: usize) -> Reduction
 pub struct NearestVector {
     pub refusal: u64,
     pub place: u64,
-    pub vector: [i64; 4],
+    pub vector: Vector,
     pub coefficients: [i64; 4],
     pub square: i64,
 }
@@ -175,25 +174,14 @@ fn refused_nearest(n: u64) -> NearestVector
     NearestVector {
         refusal: n,
         place: 0,
-        vector: [0; 4],
+        vector: [0; WIDTH],
         coefficients: [0; 4],
         square: 0,
     }
 }
 
-// The greedy steps on an input that is accepted, with the Gram matrix that they leave.
-fn reduced(numbers: &[i64], d: usize, m: usize) -> Work
-    requires { ⌜ firstOf vectorChecks (record { numbers = now numbers; d = d; m = m; target = [] }) ≡ 0 ⌝ }
-    ensures { λ r. ⌜ ((e : firstOf vectorChecks (record { numbers = now (numbers .entry); d = d; m = m; target = [] }) ≡ 0) → Outcome whole d 0 (first (record { numbers = now (numbers .entry); d = d; m = m; target = [] }) e) r) ⌝ }
-{
-    let b = input_checks::basis(numbers, d, m);
-    let g = gram_matrix::formed(&b, d);
-    let e = row_operations::unit_table(d);
-    reduce_first(g, b, e, e, d, 0)
-}
-
 // The answer from the coefficients and what the nearest vector leaves of the target t.
-fn named(t: [i64; 4], x: [i64; 4], rest: [i64; 4]) -> NearestVector
+fn named(t: Vector, x: [i64; 4], rest: Vector) -> NearestVector
     requires { ⌜ Bounded 20000 t ⌝ }
     requires { ⌜ Bounded 100000 rest ⌝ }
     ensures { λ r. ⌜ r ≡ named t x rest ⌝ }
@@ -230,7 +218,8 @@ fn searched(g: &Table, b: &Basis, d: usize, t: Vector) -> NearestVector
 pub fn nearest(numbers: &[i64], d: usize, m: usize, target: &[i64]) -> NearestVector
     ensures { λ r. ⌜ r ≡ packedNearest (nearestOf (record { numbers = now (numbers .entry); d = d; m = m; target = now (target .entry) })) ⌝ }
 {
-    let number = input_checks::refusal(numbers, d, m);
+    let mut a = [[0; WIDTH]; 4];
+    let number = input_checks::checked(numbers, d, m, &mut a);
     if number != 0 {
         return refused_nearest(number);
     }
@@ -238,7 +227,9 @@ pub fn nearest(numbers: &[i64], d: usize, m: usize, target: &[i64]) -> NearestVe
     if n != 0 {
         return refused_nearest(n);
     }
-    let w = reduced(numbers, d, m);
+    let h = gram_matrix::formed(&a, d);
+    let e = row_operations::unit_table(d);
+    let w = reduce_first(h, a, e, e, d, 0);
     let vectors = w.vectors;
     let gram = w.gram;
     let b = row_operations::vectors_of(vectors);

@@ -13,6 +13,7 @@ use Rattle.integers.specs.FilledLaws.{length-filled}
 use Rattle.integers.specs.ListLaws.{same}
 use Rattle.lattices.specs.Vector.{Vec, nth, dot}
 use Rattle.lattices.specs.Laws.Vector.{against, dot-comm, ≈-refl, ≈-dot, nil-dot, dot-nil}
+use Rattle.lattices.specs.Refusal.{mostCoordinates}
 use Rattle.lattices.specs.Answer.{padded}
 use Rattle.lattices.specs.Laws.Answer.{padded-≈, nth-padded, length-padded}
 use Rattle.gram_matrix.specs.Gram.{gramOf, against-map}
@@ -33,22 +34,22 @@ filled-append z (suc n) (suc k) [] e = ap (λ l. z ∷ l) (filled-append z n k [
 filled-append z zero k (x ∷ l) e = absurd (omega arith)
 filled-append {A} z (suc n) k (x ∷ l) e = ap {B = List A} (λ r. x ∷ r) (filled-append z n k l (omega arith))
 
-zero-product : (w : Vec) → dot (padded 4 []) w ≡ pos 0
-zero-product w = ≈-dot (padded-≈ 4 [] (omega arith)) (≈-refl {u = w}) ∙ nil-dot w
+zero-product : (w : Vec) → dot (padded mostCoordinates []) w ≡ pos 0
+zero-product w = ≈-dot (padded-≈ mostCoordinates [] (omega arith)) (≈-refl {u = w}) ∙ nil-dot w
 
 module _ (bs : List Vec) (n : ℕ) (four : length bs + n ≡ 4) where
   abbrev zs : List Vec
-  zs = replicate n (padded 4 [])
+  zs = replicate n (padded mostCoordinates [])
 
   row : (v : Vec) → against (bs ++ zs) v ≡ products bs v
   row v = against-map (bs ++ zs) v ∙ map-append (λ w. dot w v) bs zs
-      ∙ ap (λ l. map (λ w. dot w v) bs ++ l) (map-replicate (λ w. dot w v) n (padded 4 []) ∙ ap (replicate n) (zero-product v))
+      ∙ ap (λ l. map (λ w. dot w v) bs ++ l) (map-replicate (λ w. dot w v) n (padded mostCoordinates []) ∙ ap (replicate n) (zero-product v))
       ∙ filled-append (pos 0) 4 n (map (λ w. dot w v) bs) (omega (arith, length-map bs (λ w. dot w v)))
 
-  zero-row : (l : List Vec) (m : ℕ) → padded m (map (λ w. dot w (padded 4 [])) l) ≡ padded m []
+  zero-row : (l : List Vec) (m : ℕ) → padded m (map (λ w. dot w (padded mostCoordinates [])) l) ≡ padded m []
   zero-row l zero = refl
   zero-row [] (suc m) = refl
-  zero-row (w ∷ l) (suc m) = ap₂ _∷_ (dot-comm w (padded 4 []) ∙ zero-product w) (zero-row l m)
+  zero-row (w ∷ l) (suc m) = ap₂ _∷_ (dot-comm w (padded mostCoordinates []) ∙ zero-product w) (zero-row l m)
 
   each : (l : List Vec) → map (against (bs ++ zs)) l ≡ map (products bs) l
   each [] = refl
@@ -56,7 +57,7 @@ module _ (bs : List Vec) (n : ℕ) (four : length bs + n ≡ 4) where
 
   pub formed-is : gramOf (bs ++ zs) ≡ formed bs
   formed-is = each (bs ++ zs) ∙ map-append (products bs) bs zs
-      ∙ ap (λ l. map (products bs) bs ++ l) (map-replicate (products bs) n (padded 4 []) ∙ ap (replicate n) (zero-row bs 4))
+      ∙ ap (λ l. map (products bs) bs ++ l) (map-replicate (products bs) n (padded mostCoordinates []) ∙ ap (replicate n) (zero-row bs 4))
       ∙ filled-append (padded 4 []) 4 n (map (products bs) bs) (omega (arith, length-map bs (products bs)))
 
 -- ---- every entry, beyond the last too

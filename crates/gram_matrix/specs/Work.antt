@@ -7,7 +7,7 @@ use lib.ListN.{length, length-map}
 use Rattle.row_operations.specs.declared.VectorRow.{VectorRow}
 use Rattle.row_operations.specs.declared.TableRow.{TableRow}
 use Rattle.row_operations.specs.RowStructs.{vectorRow, tableRow}
-use Rattle.gram_matrix.specs.declared.Work.{Work}
+use Rattle.gram_matrix.specs.declared.work.Work.{Work}
 use Rattle.gram_matrix.specs.Tied.{Held}
 
 abbrev pub workOf : List (List ℤ) → List (List ℤ) → List (List ℤ) → List (List ℤ) → ℕ → Work

@@ -12,14 +12,15 @@ ghost use Rattle.gram_matrix.specs.Gram.{losing, losingEntry};
 ghost use Rattle.gram_matrix.specs.Cross.{entered, crossed};
 ghost use Rattle.integers.specs.Size.{Within};
 ghost use Rattle.gram_matrix.specs.Formed.{products, formed, grown};
-ghost use Rattle.gram_matrix.specs.Work.{workOf};
 ghost use Rattle.lattices.specs.Greedy.{Row, order};
 ghost use Rattle.gram_matrix.specs.Order.{exchanged, swapped, insertAt};
 ghost use Rattle.gram_matrix.specs.Tied.{Held, Kind, Tied, shorterIn};
 use row_operations::Basis;
-use row_operations::TableRow;
 use row_operations::Vector;
-use row_operations::VectorRow;
+pub use work::Work;
+pub use work::packed;
+
+pub mod work;
 
 // A number for each two vectors.
 pub type Table = [[i64; 4]; 4];
@@ -279,35 +280,4 @@ pub fn cross(g: &mut Table, k: usize, r: &[i64; 4], x: &[i64; 3])
 {
     enter(g, k, r);
     g[k] = less_entry(r, k, x);
-}
-
-// The work on a list of vectors, packed in row structs, which a struct can hold: the tables and the passes made so far.
-pub struct Work {
-    pub gram: [TableRow; 4],
-    pub vectors: [VectorRow; 4],
-    pub u: [TableRow; 4],
-    pub v: [TableRow; 4],
-    pub passes: u64,
-}
-
-pub fn packed(g: &Table, b: &Basis, u: &Table, v: &Table, passes: u64) -> Work
-    requires { ⌜ Held (now g) (now b) (now u) (now v) ⌝ }
-    ensures { λ r. ⌜ r ≡ workOf (now (g .entry)) (now (b .entry)) (now (u .entry)) (now (v .entry)) passes ⌝ }
-{
-    let mut w = Work {
-        gram: [TableRow { at: [0; 4] }; 4],
-        vectors: [VectorRow {
-            at: [0; row_operations::WIDTH],
-        }; 4],
-        u: [TableRow { at: [0; 4] }; 4],
-        v: [TableRow { at: [0; 4] }; 4],
-        passes: passes,
-    };
-    for i in 0..4 {
-        w.gram[i] = TableRow { at: g[i] };
-        w.vectors[i] = VectorRow { at: b[i] };
-        w.u[i] = TableRow { at: u[i] };
-        w.v[i] = TableRow { at: v[i] };
-    }
-    w
 }

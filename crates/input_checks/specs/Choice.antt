@@ -14,6 +14,11 @@ abbrev pub choice : ℕ → ℕ → Index
 choice zero x = []
 choice (suc n) x = eqb (x % 2) 1 ∷ choice n (x / 2)
 
+-- the bits of a number without the last k
+abbrev pub halves : ℕ → ℕ → ℕ
+halves zero x = x
+halves (suc k) x = halves k x / 2
+
 -- the coordinates that a choice takes, counted from k
 abbrev pub places : ℕ → Index → List ℕ
 places k [] = []

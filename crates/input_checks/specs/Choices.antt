@@ -1,7 +1,7 @@
 -- How a choice grows bit by bit, that every choice has a number, and what its list of coordinates picks.
-use mathlib.Core.Path.{_≡_, refl, sym, ap, ap₂, _∙_, subst}
+use mathlib.Core.Path.{_≡_, refl, sym, ap, ap₂, _∙_}
 use mathlib.Core.Bool.{true, false}
-use mathlib.Core.List.{List, [], _∷_, _++_, map}
+use mathlib.Core.List.{[], _∷_, _++_, map}
 use Prim.Native.Nat.{ℕ, zero, suc, _+_, _*_, _/_, _%_, _^_, _≤_, _<_}
 use native.Mathlib.Nat.{pow-suc}
 use native.Mathlib.Omega.{arith}
@@ -14,8 +14,7 @@ use Rattle.integers.specs.FilledLaws.{filled-next}
 use Rattle.lattices.specs.Vector.{Vec, nth}
 use Rattle.lattices.specs.Volume.{Index, head, rest}
 use Rattle.exterior_algebra.specs.Minors.{marks, pick}
-use Rattle.input_checks.specs.Minors.{halves}
-use Rattle.input_checks.specs.Choice.{choice, places, firsts, counts}
+use Rattle.input_checks.specs.Choice.{choice, places, firsts, counts, halves}
 
 -- ---- one bit more
 

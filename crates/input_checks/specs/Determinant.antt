@@ -3,17 +3,17 @@
 use mathlib.Core.Path.{_≡_, refl, sym, ap₂, _∙_, subst}
 use mathlib.Core.Bool.{true, false}
 use mathlib.Core.List.{List, [], _∷_, _++_}
-use Prim.Native.Nat.{ℕ, zero, suc, _+_, _*_, _^_, _≤_, _<_}
+use Prim.Native.Nat.{ℕ, zero, suc, _-_, _%_, _+_, _*_, _^_, _≤_, _<_}
 use native.Mathlib.Omega.{arith}
 use lib.Dec.{T, ltb}
 use lib.IntN.{ℤ, pos, _+ℤ_, _-ℤ_, _*ℤ_}
-use lib.ListN.{length, getD, drop}
+use lib.ListN.{length, getD, set, drop}
 use mir.Syntax.{w64}
 use mir.Val.{SFits, toZ, ofZ}
 use mir.Facts.{toZ-ofZ}
 use Rattle.integers.specs.Identity.{by-ring, reads}
 use Rattle.integers.specs.Size.{Within, within-add, within-sub, within-mul, fits-within}
-use Rattle.lattices.specs.Vector.{Vec, nth}
+use Rattle.lattices.specs.Vector.{Vec, nth, dot}
 use Rattle.lattices.specs.Volume.{volume}
 use Rattle.input_checks.specs.Choice.{firsts}
 
@@ -118,6 +118,88 @@ behind (p ∷ q ∷ r ∷ s ∷ []) h w =
     (λ j k l m. four (λ s. Behind ((a ∷ b ∷ c ∷ d ∷ []) ∷ (e ∷ f ∷ g ∷ i ∷ []) ∷ (j ∷ k ∷ l ∷ m ∷ []) ∷ s ∷ []))
     (λ n o t u. all e f g i j k l m n o t u a b c d) s (w 3 (omega arith))) r (w 2 (omega arith))) q (w 1 (omega arith))) p (w 0 (omega arith))
 behind (p ∷ q ∷ r ∷ s ∷ t ∷ rows) h w = absurd (omega arith)
+
+-- ---- expansion at a row
+
+-- of three rows: the determinant of their coordinates i, j and k
+abbrev pub threeOf : Vec → Vec → Vec → ℕ → ℕ → ℕ → ℤ
+threeOf p q r i j k = nth p i *ℤ pairOf q r j k -ℤ nth p j *ℤ pairOf q r i k +ℤ nth p k *ℤ pairOf q r i j
+
+-- the list without its entry j
+abbrev pub without : {A : Type 0} → ℕ → List A → List A
+without j [] = []
+without zero (x ∷ l) = l
+without (suc j) (x ∷ l) = x ∷ without j l
+
+-- what the coordinates of another row count in the determinant with it in the place of row j: two rows, or two coordinates, change places where
+-- the sign does
+abbrev pub cofactorsOf : List Vec → ℕ → List ℤ
+cofactorsOf t j =
+    let o = without j t in
+    let p = getD o (j % 2) [] in
+    let q = getD o (1 - j % 2) [] in
+    let r = getD o 2 [] in
+    threeOf p q r 1 2 3 ∷ threeOf p q r 0 3 2 ∷ threeOf p q r 0 1 3 ∷ threeOf p q r 0 2 1 ∷ []
+
+-- the row in the place of row j
+Expands : ℕ → List Vec → Vec → Type 0
+Expands j t v = dot (cofactorsOf t j) v ≡ determinantOf (set t j v)
+
+module _ (a b c d e f g h i j k l w x y z : ℤ) where
+  abbrev u : Vec
+  u = w ∷ x ∷ y ∷ z ∷ []
+
+  abbrev others : List ℤ
+  others = w ∷ x ∷ y ∷ z ∷ a ∷ b ∷ c ∷ d ∷ e ∷ f ∷ g ∷ h ∷ i ∷ j ∷ k ∷ l ∷ []
+
+  at-0 : (v : Vec) → Expands 0 (v ∷ (a ∷ b ∷ c ∷ d ∷ []) ∷ (e ∷ f ∷ g ∷ h ∷ []) ∷ (i ∷ j ∷ k ∷ l ∷ []) ∷ []) u
+  unfolding Expands dot
+  at-0 v = by-ring others (search reads depth 30 fits 5000) (search reads depth 30 fits 5000) tt
+
+  at-1 : (v : Vec) → Expands 1 ((a ∷ b ∷ c ∷ d ∷ []) ∷ v ∷ (e ∷ f ∷ g ∷ h ∷ []) ∷ (i ∷ j ∷ k ∷ l ∷ []) ∷ []) u
+  unfolding Expands dot
+  at-1 v = by-ring others (search reads depth 30 fits 5000) (search reads depth 30 fits 5000) tt
+
+  at-2 : (v : Vec) → Expands 2 ((a ∷ b ∷ c ∷ d ∷ []) ∷ (e ∷ f ∷ g ∷ h ∷ []) ∷ v ∷ (i ∷ j ∷ k ∷ l ∷ []) ∷ []) u
+  unfolding Expands dot
+  at-2 v = by-ring others (search reads depth 30 fits 5000) (search reads depth 30 fits 5000) tt
+
+  at-3 : (v : Vec) → Expands 3 ((a ∷ b ∷ c ∷ d ∷ []) ∷ (e ∷ f ∷ g ∷ h ∷ []) ∷ (i ∷ j ∷ k ∷ l ∷ []) ∷ v ∷ []) u
+  unfolding Expands dot
+  at-3 v = by-ring others (search reads depth 30 fits 5000) (search reads depth 30 fits 5000) tt
+
+pub expands : (t : List Vec) → length t ≡ 4 → ((i : ℕ) → i < 4 → length (getD t i []) ≡ 4) → (j : ℕ) → j < 4 → (v : Vec) → length v ≡ 4 → dot (cofactorsOf t j) v ≡ determinantOf (set t j v)
+unfolding Expands
+expands [] e w j h v k = absurd (omega arith)
+expands (p ∷ []) e w j h v k = absurd (omega arith)
+expands (p ∷ q ∷ []) e w j h v k = absurd (omega arith)
+expands (p ∷ q ∷ r ∷ []) e w j h v k = absurd (omega arith)
+expands (p ∷ q ∷ r ∷ s ∷ []) e w zero h v k =
+    four (λ v. Expands 0 (p ∷ q ∷ r ∷ s ∷ []) v)
+    (λ α β γ δ. four (λ q. Expands 0 (p ∷ q ∷ r ∷ s ∷ []) (α ∷ β ∷ γ ∷ δ ∷ []))
+    (λ a b c d. four (λ r. Expands 0 (p ∷ (a ∷ b ∷ c ∷ d ∷ []) ∷ r ∷ s ∷ []) (α ∷ β ∷ γ ∷ δ ∷ []))
+    (λ e f g i. four (λ s. Expands 0 (p ∷ (a ∷ b ∷ c ∷ d ∷ []) ∷ (e ∷ f ∷ g ∷ i ∷ []) ∷ s ∷ []) (α ∷ β ∷ γ ∷ δ ∷ []))
+    (λ l m n o. at-0 a b c d e f g i l m n o α β γ δ p) s (w 3 (omega arith))) r (w 2 (omega arith))) q (w 1 (omega arith))) v k
+expands (p ∷ q ∷ r ∷ s ∷ []) e w (suc zero) h v k =
+    four (λ v. Expands 1 (p ∷ q ∷ r ∷ s ∷ []) v)
+    (λ α β γ δ. four (λ p. Expands 1 (p ∷ q ∷ r ∷ s ∷ []) (α ∷ β ∷ γ ∷ δ ∷ []))
+    (λ a b c d. four (λ r. Expands 1 ((a ∷ b ∷ c ∷ d ∷ []) ∷ q ∷ r ∷ s ∷ []) (α ∷ β ∷ γ ∷ δ ∷ []))
+    (λ e f g i. four (λ s. Expands 1 ((a ∷ b ∷ c ∷ d ∷ []) ∷ q ∷ (e ∷ f ∷ g ∷ i ∷ []) ∷ s ∷ []) (α ∷ β ∷ γ ∷ δ ∷ []))
+    (λ l m n o. at-1 a b c d e f g i l m n o α β γ δ q) s (w 3 (omega arith))) r (w 2 (omega arith))) p (w 0 (omega arith))) v k
+expands (p ∷ q ∷ r ∷ s ∷ []) e w (suc (suc zero)) h v k =
+    four (λ v. Expands 2 (p ∷ q ∷ r ∷ s ∷ []) v)
+    (λ α β γ δ. four (λ p. Expands 2 (p ∷ q ∷ r ∷ s ∷ []) (α ∷ β ∷ γ ∷ δ ∷ []))
+    (λ a b c d. four (λ q. Expands 2 ((a ∷ b ∷ c ∷ d ∷ []) ∷ q ∷ r ∷ s ∷ []) (α ∷ β ∷ γ ∷ δ ∷ []))
+    (λ e f g i. four (λ s. Expands 2 ((a ∷ b ∷ c ∷ d ∷ []) ∷ (e ∷ f ∷ g ∷ i ∷ []) ∷ r ∷ s ∷ []) (α ∷ β ∷ γ ∷ δ ∷ []))
+    (λ l m n o. at-2 a b c d e f g i l m n o α β γ δ r) s (w 3 (omega arith))) q (w 1 (omega arith))) p (w 0 (omega arith))) v k
+expands (p ∷ q ∷ r ∷ s ∷ []) e w (suc (suc (suc zero))) h v k =
+    four (λ v. Expands 3 (p ∷ q ∷ r ∷ s ∷ []) v)
+    (λ α β γ δ. four (λ p. Expands 3 (p ∷ q ∷ r ∷ s ∷ []) (α ∷ β ∷ γ ∷ δ ∷ []))
+    (λ a b c d. four (λ q. Expands 3 ((a ∷ b ∷ c ∷ d ∷ []) ∷ q ∷ r ∷ s ∷ []) (α ∷ β ∷ γ ∷ δ ∷ []))
+    (λ e f g i. four (λ r. Expands 3 ((a ∷ b ∷ c ∷ d ∷ []) ∷ (e ∷ f ∷ g ∷ i ∷ []) ∷ r ∷ s ∷ []) (α ∷ β ∷ γ ∷ δ ∷ []))
+    (λ l m n o. at-3 a b c d e f g i l m n o α β γ δ s) r (w 2 (omega arith))) q (w 1 (omega arith))) p (w 0 (omega arith))) v k
+expands (p ∷ q ∷ r ∷ s ∷ []) e w (suc (suc (suc (suc j)))) h v k = absurd (omega arith)
+expands (p ∷ q ∷ r ∷ s ∷ t ∷ rows) e w j h v k = absurd (omega arith)
 
 -- ---- what code meets on the way fits
 

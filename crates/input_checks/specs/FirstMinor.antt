@@ -8,7 +8,7 @@ use native.Mathlib.Decide.{ℕ-discrete, decLt}
 use native.Mathlib.Numerals.{add-one}
 use native.Mathlib.Omega.{arith}
 use lib.IntN.{ℤ, pos}
-use lib.ListN.{length, getD, set, take, drop, replicate, length-take, length-map}
+use lib.ListN.{length, getD, set, take, drop, replicate, length-take, length-map, length-set, length-append, length-drop}
 use lib.Seq.{getD-drop}
 use lib.Signed.{_≤ℤ_}
 use Rattle.integers.specs.AllLaws.{getD-map, take-map}
@@ -16,7 +16,7 @@ use Rattle.integers.specs.Filled.{filled}
 use Rattle.integers.specs.FilledLaws.{take-filled}
 use Rattle.integers.specs.Size.{Within}
 use Rattle.integers.specs.Order.{≤ℤ-leZ, ≤ℤ-of-≡}
-use Rattle.lattices.specs.Vector.{Vec, N, nth}
+use Rattle.lattices.specs.Vector.{Vec, N, nth, dot}
 use Rattle.lattices.specs.Volume.{Index, rest, volume, squaredVolume, isDependent}
 use Rattle.lattices.specs.Answer.{padded}
 use Rattle.lattices.specs.Laws.Answer.{length-padded}
@@ -26,9 +26,9 @@ use Rattle.exterior_algebra.specs.Minors.{marks, pick, full, volume-off, minor-
 use Rattle.input_checks.specs.declared.minors.Minor.{Minor}
 use Rattle.input_checks.specs.Choice.{choice, places, firsts, fourAt}
 use Rattle.input_checks.specs.Choices.{number, number-<, choice-number, marks-≤, length-places, places-<, pick-from, marks-firsts}
-use Rattle.input_checks.specs.Determinant.{determinantOf, unitRows, behind, Small}
+use Rattle.input_checks.specs.Determinant.{determinantOf, unitRows, behind, cofactorsOf, expands, Small}
 use Rattle.input_checks.specs.Any.{within-limit}
-use Rattle.input_checks.specs.Volumes.{short-within, short-from}
+use Rattle.input_checks.specs.Lengths.{short-within, short-from}
 
 -- the minor of bs at some choice of as many coordinates, which stand in the first places of the list
 pub record Chosen (bs : List Vec) (at : List ℕ) (z : ℤ) : Type 0 where
@@ -36,6 +36,7 @@ pub record Chosen (bs : List Vec) (at : List ℕ) (z : ℤ) : Type 0 where
   pub wide : length index ≡ mostCoordinates
   pub count : marks index ≡ length bs
   pub taken : take (length bs) at ≡ places 0 index
+  pub below : (i : ℕ) → i < mostVectors → getD at i 0 < mostCoordinates
   pub minor : z ≡ volume bs index
 
 -- a minor that is not zero, or zero where there is none
@@ -66,6 +67,35 @@ take-take zero (suc d) l h = absurd (omega arith)
 take-take (suc n) (suc d) [] h = refl
 take-take (suc n) (suc d) (x ∷ l) h = ap (λ r. x ∷ r) (take-take n d l (omega arith))
 
+-- four rows of four
+table-count : (at : List ℕ) (cs : List Vec) (d : ℕ) → d ≤ mostVectors → length cs ≡ d → length (map (fourAt at) cs ++ drop d unitRows) ≡ 4
+table-count at cs d few e = length-append (map (fourAt at) cs) (drop d unitRows) ∙ omega (arith, length-map cs (fourAt at), length-drop d unitRows, e, few)
+
+rows-wide : (at : List ℕ) (cs us : List Vec) → ((i : ℕ) → i < length us → length (getD us i []) ≡ 4) → (i : ℕ) → i < length (map (fourAt at) cs ++ us) → length (getD (map (fourAt at) cs ++ us) i []) ≡ 4
+rows-wide at [] us w i h = w i h
+rows-wide at (c ∷ cs) us w zero h = length-padded mostVectors (map (nth c) (take mostVectors at))
+rows-wide at (c ∷ cs) us w (suc i) h = rows-wide at cs us w i (omega arith)
+
+units-wide : (i : ℕ) → i < 4 → length (getD unitRows i []) ≡ 4
+units-wide zero h = refl
+units-wide (suc zero) h = refl
+units-wide (suc (suc zero)) h = refl
+units-wide (suc (suc (suc zero))) h = refl
+units-wide (suc (suc (suc (suc i)))) h = absurd (omega arith)
+
+table-wide : (at : List ℕ) (cs : List Vec) (d : ℕ) → length (map (fourAt at) cs ++ drop d unitRows) ≡ 4 → (i : ℕ) → i < 4 → length (getD (map (fourAt at) cs ++ drop d unitRows) i []) ≡ 4
+table-wide at cs d e i h = rows-wide at cs (drop d unitRows) (λ k l. ap length (getD-drop d unitRows k []) ∙ units-wide (d + k) (omega (arith, l, length-drop d unitRows))) i (omega (arith, e, h))
+
+set-left : {A : Type 0} (u v : List A) (j : ℕ) (x : A) → j < length u → set (u ++ v) j x ≡ set u j x ++ v
+set-left [] v j x h = absurd (omega arith)
+set-left (y ∷ u) v zero x h = refl
+set-left (y ∷ u) v (suc j) x h = ap (λ l. y ∷ l) (set-left u v j x (omega arith))
+
+set-map : {A B : Type 0} (f : A → B) (l : List A) (j : ℕ) (x : A) → set (map f l) j (f x) ≡ map f (set l j x)
+set-map f [] j x = refl
+set-map f (y ∷ l) zero x = refl
+set-map f (y ∷ l) (suc j) x = ap (λ k. f y ∷ k) (set-map f l j x)
+
 module _ (at : List ℕ) (d : ℕ) (few : d ≤ mostVectors) (long : mostVectors ≤ length at) (s : Index) (count : marks s ≡ d) (taken : take d at ≡ places 0 s) where
   picked : (v : Vec) → pick (firsts mostVectors d) (fourAt at v) ≡ pick s v
   picked v =
@@ -90,6 +120,15 @@ module _ (at : List ℕ) (d : ℕ) (few : d ≤ mostVectors) (long : mostVectors
       ∙ behind rows (omega (arith, n, few)) (λ i h. ap length (getD-map (fourAt at) cs [] [] i (omega (arith, n, e))) ∙ length-padded mostVectors (map (nth (getD cs i [])) (take mostVectors at)))
       ∙ ap (λ k. volume rows (firsts mostVectors k)) n ∙ minor-four cs
 
+  -- and with another vector in the place of vector j it is an inner product with cofactors
+  pub cofactors-give : (cs : List Vec) → length cs ≡ d → (j : ℕ) → j < d → (v : Vec) → dot (cofactorsOf (map (fourAt at) cs ++ drop d unitRows) j) (fourAt at v) ≡ volume (set cs j v) s
+  cofactors-give cs e j h v =
+      let t = map (fourAt at) cs ++ drop d unitRows in
+      let n : length (map (fourAt at) cs) ≡ d = length-map cs (fourAt at) ∙ e in
+      expands t (table-count at cs d few e) (table-wide at cs d (table-count at cs d few e)) j (omega (arith, few)) (fourAt at v) (length-padded mostVectors (map (nth v) (take mostVectors at)))
+      ∙ ap determinantOf (set-left (map (fourAt at) cs) (drop d unitRows) j (fourAt at v) (omega (arith, n)) ∙ ap (λ l. l ++ drop d unitRows) (set-map (fourAt at) cs j v))
+      ∙ minor-is (set cs j v) (length-set cs j v ∙ e)
+
 -- ---- the table of the picked coordinates, row by row
 
 next-row : {A B : Type 0} (f : A → B) (x : A) (b : List A) (u : List B) (i : ℕ) → i < length b → i < length u → set (map f (take i b) ++ drop i u) i (f (getD b i x)) ≡ map f (take (suc i) b) ++ drop (suc i) u
@@ -105,7 +144,7 @@ put-next f x b u i h k = next-row f x b u i h k ∙ ap (λ n. map f (take n b) +
 zero-small : Within 20000 (pos 0)
 zero-small = record { within = omega arith }
 
-picked-small : (v : Vec) → Small v → (n : ℕ) (l : List ℕ) → Small (padded n (map (nth v) l))
+pub picked-small : (v : Vec) → Small v → (n : ℕ) (l : List ℕ) → Small (padded n (map (nth v) l))
 picked-small v h zero l c = zero-small
 picked-small v h (suc n) [] zero = zero-small
 picked-small v h (suc n) [] (suc c) = picked-small v h n [] c

@@ -56,7 +56,7 @@ fn in_order() -> [usize; WIDTH]
 }
 
 // The coordinates of v at the first four places of a list.
-fn pick(v: Vector, at: [usize; WIDTH]) -> [i64; 4]
+pub fn pick(v: Vector, at: [usize; WIDTH]) -> [i64; 4]
     requires { ⌜ ((i : ℕ) → i < mostVectors → getD at i 0 < mostCoordinates) ⌝ }
     ensures { λ r. ⌜ r ≡ fourAt at v ⌝ }
 {
@@ -68,7 +68,7 @@ fn pick(v: Vector, at: [usize; WIDTH]) -> [i64; 4]
 }
 
 // A row of those of each of d vectors, unit rows behind them.
-fn square(b: Basis, at: [usize; WIDTH], d: usize) -> [[i64; 4]; 4]
+pub fn square(b: Basis, at: [usize; WIDTH], d: usize) -> [[i64; 4]; 4]
     requires { ⌜ d ≤ mostVectors ⌝ }
     requires { ⌜ ((i : ℕ) → i < mostVectors → getD at i 0 < mostCoordinates) ⌝ }
     ensures { λ r. ⌜ r ≡ map (fourAt at) (take d b) ++ drop d unitRows ⌝ }
@@ -81,7 +81,7 @@ fn square(b: Basis, at: [usize; WIDTH], d: usize) -> [[i64; 4]; 4]
 }
 
 // The determinant of coordinates i and j of two rows.
-fn pair(p: [i64; 4], q: [i64; 4], i: usize, j: usize) -> i64
+pub fn pair(p: [i64; 4], q: [i64; 4], i: usize, j: usize) -> i64
     requires { ⌜ (i < 4) × (j < 4) ⌝ }
     requires { ⌜ ((c : ℕ) → Within 20000 (nth p c)) ⌝ }
     requires { ⌜ ((c : ℕ) → Within 20000 (nth q c)) ⌝ }

@@ -11,17 +11,15 @@ use lib.Signed.{_≤ℤ_, remZ, quotZ}
 use Rattle.integers.specs.Size.{Within}
 use Rattle.lattices.specs.Vector.{Vec, N, nth, dot}
 use Rattle.lattices.specs.Volume.{Index, volume}
-use Rattle.lattices.specs.Answer.{padded}
 use Rattle.lattices.specs.Refusal.{mostVectors, mostCoordinates}
 use Rattle.exterior_algebra.specs.Cramer.{put}
 use Rattle.exterior_algebra.specs.Dependence.{Fit}
-use Rattle.exterior_algebra.specs.Minors.{marks, pick}
 use Rattle.exterior_algebra.specs.Sizes.{Short}
 use Rattle.successive_minima.specs.Reduced.{Reduced}
-use Rattle.input_checks.specs.Volumes.{nonzero}
+use Rattle.lattice_membership.specs.Nonzero.{nonzero}
 use Rattle.row_operations.specs.RowStructs.{tableRow}
 use Rattle.lattice_membership.specs.declared.Lattice.{Lattice}
-use Rattle.input_checks.specs.Choice.{places}
+use Rattle.input_checks.specs.Choice.{fourAt}
 
 -- the first d vectors of b, as a reduction leaves them
 pub record ReducedBasis (d : ℕ) (b : List Vec) : Type 0 where
@@ -40,10 +38,10 @@ vectorsIn l = take (l .d) (map (λ row. row .at) (l .vectors))
 abbrev pub rowIn : Lattice → ℕ → List ℤ
 rowIn l j = getD (l .cofactors) j (tableRow []) .at
 
--- with these the coordinates of v at the choice s give the minor that has v in the place of vector j
-pub record Cofactors (bs : List Vec) (s : Index) (j : ℕ) (row : List ℤ) : Type 0 where
-  pub give : (v : Vec) → dot row (padded 4 (pick s v)) ≡ volume (put j v bs) s
-  pub small : (c : ℕ) → Within 8000000000000 (nth row c)
+-- with these the coordinates of v at the places of the choice give the minor there with v in the place of vector j
+pub record Cofactors (bs : List Vec) (at : List ℕ) (s : Index) (j : ℕ) (row : List ℤ) : Type 0 where
+  pub give : (v : Vec) → dot row (fourAt at v) ≡ volume (put j v bs) s
+  pub small : (c : ℕ) → Within 48000000000000 (nth row c)
 
 -- what membership asks of a lattice, and `lattice_of` gives
 pub record Known (l : Lattice) : Type 0 where
@@ -51,13 +49,11 @@ pub record Known (l : Lattice) : Type 0 where
   pub four : (length (l .vectors) ≡ mostVectors) × (length (l .cofactors) ≡ mostVectors)
   pub reduced : Reduced (vectorsIn l)
   pub short : Short (pos 400000000) (vectorsIn l)
+  pub below : (i : ℕ) → i < mostVectors → getD (l .choice) i 0 < mostCoordinates
   pub index : Index
-  pub wide : length index ≡ mostCoordinates
-  pub count : marks index ≡ l .d
-  pub chosen : take (l .d) (l .choice) ≡ places 0 index
   pub at-index : l .minor ≡ volume (vectorsIn l) index
   pub nonzero : l .minor ≢ pos 0
-  pub rows : (j : ℕ) → j < l .d → Cofactors (vectorsIn l) index j (rowIn l j)
+  pub rows : (j : ℕ) → j < l .d → Cofactors (vectorsIn l) (l .choice) index j (rowIn l j)
 
 -- the quotients of the numerators by the minor, p being the chosen coordinates of a vector
 abbrev pub quotientsOf : Lattice → List ℤ → List ℤ

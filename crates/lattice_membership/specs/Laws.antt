@@ -1,5 +1,4 @@
 -- What the proofs of the functions use.
-pub mod Minor
 pub mod Made
 pub mod Accepted
 pub mod Members

@@ -14,53 +14,21 @@ ghost use Rattle.integers.specs.Size.{Within};
 ghost use Rattle.lattices.specs.Vector.{N, nth, dot};
 ghost use Rattle.lattices.specs.Refusal.{mostVectors, mostCoordinates, vectorsOf};
 ghost use Rattle.lattices.specs.Answer.{padded};
-ghost use Rattle.input_checks.specs.Volumes.{nonzero};
+ghost use Rattle.lattice_membership.specs.Nonzero.{nonzero};
 ghost use Rattle.successive_minima.specs.Member.{isMember};
 ghost use Rattle.row_operations.specs.RowStructs.{vectorRow};
-ghost use Rattle.lattice_membership.specs.Coordinates.{coordinates};
-ghost use Rattle.lattice_membership.specs.Cofactor.{without, others, missingPlace, cofactor, cofactors, cofactorRows};
+ghost use Rattle.input_checks.specs.Determinant.{Small, without, threeOf, cofactorsOf};
+ghost use Rattle.lattice_membership.specs.Cofactor.{cofactorRows};
 ghost use Rattle.lattice_membership.specs.Known.{ReducedBasis, Known, vectorsIn, isWhole};
+use input_checks::minors::first_minor;
+use input_checks::minors::pair;
+use input_checks::minors::pick;
+use input_checks::minors::square;
 use row_operations::Vector;
 use row_operations::WIDTH;
 
 // No coefficient of a vector within the length limit is larger, on a reduced basis.
 const MOST_TIMES: i64 = 1080000;
-
-// Among the entries of a volume over four coordinates: the places of the choices that take the first d of them but one.
-const MISSING: [[usize; 4]; 5] = [
-    [0, 0, 0, 0],
-    [0, 0, 0, 0],
-    [4, 8, 0, 0],
-    [6, 10, 12, 0],
-    [7, 11, 13, 14],
-];
-
-// The coordinates of v at the first d places of a choice.
-fn pick(v: Vector, at: [usize; WIDTH], d: usize) -> [i64; 4]
-    requires { ⌜ d ≤ mostVectors ⌝ }
-    requires { ⌜ ((i : ℕ) → i < d → getD at i 0 < mostCoordinates) ⌝ }
-    ensures { λ r. ⌜ r ≡ coordinates at d v ⌝ }
-{
-    let mut p = [0; 4];
-    for c in 0..d {
-        p[c] = v[at[c]];
-    }
-    p
-}
-
-// The same of every vector.
-fn picked(b: [Vector; 4], at: [usize; WIDTH], d: usize) -> [[i64; 4]; 4]
-    requires { ⌜ d ≤ mostVectors ⌝ }
-    requires { ⌜ ((i : ℕ) → i < d → getD at i 0 < mostCoordinates) ⌝ }
-    ensures { λ r. ⌜ r ≡ map (coordinates at d) b ⌝ }
-{
-    [
-        pick(b[0], at, d),
-        pick(b[1], at, d),
-        pick(b[2], at, d),
-        pick(b[3], at, d),
-    ]
-}
 
 // Row i of those that are left without row j.
 fn other(t: [[i64; 4]; 4], j: usize, i: usize) -> [i64; 4]
@@ -73,63 +41,42 @@ fn other(t: [[i64; 4]; 4], j: usize, i: usize) -> [i64; 4]
     t[i + 1]
 }
 
-// The other rows, and one row behind them.
-fn others(t: [[i64; 4]; 4], j: usize) -> [[i64; 4]; 4]
-    ensures { λ r. ⌜ r ≡ others t j ⌝ }
+// The determinant of coordinates i, j and k of three rows.
+fn three(p: [i64; 4], q: [i64; 4], r: [i64; 4], i: usize, j: usize, k: usize) -> i64
+    requires { ⌜ (i < 4) × ((j < 4) × (k < 4)) ⌝ }
+    requires { ⌜ (Small p) × ((Small q) × (Small r)) ⌝ }
+    ensures { λ d. ⌜ (d ≡ threeOf p q r i j k) × Within 48000000000000 d ⌝ }
 {
-    [other(t, j, 0), other(t, j, 1), other(t, j, 2), t[3]]
+    p[i] * pair(q, r, j, k) - p[j] * pair(q, r, i, k) + p[k] * pair(q, r, i, j)
 }
 
-// Where the volume of d - 1 vectors has the determinant of the first d coordinates but c.
-fn missing_place(d: usize, c: usize) -> usize
-    requires { ⌜ d ≤ mostVectors ⌝ }
-    requires { ⌜ c < mostVectors ⌝ }
-    ensures { λ r. ⌜ (r ≡ missingPlace d c) × (r < 16) ⌝ }
+// What the coordinates of another row count in the determinant with it in the place of row j: two rows change places where the sign does.
+fn cofactors(t: [[i64; 4]; 4], j: usize) -> [i64; 4]
+    requires { ⌜ j < 4 ⌝ }
+    requires { ⌜ ((i : ℕ) (c : ℕ) → Within 20000 (nth (getD t i []) c)) ⌝ }
+    ensures { λ r. ⌜ r ≡ cofactorsOf t j ⌝ }
 {
-    let places = MISSING[d];
-    places[c]
-}
-
-// What coordinate c counts in the minor with another vector in the place of vector j: w is the volume of the others.
-fn cofactor(w: [i64; 16], d: usize, j: usize, c: usize) -> i64
-    requires { ⌜ d ≤ mostVectors ⌝ }
-    requires { ⌜ j < mostVectors ⌝ }
-    requires { ⌜ c < mostVectors ⌝ }
-    requires { ⌜ ((i : ℕ) → Within 8000000000000 (nth w i)) ⌝ }
-    ensures { λ r. ⌜ r ≡ cofactor w d j c ⌝ }
-{
-    let place = missing_place(d, c);
-    if (j + c) % 2 == 1 {
-        return -w[place];
-    }
-    w[place]
-}
-
-// The same for all coordinates.
-fn cofactors(t: [[i64; 4]; 4], d: usize, j: usize) -> [i64; 4]
-    requires { ⌜ d ≤ mostVectors ⌝ }
-    requires { ⌜ j < d ⌝ }
-    requires { ⌜ ((i : ℕ) → i < d → N (getD t i []) ≤ℤ pos 400000000) ⌝ }
-    ensures { λ r. ⌜ r ≡ cofactors t d j ⌝ }
-{
-    let w = input_checks::volume(others(t, j), d - 1);
+    let odd = j % 2;
+    let p = other(t, j, odd);
+    let q = other(t, j, 1 - odd);
+    let r = other(t, j, 2);
     [
-        cofactor(w, d, j, 0),
-        cofactor(w, d, j, 1),
-        cofactor(w, d, j, 2),
-        cofactor(w, d, j, 3),
+        three(p, q, r, 1, 2, 3),
+        three(p, q, r, 0, 3, 2),
+        three(p, q, r, 0, 1, 3),
+        three(p, q, r, 0, 2, 1),
     ]
 }
 
-// The same for each vector.
+// The same for each of the first d rows.
 fn cofactor_rows(t: [[i64; 4]; 4], d: usize) -> [row_operations::TableRow; 4]
     requires { ⌜ d ≤ mostVectors ⌝ }
-    requires { ⌜ ((i : ℕ) → i < d → N (getD t i []) ≤ℤ pos 400000000) ⌝ }
+    requires { ⌜ ((i : ℕ) (c : ℕ) → Within 20000 (nth (getD t i []) c)) ⌝ }
     ensures { λ r. ⌜ r ≡ cofactorRows t d ⌝ }
 {
     let mut rows = [row_operations::TableRow { at: [0; 4] }; 4];
     for j in 0..d {
-        let row = cofactors(t, d, j);
+        let row = cofactors(t, j);
         rows[j] = row_operations::TableRow { at: row };
     }
     rows
@@ -163,22 +110,22 @@ pub fn lattice_of(b: [Vector; 4], d: usize) -> Lattice
     ensures { λ r. ⌜ Known r ⌝ }
     ensures { λ r. ⌜ (r .d ≡ d) × (vectorsIn r ≡ take d b) ⌝ }
 {
-    let m = input_checks::minors::first_minor(b, d);
+    let m = first_minor(b, d);
     let at = m.at;
     Lattice {
         d,
         vectors: vector_rows(b),
         choice: at,
         minor: m.minor,
-        cofactors: cofactor_rows(picked(b, at, d), d),
+        cofactors: cofactor_rows(square(b, at, d), d),
     }
 }
 
 // The minor with a vector in the place of another: p are its chosen coordinates.
 fn numerator(row: [i64; 4], p: [i64; 4]) -> i64
-    requires { ⌜ ((c : ℕ) → Within 8000000000000 (nth row c)) ⌝ }
+    requires { ⌜ ((c : ℕ) → Within 48000000000000 (nth row c)) ⌝ }
     requires { ⌜ ((c : ℕ) → Within 20000 (nth p c)) ⌝ }
-    ensures { λ r. ⌜ (r ≡ dot row p) × Within 640000000000000000 r ⌝ }
+    ensures { λ r. ⌜ (r ≡ dot row p) × Within 3840000000000000000 r ⌝ }
 {
     let mut sum = 0;
     for c in 0..4 {
@@ -189,7 +136,7 @@ fn numerator(row: [i64; 4], p: [i64; 4]) -> i64
 
 // Whether n is a whole multiple of m, and not by more than a coefficient can be.
 fn whole(n: i64, m: i64) -> bool
-    requires { ⌜ Within 640000000000000000 n ⌝ }
+    requires { ⌜ Within 3840000000000000000 n ⌝ }
     requires { ⌜ m ≢ pos 0 ⌝ }
     ensures { λ r. ⌜ r ≡ isWhole n m ⌝ }
 {
@@ -219,7 +166,7 @@ pub fn member(l: Lattice, v: Vector) -> bool
     ensures { λ r. ⌜ r ≡ isMember (vectorsIn l) v ⌝ }
 {
     let at = l.choice;
-    let p = pick(v, at, l.d);
+    let p = pick(v, at);
     let mut rest = v;
     for j in 0..l.d {
         let cofactors = l.cofactors[j];

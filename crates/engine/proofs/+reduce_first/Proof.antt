@@ -21,7 +21,7 @@ use Rattle.engine.proofs.reduce_first.Kinds as kinds
 use Rattle.engine.proofs.+reduce_first.Lts-reduce_first as lts
 use Rattle.engine.proofs.pass.Reads as pass-reads
 use Rattle.gram_matrix.proofs.order.Reads as order-reads
-use Rattle.gram_matrix.proofs.packed.Reads as packed-reads
+use Rattle.gram_matrix.proofs.work.packed.Reads as packed-reads
 use Rattle.gram_matrix.proofs.shorter.Reads as shorter-reads
 use Rattle.row_operations.proofs.take_table.Reads as take-table-reads
 use Rattle.row_operations.proofs.take_vectors.Reads as take-vectors-reads

@@ -4,7 +4,7 @@ use mathlib.Core.List.{List, []}
 use lib.IntN.{ℤ}
 use lib.ListN.{length, take}
 use denote.Ref.{now}
-use Rattle.lattices.specs.Refusal.{Input, basis, firstOf, vectorChecks}
+use Rattle.lattices.specs.Refusal.{Input, basis, firstOf, vectorChecks, mostVectors, mostCoordinates}
 use Rattle.lattices.specs.Answer.{table}
 use Rattle.greedy_reduction.specs.Accepted.{Accepted, accepted}
 use Rattle.gram_matrix.specs.Tied.{whole}
@@ -29,11 +29,11 @@ facts c = accepted (input (c .before .before .before)) (ok c)
 abbrev array : tie.Else1 → List (List ℤ)
 array c = c .before .checked .last .1 .1 .1 .0
 
-read : (c : tie.Else1) → array c ≡ table 4 4 (basis (input (c .before .before .before)))
+read : (c : tie.Else1) → array c ≡ table mostVectors mostCoordinates (basis (input (c .before .before .before)))
 read c = c .before .checked .ensures .1 (c .if1 .left)
 
 -- the tables are those with which the definition begins
-gram-is : (c : tie.After-unit-table) → let a = c .before .before .before in c .before .formed .result ≡ formed (take (a .before .before .before .args .d) (table 4 4 (basis (input (a .before .before .before)))))
+gram-is : (c : tie.After-unit-table) → let a = c .before .before .before in c .before .formed .result ≡ formed (take (a .before .before .before .args .d) (table mostVectors mostCoordinates (basis (input (a .before .before .before)))))
 gram-is c = let a = c .before .before .before in c .before .formed .ensures ∙ ap (λ t. formed (take (a .before .before .before .args .d) t)) (read a)
 
 start : (c : tie.After-unit-table) → let a = c .before .before .before in Reducible (a .before .before .before .args .d) 0 (c .before .formed .result) (array a) (c .unit-table .result) (c .unit-table .result)
@@ -56,7 +56,7 @@ formed-requires : tie.Need-formed-requires
 formed-requires c κs =
     let a = c .before in
     let i = input (a .before .before .before) in
-    (facts a .most, (ap length (read a) ∙ length-table 4 4 (basis i), λ j k. rw (read a) (begun-small i (ok a) j k)))
+    (facts a .most, (ap length (read a) ∙ length-table mostVectors mostCoordinates (basis i), λ j k. rw (read a) (begun-small i (ok a) j k)))
 
 unit-table-requires : tie.Need-unit-table-requires
 unit-table-requires c κs = facts (c .before .before) .most

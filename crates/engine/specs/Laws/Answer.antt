@@ -15,7 +15,7 @@ use Rattle.integers.specs.Size.{Within}
 use Rattle.lattices.specs.Vector.{Vec, N, nth, dot}
 use Rattle.lattices.specs.Laws.Vector.{dot-comm, nil-dot, ≈-refl, ≈-dot}
 use Rattle.lattices.specs.Greedy.{Row, vectors, units, reduction}
-use Rattle.lattices.specs.Refusal.{Input, basis, firstOf, vectorChecks}
+use Rattle.lattices.specs.Refusal.{Input, basis, firstOf, vectorChecks, mostVectors, mostCoordinates}
 use Rattle.lattices.specs.Answer as Definition
 use Rattle.lattices.specs.Answer.{padded, table, rowsOfV, reductionGiven, noReduction, reductionOf}
 use Rattle.lattices.specs.Laws.Answer.{table-rows, padded-≈}
@@ -25,7 +25,7 @@ use Rattle.row_operations.specs.declared.VectorRow.{VectorRow}
 use Rattle.row_operations.specs.declared.TableRow.{TableRow}
 use Rattle.row_operations.specs.Rows.{transposed, Tables, rowsOf-tables, firstFour, map-four}
 use Rattle.row_operations.specs.RowStructs.{vectorRow, tableRow}
-use Rattle.gram_matrix.specs.declared.Work.{Work}
+use Rattle.gram_matrix.specs.declared.work.Work.{Work}
 use Rattle.gram_matrix.specs.Gram.{gramOf}
 use Rattle.gram_matrix.specs.Formed.{formed, formed-is}
 use Rattle.gram_matrix.specs.Tied.{whole, Tied, tied-diagonal, tied-length-gram, tied-square}
@@ -76,7 +76,7 @@ diagonal-is {rows} {g} t e = (λ k. entry 0 (omega (arith, e)) k ∷ entry 1 (om
     entry i h = one (nth (getD g i []) i) ∙ sym (tied-diagonal t i h)
 
 -- ---- the tables with which the engine begins
-symmetric-units : (d : ℕ) → d ≤ 4 → transposed (table 4 4 (units d)) ≡ table 4 4 (units d)
+symmetric-units : (d : ℕ) → d ≤ 4 → transposed (table mostVectors mostVectors (units d)) ≡ table mostVectors mostVectors (units d)
 unfolding transposed
 symmetric-units zero h = refl
 symmetric-units (suc zero) h = refl
@@ -100,29 +100,29 @@ beyond (suc h) (r ∷ rows) (suc j) v k = beyond h rows j v (omega arith)
 
 module _ (i : Input) (e : firstOf vectorChecks i ≡ 0) where
   abbrev b : List (List ℤ)
-  b = table 4 4 (basis i)
+  b = table mostVectors mostCoordinates (basis i)
 
   abbrev units-table : List (List ℤ)
-  units-table = table 4 4 (units (i .d))
+  units-table = table mostVectors mostVectors (units (i .d))
 
   tables : Tables b units-table units-table (first i e)
   unfolding first
-  tables = rowsOf-tables b units-table units-table (length-table 4 4 (units (i .d)) ∙ sym (length-table 4 4 (basis i))) (length-table 4 4 (units (i .d)) ∙ sym (length-table 4 4 (basis i)))
+  tables = rowsOf-tables b units-table units-table (length-table mostVectors mostVectors (units (i .d)) ∙ sym (length-table mostVectors mostCoordinates (basis i))) (length-table mostVectors mostVectors (units (i .d)) ∙ sym (length-table mostVectors mostCoordinates (basis i)))
 
   pub begun-small : (j k : ℕ) → Within 100000 (nth (getD b j []) k)
   begun-small j k = rw (tables .vectors) at (small-rows (first-fine i e) j k)
 
   abbrev ins : List (List ℤ)
-  ins = map (padded 4) (basis i)
+  ins = map (padded mostCoordinates) (basis i)
 
   ins-count : length ins ≡ i .d
   ins-count = length-map (basis i) (padded 4) ∙ bs-count i e
 
   ins-taken : take (i .d) b ≡ ins
-  ins-taken = ap (λ n. take n b) (sym (bs-count i e)) ∙ table-rows 4 4 (basis i) (omega (arith, bs-count i e, accepted i e .most))
+  ins-taken = ap (λ n. take n b) (sym (bs-count i e)) ∙ table-rows mostVectors mostCoordinates (basis i) (omega (arith, bs-count i e, accepted i e .most))
 
   gram-formed : gramOf (vectors (first i e)) ≡ formed (take (i .d) b)
-  gram-formed = ap gramOf (tables .vectors ∙ table-is 4 4 (unused i e) (basis i) (four-rows i e))
+  gram-formed = ap gramOf (tables .vectors ∙ table-is mostVectors mostCoordinates (unused i e) (basis i) (four-rows i e))
       ∙ formed-is ins (unused i e) (omega (arith, ins-count, four-rows i e, bs-count i e)) ∙ ap formed (sym ins-taken)
 
   -- they belong to the rows with which the definition begins, which may be reduced
@@ -150,28 +150,28 @@ module _ (i : Input) (e : firstOf vectorChecks i ≡ 0) where
 
   module _ (w : Work) (o : Outcome whole (i .d) 0 (first i e) w) where
     -- the vectors, which the nearest vector is searched in
-    pub vectors-given : vectorsIn (w .vectors) ≡ table 4 4 (vectors (R i e))
+    pub vectors-given : vectorsIn (w .vectors) ≡ table mostVectors mostCoordinates (vectors (R i e))
     vectors-given = sym (o .tied .vectors) ∙ ones (vectors G) ∙ last-vectors i e
 
     -- and their Gram matrix
-    taken-row : (j : ℕ) (v : Vec) → dot (getD (table 4 4 (vectors (R i e))) j []) v ≡ dot (getD (take (i .d) (table 4 4 (vectors (R i e)))) j []) v
+    taken-row : (j : ℕ) (v : Vec) → dot (getD (table mostVectors mostCoordinates (vectors (R i e))) j []) v ≡ dot (getD (take (i .d) (table mostVectors mostCoordinates (vectors (R i e)))) j []) v
     taken-row j v = pick (decLt j (i .d))
       where
-        pick : Dec (j < i .d) → dot (getD (table 4 4 (vectors (R i e))) j []) v ≡ dot (getD (take (i .d) (table 4 4 (vectors (R i e)))) j []) v
-        pick (yes h) = ap (λ u. dot u v) (sym (getD-take (i .d) (table 4 4 (vectors (R i e))) j [] h))
+        pick : Dec (j < i .d) → dot (getD (table mostVectors mostCoordinates (vectors (R i e))) j []) v ≡ dot (getD (take (i .d) (table mostVectors mostCoordinates (vectors (R i e)))) j []) v
+        pick (yes h) = ap (λ u. dot u v) (sym (getD-take (i .d) (table mostVectors mostCoordinates (vectors (R i e))) j [] h))
         pick (no h) = beyond 4 (vectors (R i e)) j v (omega (arith, outs-count i e, h))
-            ∙ sym (ap (λ u. dot u v) (List·getD-eq-default (take (i .d) (table 4 4 (vectors (R i e)))) [] (omega (arith, length-take (i .d) (table 4 4 (vectors (R i e))), h))) ∙ nil-dot v)
+            ∙ sym (ap (λ u. dot u v) (List·getD-eq-default (take (i .d) (table mostVectors mostCoordinates (vectors (R i e)))) [] (omega (arith, length-take (i .d) (table mostVectors mostCoordinates (vectors (R i e))), h))) ∙ nil-dot v)
 
     G-count : length G ≡ 4
-    G-count = sym (length-map G (λ r. r .vector)) ∙ ap length (last-vectors i e) ∙ length-table 4 4 (vectors (R i e))
+    G-count = sym (length-map G (λ r. r .vector)) ∙ ap length (last-vectors i e) ∙ length-table mostVectors mostCoordinates (vectors (R i e))
 
-    pub gram-given : GramOf (take (i .d) (table 4 4 (vectors (R i e)))) (tableIn (w .gram))
+    pub gram-given : GramOf (take (i .d) (table mostVectors mostCoordinates (vectors (R i e)))) (tableIn (w .gram))
     gram-given = record {
       gram = record {
         row = λ m. record {
           at = λ j. tied-entry (o .tied) m j ∙ ap (λ l. dot (getD l j []) (getD l m [])) (last-vectors i e)
-              ∙ taken-row j (getD (table 4 4 (vectors (R i e))) m []) ∙ dot-comm (getD (take (i .d) (table 4 4 (vectors (R i e)))) j []) (getD (table 4 4 (vectors (R i e))) m [])
-              ∙ taken-row m (getD (take (i .d) (table 4 4 (vectors (R i e)))) j []) ∙ dot-comm (getD (take (i .d) (table 4 4 (vectors (R i e)))) m []) (getD (take (i .d) (table 4 4 (vectors (R i e)))) j []);
+              ∙ taken-row j (getD (table mostVectors mostCoordinates (vectors (R i e))) m []) ∙ dot-comm (getD (take (i .d) (table mostVectors mostCoordinates (vectors (R i e)))) j []) (getD (table mostVectors mostCoordinates (vectors (R i e))) m [])
+              ∙ taken-row m (getD (take (i .d) (table mostVectors mostCoordinates (vectors (R i e)))) j []) ∙ dot-comm (getD (take (i .d) (table mostVectors mostCoordinates (vectors (R i e)))) m []) (getD (take (i .d) (table mostVectors mostCoordinates (vectors (R i e)))) j []);
         };
       };
       count = tied-length-gram (o .tied) ∙ G-count;

@@ -10,7 +10,7 @@ use Rattle.integers.specs.Order.{leZ-false, pos-nonneg}
 use Rattle.lattices.specs.Vector.{Vec, dot}
 use Rattle.lattices.specs.Volume.{isDependent}
 use Rattle.lattices.specs.Greedy.{Row, units, start}
-use Rattle.lattices.specs.Refusal.{Input, basis, firstOf, vectorChecks}
+use Rattle.lattices.specs.Refusal.{Input, basis, firstOf, vectorChecks, mostVectors, mostCoordinates}
 use Rattle.lattices.specs.Answer.{padded, table}
 use Rattle.lattices.specs.Laws.Answer.{length-vectorsOf}
 use Rattle.exterior_algebra.specs.Sizes.{Short}
@@ -42,7 +42,7 @@ table-is (suc h) w n (r ∷ rows) e = ap (λ l. padded w r ∷ l) (table-is h w 
 -- ---- the rows at the start
 -- an unused row
 abbrev pub zeroRow : Row
-zeroRow = record { vector = padded 4 []; u = padded 4 []; v = padded 4 [] }
+zeroRow = record { vector = padded mostCoordinates []; u = padded 4 []; v = padded 4 [] }
 
 rowsOf-zeros : (n : ℕ) → rowsOf (replicate n (padded 4 [])) (replicate n (padded 4 [])) (replicate n (padded 4 [])) ≡ replicate n zeroRow
 unfolding rowsOf
@@ -58,7 +58,7 @@ rowsOf-start (b ∷ bs) (c ∷ es) e = ap (λ l. record { vector = b; u = c; v =
 
 module _ (bs : List Vec) (n : ℕ) (four : length bs + n ≡ 4) where
   abbrev ins : List Vec
-  ins = map (padded 4) bs
+  ins = map (padded mostCoordinates) bs
 
   abbrev wide : List (List ℤ)
   wide = map (padded 4) (units (length bs))
@@ -70,9 +70,9 @@ module _ (bs : List Vec) (n : ℕ) (four : length bs + n ≡ 4) where
   ins-count = length-map bs (padded 4)
 
   -- the padded basis, unit tables, unused rows
-  pub begin-rows : rowsOf (table 4 4 bs) (table 4 4 (units (length bs))) (table 4 4 (units (length bs))) ≡ start ins wide ++ replicate n zeroRow
+  pub begin-rows : rowsOf (table mostVectors mostCoordinates bs) (table mostVectors mostVectors (units (length bs))) (table mostVectors mostVectors (units (length bs))) ≡ start ins wide ++ replicate n zeroRow
   begin-rows =
-      ap₂ (λ b e. rowsOf b e e) (table-is 4 4 n bs four) (table-is 4 4 n (units (length bs)) (omega (arith, length-units (length bs))))
+      ap₂ (λ b e. rowsOf b e e) (table-is mostVectors mostCoordinates n bs four) (table-is mostVectors mostCoordinates n (units (length bs)) (omega (arith, length-units (length bs))))
       ∙ rowsOf-append ins wide wide (replicate n (padded 4 [])) (replicate n (padded 4 [])) (replicate n (padded 4 [])) (wide-count ∙ sym ins-count) (wide-count ∙ sym ins-count)
       ∙ ap₂ _++_ (rowsOf-start ins wide (wide-count ∙ sym ins-count)) (rowsOf-zeros n)
 
@@ -88,12 +88,12 @@ padded-short s z n m h [] c k i = k i
 padded-short s z n m h (b ∷ bs) c k zero = subst (λ t. t ≤ℤ s) (sym (padded-N n b (omega (arith, c .0)))) (k 0)
 padded-short s z n m h (b ∷ bs) c k (suc i) = padded-short s z n m h bs (c .1) (λ i. k (suc i)) i
 
-sized-start : (bs : List Vec) (es : List (List ℤ)) → Coordinates 4 bs → Coordinates 4 es → All (Sized 4 4) (start bs es)
+sized-start : (bs : List Vec) (es : List (List ℤ)) → Coordinates 4 bs → Coordinates 4 es → All (Sized mostCoordinates mostVectors) (start bs es)
 sized-start [] es h k = tt
 sized-start (b ∷ bs) [] h k = tt
 sized-start (b ∷ bs) (e ∷ es) h k = (record { vector = h .0; u = k .0; v = k .0 }, sized-start bs es (h .1) (k .1))
 
-zeros-sized : (n : ℕ) → All (Sized 4 4) (replicate n zeroRow)
+zeros-sized : (n : ℕ) → All (Sized mostCoordinates mostVectors) (replicate n zeroRow)
 zeros-sized zero = tt
 zeros-sized (suc n) = (record { vector = refl; u = refl; v = refl }, zeros-sized n)
 
@@ -116,7 +116,7 @@ module _ (i : Input) (e : firstOf vectorChecks i ≡ 0) where
   unfolding unused
   four-rows = omega (arith, bs-count, ok .most)
 
-  padded-basis : Basis 4 (map (padded 4) (basis i))
+  padded-basis : Basis mostCoordinates (map (padded mostCoordinates) (basis i))
   unfolding isDependent
   padded-basis = record {
     full = padded-coordinates 4 (basis i);
@@ -128,23 +128,23 @@ module _ (i : Input) (e : firstOf vectorChecks i ≡ 0) where
 
   -- the rows with which the engine begins
   unfoldable pub first : List Row
-  first = rowsOf (table 4 4 (basis i)) (table 4 4 (units (i .d))) (table 4 4 (units (i .d)))
+  first = rowsOf (table mostVectors mostCoordinates (basis i)) (table mostVectors mostVectors (units (i .d))) (table mostVectors mostVectors (units (i .d)))
 
-  pub first-is : first ≡ start (map (padded 4) (basis i)) (map (padded 4) (units (length (basis i)))) ++ replicate unused zeroRow
+  pub first-is : first ≡ start (map (padded mostCoordinates) (basis i)) (map (padded 4) (units (length (basis i)))) ++ replicate unused zeroRow
   unfolding first
-  first-is = ap (λ d. rowsOf (table 4 4 (basis i)) (table 4 4 (units d)) (table 4 4 (units d))) (sym bs-count) ∙ begin-rows (basis i) unused four-rows
+  first-is = ap (λ d. rowsOf (table mostVectors mostCoordinates (basis i)) (table mostVectors mostVectors (units d)) (table mostVectors mostVectors (units d))) (sym bs-count) ∙ begin-rows (basis i) unused four-rows
 
   pub first-fine : Fine whole (i .d) first
   unfolding vector-limits
   first-fine = record {
-    first = first-rows 4 (map (padded 4) (basis i));
-    limits = vector-limits 4 (map (padded 4) (basis i)) padded-basis (padded-basis .four);
-    active = start (map (padded 4) (basis i)) (map (padded 4) (units (length (basis i))));
-    moved = subst (λ l. Moves l (start (map (padded 4) (basis i)) (map (padded 4) (units (length (basis i)))))) (begin-first (basis i) unused four-rows) (none (start (map (padded 4) (basis i)) (map (padded 4) (units (length (basis i))))));
+    first = first-rows mostVectors (map (padded mostCoordinates) (basis i));
+    limits = vector-limits mostCoordinates (map (padded mostCoordinates) (basis i)) padded-basis (padded-basis .four);
+    active = start (map (padded mostCoordinates) (basis i)) (map (padded 4) (units (length (basis i))));
+    moved = subst (λ l. Moves l (start (map (padded mostCoordinates) (basis i)) (map (padded 4) (units (length (basis i)))))) (begin-first (basis i) unused four-rows) (none (start (map (padded mostCoordinates) (basis i)) (map (padded 4) (units (length (basis i))))));
     unused = replicate unused zeroRow;
     is = first-is;
     short = zeros-short unused;
-    sized = subst (All (Sized 4 4)) (sym first-is) (all-append (Sized 4 4) (start (map (padded 4) (basis i)) (map (padded 4) (units (length (basis i))))) (replicate unused zeroRow)
-        (sized-start (map (padded 4) (basis i)) (map (padded 4) (units (length (basis i)))) (padded-coordinates 4 (basis i)) (padded-coordinates 4 (units (length (basis i))))) (zeros-sized unused));
-    count = omega (arith, length-start (map (padded 4) (basis i)) (map (padded 4) (units (length (basis i)))) (wide-count (basis i) unused four-rows ∙ sym (ins-count (basis i) unused four-rows)), ins-count (basis i) unused four-rows, bs-count);
+    sized = subst (All (Sized mostCoordinates mostVectors)) (sym first-is) (all-append (Sized mostCoordinates mostVectors) (start (map (padded mostCoordinates) (basis i)) (map (padded 4) (units (length (basis i))))) (replicate unused zeroRow)
+        (sized-start (map (padded mostCoordinates) (basis i)) (map (padded 4) (units (length (basis i)))) (padded-coordinates 4 (basis i)) (padded-coordinates 4 (units (length (basis i))))) (zeros-sized unused));
+    count = omega (arith, length-start (map (padded mostCoordinates) (basis i)) (map (padded 4) (units (length (basis i)))) (wide-count (basis i) unused four-rows ∙ sym (ins-count (basis i) unused four-rows)), ins-count (basis i) unused four-rows, bs-count);
   }

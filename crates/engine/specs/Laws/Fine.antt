@@ -10,6 +10,7 @@ use lib.ListN.{length, take, drop, length-append, length-drop, take-append-drop}
 use lib.Seq.{take-append-le, drop-append-le, length-take-le}
 use Rattle.lattices.specs.Vector.{N}
 use Rattle.lattices.specs.Volume.{squaredVolume}
+use Rattle.lattices.specs.Refusal.{mostVectors}
 use Rattle.lattices.specs.Greedy.{Row, vectors, order, greedy}
 use Rattle.successive_minima.specs.Reduced.{Reduced}
 use Rattle.greedy_reduction.specs.Moves.{Moves, after, exchange, order-perm, moves-append, moves-length, greedy-moves, vectors-append}
@@ -33,7 +34,7 @@ pub record Fine (K : Kind) (n : ℕ) (rows : List Row) : Type 0 where
   pub unused : List Row
   pub is : rows ≡ active ++ unused
   pub short : NoLonger (longest K) unused
-  pub sized : All (Sized (limits .width) 4) rows
+  pub sized : All (Sized (limits .width) mostVectors) rows
   pub count : n ≤ length active
 
 module _ {K : Kind} {n : ℕ} {rows : List Row} (f : Fine K n rows) where
@@ -74,12 +75,12 @@ module _ {K : Kind} {n : ℕ} {rows : List Row} (f : Fine K n rows) where
     unused = f .unused;
     is = ap (λ l. to ++ l) (fine-drop k h) ∙ sym (append-assoc to (drop k (f .active)) (f .unused));
     short = f .short;
-    sized = all-append (Sized w 4) to (drop k rows) (moves-sized w 4 m (all-left (Sized w 4) (take k rows) (drop k rows) whole-rows)) (all-right (Sized w 4) (take k rows) (drop k rows) whole-rows);
+    sized = all-append (Sized w mostVectors) to (drop k rows) (moves-sized w mostVectors m (all-left (Sized w mostVectors) (take k rows) (drop k rows) whole-rows)) (all-right (Sized w mostVectors) (take k rows) (drop k rows) whole-rows);
     count = omega (arith, length-append to (drop k (f .active)), moves-length m, fine-count k h, length-drop k (f .active), f .count);
   }
     where
-      whole-rows : All (Sized w 4) (take k rows ++ drop k rows)
-      whole-rows = subst (All (Sized w 4)) (sym (take-append-drop k rows)) (f .sized)
+      whole-rows : All (Sized w mostVectors) (take k rows ++ drop k rows)
+      whole-rows = subst (All (Sized w mostVectors)) (sym (take-append-drop k rows)) (f .sized)
 
 pub fine-fewer : {K : Kind} {n k : ℕ} {rows : List Row} → k ≤ n → Fine K n rows → Fine K k rows
 fine-fewer h f = record {

@@ -10,7 +10,7 @@ use Rattle.integers.specs.ListLaws.{same}
 use Rattle.lattices.specs.Vector.{Vec, N, nth}
 use Rattle.lattices.specs.Laws.Vector.{nil-dot}
 use Rattle.lattices.specs.Greedy.{Row, vectors, units, start, greedy, reduction}
-use Rattle.lattices.specs.Refusal.{Input, basis, firstOf, vectorChecks}
+use Rattle.lattices.specs.Refusal.{Input, basis, firstOf, vectorChecks, mostVectors, mostCoordinates}
 use Rattle.lattices.specs.Answer.{padded, table, rowOfV, rowsOfV}
 use Rattle.lattices.specs.Laws.Answer.{length-padded, nth-padded, table-rows}
 use Rattle.integers.specs.All.{All}
@@ -27,7 +27,7 @@ use Rattle.engine.specs.Laws.Fine.{fine-reduced}
 use Rattle.engine.specs.Laws.Begin.{table-is, zeroRow, length-start, first, first-is, first-fine, unused, four-rows, bs-count, wide-count, ins-count}
 
 -- padded rows begin as the padded start
-pad-start : (m d : ℕ) (a : m ≤ 4) (b : d ≤ 4) (bs : List Vec) (es : List (List ℤ)) → map (pad 4 4 m d a b) (start bs es) ≡ start (map (padded 4) bs) (map (padded 4) es)
+pad-start : (m d : ℕ) (a : m ≤ 4) (b : d ≤ 4) (bs : List Vec) (es : List (List ℤ)) → map (pad 4 4 m d a b) (start bs es) ≡ start (map (padded mostCoordinates) bs) (map (padded 4) es)
 unfolding pad
 pad-start m d a b [] es = refl
 pad-start m d a b (c ∷ bs) [] = refl
@@ -65,7 +65,7 @@ module _ (i : Input) (e : firstOf vectorChecks i ≡ 0) where
   high = omega (arith, bs-count i e, accept .most)
 
   abbrev pub widen : Row → Row
-  widen = pad 4 4 (i .m) (length (basis i)) (accept .few) high
+  widen = pad mostCoordinates mostVectors (i .m) (length (basis i)) (accept .few) high
 
   abbrev pub R : List Row
   R = reduction (basis i) .rows
@@ -80,14 +80,14 @@ module _ (i : Input) (e : firstOf vectorChecks i ≡ 0) where
   pub outs-full : Coordinates (i .m) (vectors R)
   outs-full = sized-vectors (i .m) (length (basis i)) R (reduction-sized (i .m) (basis i) (accept .full) some)
 
-  pub outs-rows : take (i .d) (table 4 4 (vectors R)) ≡ map (padded 4) (vectors R)
-  outs-rows = ap (λ n. take n (table 4 4 (vectors R))) (sym outs-count) ∙ table-rows 4 4 (vectors R) (omega (arith, outs-count, accept .most))
+  pub outs-rows : take (i .d) (table mostVectors mostCoordinates (vectors R)) ≡ map (padded mostCoordinates) (vectors R)
+  outs-rows = ap (λ n. take n (table mostVectors mostCoordinates (vectors R))) (sym outs-count) ∙ table-rows mostVectors mostCoordinates (vectors R) (omega (arith, outs-count, accept .most))
 
   abbrev start-rows : List Row
-  start-rows = start (map (padded 4) (basis i)) (map (padded 4) (units (length (basis i))))
+  start-rows = start (map (padded mostCoordinates) (basis i)) (map (padded 4) (units (length (basis i))))
 
   start-count : length start-rows ≡ i .d
-  start-count = length-start (map (padded 4) (basis i)) (map (padded 4) (units (length (basis i)))) (wide-count (basis i) (unused i e) (four-rows i e) ∙ sym (ins-count (basis i) (unused i e) (four-rows i e)))
+  start-count = length-start (map (padded mostCoordinates) (basis i)) (map (padded 4) (units (length (basis i)))) (wide-count (basis i) (unused i e) (four-rows i e) ∙ sym (ins-count (basis i) (unused i e) (four-rows i e)))
       ∙ ins-count (basis i) (unused i e) (four-rows i e) ∙ bs-count i e
 
   first-taken : take (i .d) (first i e) ≡ map widen (start (basis i) (units (length (basis i))))
@@ -97,9 +97,9 @@ module _ (i : Input) (e : firstOf vectorChecks i ≡ 0) where
   first-dropped : drop (i .d) (first i e) ≡ replicate (unused i e) zeroRow
   first-dropped = ap (drop (i .d)) (first-is i e) ∙ ap (λ n. drop n (start-rows ++ replicate (unused i e) zeroRow)) (sym start-count) ∙ drop-append-seam start-rows (replicate (unused i e) zeroRow)
 
-  greedy-first : greedy (i .d) (take (i .d) (first i e)) ≡ pad-counted 4 4 (i .m) (length (basis i)) (accept .few) high (reduction (basis i))
+  greedy-first : greedy (i .d) (take (i .d) (first i e)) ≡ pad-counted mostCoordinates mostVectors (i .m) (length (basis i)) (accept .few) high (reduction (basis i))
   greedy-first = ap₂ greedy (sym (bs-count i e)) first-taken
-      ∙ greedy-padded 4 4 (i .m) (length (basis i)) (accept .few) high (length (basis i)) (start (basis i) (units (length (basis i))))
+      ∙ greedy-padded mostCoordinates mostVectors (i .m) (length (basis i)) (accept .few) high (length (basis i)) (start (basis i) (units (length (basis i))))
       (length-start (basis i) (units (length (basis i))) (length-units (length (basis i)))) (sized-start (i .m) (basis i) (accept .full))
 
   -- the rows after the greedy steps, and their passes
@@ -112,11 +112,11 @@ module _ (i : Input) (e : firstOf vectorChecks i ≡ 0) where
   last-passes = ap (λ c. c .passes) greedy-first
 
   -- the vectors given are reduced, padded as they are in the work
-  pub last-reduced : Reduced (map (padded 4) (vectors R))
+  pub last-reduced : Reduced (map (padded mostCoordinates) (vectors R))
   unfolding pad-counted pad
   last-reduced = subst Reduced (ap (λ c. vectors (c .rows)) greedy-first ∙ padded-vectors R) (fine-reduced (accept .most) (first-fine i e))
     where
-      padded-vectors : (l : List Row) → vectors (map widen l) ≡ map (padded 4) (vectors l)
+      padded-vectors : (l : List Row) → vectors (map widen l) ≡ map (padded mostCoordinates) (vectors l)
       padded-vectors [] = refl
       padded-vectors (r ∷ l) = ap (λ t. padded 4 (r .vector) ∷ t) (padded-vectors l)
 
@@ -128,25 +128,25 @@ module _ (i : Input) (e : firstOf vectorChecks i ≡ 0) where
   full = omega (arith, R-count, four-rows i e, bs-count i e)
 
   -- a table of the rows: the vectors, U, the columns of V
-  table-of : (f : Row → List ℤ) → ((r : Row) → f (widen r) ≡ padded 4 (f r)) → f zeroRow ≡ padded 4 [] → map f (map widen R ++ replicate (unused i e) zeroRow) ≡ table 4 4 (map f R)
+  table-of : (f : Row → List ℤ) → ((r : Row) → f (widen r) ≡ padded 4 (f r)) → f zeroRow ≡ padded 4 [] → map f (map widen R ++ replicate (unused i e) zeroRow) ≡ table mostVectors mostVectors (map f R)
   unfolding n
   table-of f p z =
       map-append f (map widen R) (replicate n zeroRow) ∙ ap₂ _++_ (both R) (map-replicate f n zeroRow ∙ ap (replicate n) z)
-      ∙ sym (table-is 4 4 n (map f R) (omega (arith, length-map R f, full)))
+      ∙ sym (table-is mostVectors mostCoordinates n (map f R) (omega (arith, length-map R f, full)))
     where
       both : (l : List Row) → map f (map widen l) ≡ map (padded 4) (map f l)
       both [] = refl
       both (r ∷ l) = ap₂ _∷_ (p r) (both l)
 
-  pub last-vectors : map (λ r. r .vector) (greedyRows (i .d) (first i e)) ≡ table 4 4 (vectors R)
+  pub last-vectors : map (λ r. r .vector) (greedyRows (i .d) (first i e)) ≡ table mostVectors mostCoordinates (vectors R)
   unfolding pad
   last-vectors = ap (map (λ r. r .vector)) last-rows ∙ table-of (λ r. r .vector) (λ r. refl) refl
 
-  pub last-u : map (λ r. r .u) (greedyRows (i .d) (first i e)) ≡ table 4 4 (map (λ r. r .u) R)
+  pub last-u : map (λ r. r .u) (greedyRows (i .d) (first i e)) ≡ table mostVectors mostVectors (map (λ r. r .u) R)
   unfolding pad
   last-u = ap (map (λ r. r .u)) last-rows ∙ table-of (λ r. r .u) (λ r. refl) refl
 
-  columns : map (λ r. r .v) (greedyRows (i .d) (first i e)) ≡ table 4 4 (map (λ r. r .v) R)
+  columns : map (λ r. r .v) (greedyRows (i .d) (first i e)) ≡ table mostVectors mostVectors (map (λ r. r .v) R)
   unfolding pad
   columns = ap (map (λ r. r .v)) last-rows ∙ table-of (λ r. r .v) (λ r. refl) refl
 
@@ -154,9 +154,9 @@ module _ (i : Input) (e : firstOf vectorChecks i ≡ 0) where
   sized = reduction-sized (i .m) (basis i) (accept .full) some
 
   -- row j of the columns is row j of V
-  row-of : (j : ℕ) → map (λ r. nth r j) (table 4 4 (map (λ r. r .v) R)) ≡ padded 4 (rowOfV R j)
+  row-of : (j : ℕ) → map (λ r. nth r j) (table mostVectors mostVectors (map (λ r. r .v) R)) ≡ padded 4 (rowOfV R j)
   row-of j =
-      ap (map (λ r. nth r j)) (table-is 4 4 n (map (λ r. r .v) R) (omega (arith, length-map R (λ r. r .v), full)))
+      ap (map (λ r. nth r j)) (table-is mostVectors mostCoordinates n (map (λ r. r .v) R) (omega (arith, length-map R (λ r. r .v), full)))
       ∙ map-append (λ r. nth r j) (map (padded 4) (map (λ r. r .v) R)) (replicate n (padded 4 []))
       ∙ ap₂ _++_ (entries R sized) (map-replicate (λ r. nth r j) n (padded 4 []) ∙ ap (replicate n) (nth-padded 4 [] (omega arith) j))
       ∙ padded-append 4 n (rowOfV R j) (omega (arith, length-map R (λ r. nth (r .v) j), full))
@@ -175,18 +175,18 @@ module _ (i : Input) (e : firstOf vectorChecks i ≡ 0) where
       (λ k. nth-padded 4 (rowOfV R j) (omega (arith, length-map R (λ r. nth (r .v) j), R-count, bs-count i e, high)) k
       ∙ zero-entries j (omega (arith, R-count, bs-count i e)) R sized k ∙ sym (nth-padded 4 [] (omega arith) k))
 
-  pub last-v : transposed (map (λ r. r .v) (greedyRows (i .d) (first i e))) ≡ table 4 4 (rowsOfV R 0 (length R))
+  pub last-v : transposed (map (λ r. r .v) (greedyRows (i .d) (first i e))) ≡ table mostVectors mostVectors (rowsOfV R 0 (length R))
   unfolding transposed from
   last-v = ap transposed columns ∙ (λ k. row-of 0 k ∷ row-of 1 k ∷ row-of 2 k ∷ row-of 3 k ∷ [])
       ∙ sym (table-from R 4 0 (length R) (omega (arith, R-count, bs-count i e, high)) zero-row)
 
   pub last-squares : map N (map (λ r. r .vector) (greedyRows (i .d) (first i e))) ≡ padded 4 (map (λ r. N (r .vector)) R)
   last-squares =
-      ap (map N) (last-vectors ∙ table-is 4 4 n (vectors R) (omega (arith, length-map R (λ r. r .vector), full)))
-      ∙ map-append N (map (padded 4) (vectors R)) (replicate n (padded 4 []))
+      ap (map N) (last-vectors ∙ table-is mostVectors mostCoordinates n (vectors R) (omega (arith, length-map R (λ r. r .vector), full)))
+      ∙ map-append N (map (padded mostCoordinates) (vectors R)) (replicate n (padded 4 []))
       ∙ ap₂ _++_ (squares R sized) (map-replicate N n (padded 4 []) ∙ ap (replicate n) (padded-N 4 [] (omega arith) ∙ nil-dot []))
       ∙ padded-append 4 n (map (λ r. N (r .vector)) R) (omega (arith, length-map R (λ r. N (r .vector)), full))
     where
-      squares : (l : List Row) → All (Sized (i .m) (length (basis i))) l → map N (map (padded 4) (vectors l)) ≡ map (λ r. N (r .vector)) l
+      squares : (l : List Row) → All (Sized (i .m) (length (basis i))) l → map N (map (padded mostCoordinates) (vectors l)) ≡ map (λ r. N (r .vector)) l
       squares [] s = refl
       squares (r ∷ l) s = ap₂ _∷_ (padded-N 4 (r .vector) (omega (arith, s .0 .vector, accept .few))) (squares l (s .1))

@@ -17,6 +17,7 @@ use Rattle.integers.specs.Size.{load}
 use Rattle.lattices.specs.Vector.{Vec, N, nth, dot, comb, _⊖_}
 use Rattle.lattices.specs.Laws.Vector.{against, dot-comm, nil-dot}
 use Rattle.lattices.specs.Nearest.{nearest}
+use Rattle.lattices.specs.Refusal.{mostVectors}
 use Rattle.lattices.specs.Greedy.{Row, vectors}
 use Rattle.lattices.specs.Volume.{squaredVolume}
 use Rattle.exterior_algebra.specs.Sizes.{near-le}
@@ -94,13 +95,13 @@ module _ (front : List Row) (r : Row) (few : length front ≤ 3) (red : Reduced 
   pub left-terms : (j : ℕ) → natAbs (nth x j *ℤ dot (getD (vectors front) j []) (r .vector ⊖ comb x (vectors front))) ≤ 1 * 20800000000
   left-terms j = omega (arith, term (r .vector ⊖ comb x (vectors front)) (≤ℤ-trans (nearest-shorter (vectors front) (r .vector)) short) j)
 
-unfoldable pub vector-limits : (w : ℕ) (ins : List Vec) → Basis w ins → length ins ≤ 4 → Limits whole (first-rows 4 ins)
+unfoldable pub vector-limits : (w : ℕ) (ins : List Vec) → Basis w ins → length ins ≤ mostVectors → Limits whole (first-rows mostVectors ins)
 vector-limits w ins B four = record {
   width = w;
-  volume = way-volume w 4 ins B four (first-rows 4 ins) (none (first-rows 4 ins));
-  short = way-short w 4 ins B four (first-rows 4 ins) (none (first-rows 4 ins));
-  on-vectors = λ e front r rest m few red j. omega (arith, vector-room w 4 ins B four front r rest m few red j);
-  on-u = λ front r rest m few red j. omega (arith, u-room w 4 ins B four front r rest m few red j);
-  on-v = λ front r rest m few red i j h. omega (arith, v-room w 4 ins B four front r rest m few red i j h);
-  on-gram = λ front r rest m few red j. left-terms front r few red (all-right (λ r. N (r .vector) ≤ℤ pos 400000000) front (r ∷ rest) (way-short w 4 ins B four (front ++ (r ∷ rest)) m) .0) j;
+  volume = way-volume w mostVectors ins B four (first-rows mostVectors ins) (none (first-rows mostVectors ins));
+  short = way-short w mostVectors ins B four (first-rows mostVectors ins) (none (first-rows mostVectors ins));
+  on-vectors = λ e front r rest m few red j. omega (arith, vector-room w mostVectors ins B four front r rest m few red j);
+  on-u = λ front r rest m few red j. omega (arith, u-room w mostVectors ins B four front r rest m few red j);
+  on-v = λ front r rest m few red i j h. omega (arith, v-room w mostVectors ins B four front r rest m few red i j h);
+  on-gram = λ front r rest m few red j. left-terms front r few red (all-right (λ r. N (r .vector) ≤ℤ pos 400000000) front (r ∷ rest) (way-short w mostVectors ins B four (front ++ (r ∷ rest)) m) .0) j;
 }

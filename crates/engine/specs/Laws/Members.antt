@@ -2,14 +2,14 @@
 use mathlib.Core.Path.{_≡_, refl, sym, ap, _∙_, subst}
 use mathlib.Core.Logic.{_≢_}
 use mathlib.Core.Bool.{Bool, false}
-use mathlib.Core.List.{List, [], _++_, map}
+use mathlib.Core.List.{_++_}
 use Prim.Native.Nat.{ℕ, zero, suc, _≤_}
 use native.Mathlib.Omega.{arith}
 use lib.IntN.{pos}
 use lib.Signed.{_≤ℤ_, leZ}
 use lib.ListN.{length, take, drop}
 use lib.Seq.{take-all}
-use Rattle.lattices.specs.Vector.{Vec, N}
+use Rattle.lattices.specs.Vector.{N}
 use Rattle.lattices.specs.Greedy.{vectors, reduction}
 use Rattle.lattices.specs.Refusal.{Input, basis, firstOf, vectorChecks, targetChecks, mostCoordinates}
 use Rattle.lattices.specs.Answer as Definition

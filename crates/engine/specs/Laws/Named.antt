@@ -15,7 +15,7 @@ use Rattle.lattices.specs.Vector.{Vec, N, nth, dot, comb, distance, _⊖_, _⊙
 use Rattle.lattices.specs.Laws.Vector.{dot-⊕, dot-⊙, _≈_, ≈-sym, ≈-trans, ≈-N, ≈-≡}
 use Rattle.lattices.specs.Nearest.{nearest}
 use Rattle.lattices.specs.Greedy.{vectors, reduction}
-use Rattle.lattices.specs.Refusal.{Input, basis, firstOf, vectorChecks, targetChecks}
+use Rattle.lattices.specs.Refusal.{Input, basis, firstOf, vectorChecks, targetChecks, mostVectors, mostCoordinates}
 use Rattle.lattices.specs.Answer as Definition
 use Rattle.lattices.specs.Answer.{padded, table, noNearest, nearestGiven, nearestOf, noReduction, reductionGiven, reductionOf}
 use Rattle.lattices.specs.Laws.Answer.{length-padded, padded-≈}
@@ -73,10 +73,10 @@ module _ (i : Input) (e : firstOf vectorChecks i ≡ 0) (f : firstOf targetCheck
   bs = vectors (R i e)
 
   abbrev pub array : List Vec
-  array = table 4 4 bs
+  array = table mostVectors mostCoordinates bs
 
   abbrev pub target : Vec
-  target = padded 4 (i .target)
+  target = padded mostCoordinates (i .target)
 
   t-count : length (i .target) ≡ i .m
   t-count = targeted i f .count
@@ -104,17 +104,17 @@ module _ (i : Input) (e : firstOf vectorChecks i ≡ 0) (f : firstOf targetCheck
 
   module _ (y rest : List ℤ) (places : length rest ≡ 4) (list : y ≡ padded 4 (nearest (take (i .d) array) target))
       (left : rest ≈ target ⊖ comb (nearest (take (i .d) array) target) (take (i .d) array)) where
-    left-is : rest ≈ target ⊖ comb x (map (padded 4) bs)
-    left-is = subst (λ z. rest ≈ target ⊖ comb z (map (padded 4) bs)) nearest-is (subst (λ l. rest ≈ target ⊖ comb (nearest (take (i .d) array) target) l) (outs-rows i e) left)
+    left-is : rest ≈ target ⊖ comb x (map (padded mostCoordinates) bs)
+    left-is = subst (λ z. rest ≈ target ⊖ comb z (map (padded mostCoordinates) bs)) nearest-is (subst (λ l. rest ≈ target ⊖ comb (nearest (take (i .d) array) target) l) (outs-rows i e) left)
 
     combination-few : length (comb x bs) ≤ 4
     unfolding x
     combination-few = omega (arith, comb-full (i .m) x bs (outs-full i e) (nearest-count bs (i .target)) (omega (arith, outs-count i e, accept i e .some)), accept i e .few)
 
-    vector-is : target ⊖ pos 1 ⊙ rest ≡ padded 4 (comb x bs)
-    vector-is = ≈-≡ (target ⊖ pos 1 ⊙ rest) (padded 4 (comb x bs))
-        (length-⊕ target (negsuc 0 ⊙ pos 1 ⊙ rest) ∙ omega (arith, length-padded 4 (i .target), length-⊙ (negsuc 0) (pos 1 ⊙ rest), length-⊙ (pos 1) rest, places, length-padded 4 (comb x bs)))
-        (≈-trans (left-of-left target (comb x (map (padded 4) bs)) rest left-is)
+    vector-is : target ⊖ pos 1 ⊙ rest ≡ padded mostCoordinates (comb x bs)
+    vector-is = ≈-≡ (target ⊖ pos 1 ⊙ rest) (padded mostCoordinates (comb x bs))
+        (length-⊕ target (negsuc 0 ⊙ pos 1 ⊙ rest) ∙ omega (arith, length-padded mostCoordinates (i .target), length-⊙ (negsuc 0) (pos 1 ⊙ rest), length-⊙ (pos 1) rest, places, length-padded mostCoordinates (comb x bs)))
+        (≈-trans (left-of-left target (comb x (map (padded mostCoordinates) bs)) rest left-is)
         (≈-trans (comb-padded 4 (i .m) (accept i e .few) x bs (outs-full i e)) (≈-sym (padded-≈ 4 (comb x bs) combination-few))))
 
     square-is : dot rest rest ≡ distance (i .target) (comb x bs)

@@ -34,7 +34,3 @@ product-size A y u v h k = root (y *ℤ dot u v) (pos (A * 400000000))
   where
     regroup : (A : ℕ) → 400000000 * (A * A * 400000000) ≡ A * 400000000 * (A * 400000000)
     regroup A = omega arith
-
--- vectors within the limit have inner products within it
-pub product-within : (u v : Vec) → N u ≤ℤ pos 400000000 → N v ≤ℤ pos 400000000 → natAbs (dot u v) ≤ 400000000
-product-within u v h k = root (dot u v) (pos 400000000) (≤ℤ-trans (schwarz u v) (*ℤ-mono-both (N-nonneg u) (nn-pos 400000000) h k))

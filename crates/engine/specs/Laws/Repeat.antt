@@ -15,7 +15,7 @@ use Rattle.lattices.specs.Vector.{N, nth}
 use Rattle.lattices.specs.Greedy.{Row, shorter, total, greedyBy}
 use Rattle.gram_matrix.specs.Tied.{Kind, Tied, tied-diagonal, tied-length, tied-shorter, shorterIn}
 use Rattle.gram_matrix.specs.Work.{workOf, vectorsIn, tableIn, vectors-back, table-back}
-use Rattle.gram_matrix.specs.declared.Work.{Work}
+use Rattle.gram_matrix.specs.declared.work.Work.{Work}
 use Rattle.engine.specs.Laws.State.{blank, orderRows, passRows, greedyRows, greedyPasses}
 use Rattle.engine.specs.Laws.Fine.{Fine, fine-fewer, fine-order}
 use Rattle.engine.specs.Laws.Room.{PassReady}

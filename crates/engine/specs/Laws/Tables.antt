@@ -14,6 +14,7 @@ use Rattle.integers.specs.Size.{Within, load}
 use Rattle.integers.specs.ListLaws.{nth-⊙, length-⊙}
 use Rattle.lattices.specs.Vector.{Vec, nth, dot, comb, _⊙_, _⊖_}
 use Rattle.lattices.specs.Nearest.{nearest}
+use Rattle.lattices.specs.Refusal.{mostVectors}
 use Rattle.lattices.specs.Greedy as Greedy
 use Rattle.lattices.specs.Greedy.{Row}
 use Rattle.lattices.specs.Answer.{padded}
@@ -142,16 +143,16 @@ module _ {K : Kind} {k : ℕ} {g b u v : List (List ℤ)} {rows : List Row} (t :
   vectors-lose = rw (sym (t .vectors)) (record {
     width = r .fine .limits .width;
     four = length-map (Greedy.vectors rows) _ ∙ length-map rows (λ s. s .vector) ∙ rows-four;
-    wide = scaled-wide (bit (K .vectors)) (r .fine .limits .width) (Greedy.vectors rows) (sized-vectors (r .fine .limits .width) 4 rows (r .fine .sized));
+    wide = scaled-wide (bit (K .vectors)) (r .fine .limits .width) (Greedy.vectors rows) (sized-vectors (r .fine .limits .width) mostVectors rows (r .fine .sized));
     fits = vectors-fit (K .vectors) refl;
   })
 
   pub us-lose : Loses k x u
   unfolding Room.x
   us-lose = rw (sym (t .us)) (record {
-    width = 4;
+    width = mostVectors;
     four = length-map rows (λ s. s .u) ∙ rows-four;
-    wide = sized-us (r .fine .limits .width) 4 rows (r .fine .sized);
+    wide = sized-us (r .fine .limits .width) mostVectors rows (r .fine .sized);
     fits = Room.u-table-room k rows (r .fine) three (r .reduced);
   })
 

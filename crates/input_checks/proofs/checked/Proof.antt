@@ -33,11 +33,11 @@ counted c = ap not (sym (c .before .one-to .ensures)) ∙ c .if1 .left
 wide : (c : tie.Else2) → not (oneTo mostCoordinates (c .before .before .before .before .args .m)) ≡ false
 wide c = ap not (sym (c .before .one-to2 .ensures)) ∙ c .if2 .left
 
-few : (c : tie.Else2) → c .before .before .before .before .args .d ≤ 4
-few c = one-to 4 _ (not-false _ (counted (c .before .before))) .1
+few : (c : tie.Else2) → c .before .before .before .before .args .d ≤ mostVectors
+few c = one-to mostVectors _ (not-false _ (counted (c .before .before))) .1
 
-narrow : (c : tie.Else2) → c .before .before .before .before .args .m ≤ 4
-narrow c = one-to 4 _ (not-false _ (wide c)) .1
+narrow : (c : tie.Else2) → c .before .before .before .before .args .m ≤ mostCoordinates
+narrow c = one-to mostCoordinates _ (not-false _ (wide c)) .1
 
 full : (c : tie.Else3) {n : ℕ} → First (given (c .before .before .before .before .before)) (drop 3 vectorChecks) n → First (given (c .before .before .before .before .before)) vectorChecks n
 full c p = later (counted (c .before .before .before)) (later (wide (c .before)) (later (ap not (eq-eqb _ _ (c .if3 .left))) p))

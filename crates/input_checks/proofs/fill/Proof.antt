@@ -4,14 +4,14 @@ use Prim.Native.Nat.{_≤_, _-_, _*_, _+_}
 use native.Mathlib.Nat.{mul-le-mul-right}
 use native.Mathlib.Omega.{arith}
 use borrow.Author.Needs.{needs}
-use Rattle.lattices.specs.Refusal.{vectorsOf}
+use Rattle.lattices.specs.Refusal.{vectorsOf, mostVectors, mostCoordinates}
 use Rattle.lattices.specs.Answer.{table}
 use Rattle.input_checks.specs.Padded.{table-more}
 use Rattle.input_checks.proofs.fill.Statement.{statement}
 use Rattle.input_checks.proofs.fill.Tie as tie
 
 abbrev Inv-loop : tie.InvT-loop
-Inv-loop numbers d m b₀ i₀ b i = (i ≤ d) × (b ≡ table 4 4 (vectorsOf i m numbers))
+Inv-loop numbers d m b₀ i₀ b i = (i ≤ d) × (b ≡ table mostVectors mostCoordinates (vectorsOf i m numbers))
 
 abbrev μ-loop : tie.MeasureT-loop
 μ-loop numbers d m b₀ i₀ b i = d - i
@@ -51,7 +51,7 @@ returns : tie.Need-returns Inv-loop μ-loop
 returns c =
     let a = c .before .before .args in
     let end : c .before .loop .i ≡ a .d = omega arith in
-    c .before .loop .inv .1 ∙ ap (λ i. table 4 4 (vectorsOf i (a .m) (a .numbers .now))) end
+    c .before .loop .inv .1 ∙ ap (λ i. table mostVectors mostCoordinates (vectorsOf i (a .m) (a .numbers .now))) end
 
 pub fill-spec : {M : Type 1} → statement M
 fill-spec =

@@ -7,12 +7,13 @@ use mir.Syntax.{w64}
 use mir.Facts.{toZ-ofZ}
 use borrow.Author.Needs.{needs}
 use Rattle.lattices.specs.Answer.{padded}
+use Rattle.lattices.specs.Refusal.{mostCoordinates}
 use Rattle.input_checks.specs.Padded.{padded-more}
 use Rattle.input_checks.proofs.vector.Statement.{statement}
 use Rattle.input_checks.proofs.vector.Tie as tie
 
 abbrev Inv-loop : tie.InvT-loop
-Inv-loop numbers at m v₀ j₀ v j = (j ≤ m) × (v ≡ padded 4 (take j (drop at numbers)))
+Inv-loop numbers at m v₀ j₀ v j = (j ≤ m) × (v ≡ padded mostCoordinates (take j (drop at numbers)))
 
 abbrev μ-loop : tie.MeasureT-loop
 μ-loop numbers at m v₀ j₀ v j = m - j
@@ -45,13 +46,13 @@ loop-again : tie.Need-loop-again Inv-loop μ-loop
 loop-again c =
     let a = c .before .before .before .args in
     let l = c .before .before .loop in
-    (search needs, padded-more 4 (a .at) (l .j) (a .numbers .now) (omega arith) (omega arith) (l .inv .1) (toZ-ofZ {w = w64} (record { sfits = c .v .given })))
+    (search needs, padded-more mostCoordinates (a .at) (l .j) (a .numbers .now) (omega arith) (omega arith) (l .inv .1) (toZ-ofZ {w = w64} (record { sfits = c .v .given })))
 
 returns : tie.Need-returns Inv-loop μ-loop
 returns c =
     let a = c .before .before .args in
     let end : c .before .loop .j ≡ a .m = omega arith in
-    c .before .loop .inv .1 ∙ ap (λ j. padded 4 (take j (drop (a .at) (a .numbers .now)))) end
+    c .before .loop .inv .1 ∙ ap (λ j. padded mostCoordinates (take j (drop (a .at) (a .numbers .now)))) end
 
 pub vector-spec : {M : Type 1} → statement M
 vector-spec =

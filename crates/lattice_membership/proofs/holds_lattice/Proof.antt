@@ -1,5 +1,5 @@
 -- The array holds the vectors of the other lattice.
-use mathlib.Core.Path.{_≡_, sym, ap, _∙_, subst}
+use mathlib.Core.Path.{sym, ap, _∙_, subst}
 use mathlib.Core.List.{[]}
 use lib.IntN.{pos}
 use lib.ListN.{getD, take}

@@ -1,6 +1,6 @@
 -- The array holds the vectors, filled up with zeros.
-use mathlib.Core.Path.{_≡_, ap, _∙_}
-use lib.ListN.{length, take}
+use mathlib.Core.Path.{ap, _∙_}
+use lib.ListN.{take}
 use denote.Ref.{now}
 use Rattle.integers.specs.Every.{every}
 use Rattle.lattices.specs.Refusal.{vectorsOf}

@@ -9,7 +9,8 @@ use mir.Syntax.{w64}
 use mir.Facts.{toZ-ofZ}
 use Rattle.lattices.specs.Vector.{nth}
 use Rattle.integers.specs.Every.{any}
-use Rattle.input_checks.specs.Volumes.{nonzero, is-nonzero}
+use Rattle.lattice_membership.specs.Nonzero.{nonzero}
+use Rattle.lattice_membership.specs.Laws.Members.{is-nonzero}
 use Rattle.input_checks.specs.Any.{any-here, any-later, any-end}
 use borrow.Author.Needs.{needs}
 use Rattle.lattices.specs.Refusal.{mostCoordinates}

@@ -1,14 +1,17 @@
 -- The parts are those that make a lattice known.
 use mathlib.Core.Path.{_≡_, refl, sym, ap, _∙_, subst}
 use mathlib.Core.List.{[], map}
-use lib.IntN.{pos}
+use Prim.Native.Nat.{ℕ, _≤_}
 use lib.ListN.{length, getD, take}
-use lib.Signed.{_≤ℤ_}
+use native.Mathlib.Omega.{arith}
 use mir.Facts.{toZ-ofZ}
 use mir.Syntax.{w64}
-use Rattle.lattices.specs.Vector.{N}
+use Rattle.integers.specs.Size.{Within}
+use Rattle.lattices.specs.Vector.{nth}
+use Rattle.lattices.specs.Refusal.{mostVectors}
+use Rattle.input_checks.specs.FirstMinor.{table-small}
 use Rattle.lattice_membership.specs.Cofactor.{cofactorRows}
-use Rattle.lattice_membership.specs.Laws.Made.{rows-back, first-within, first-short, made}
+use Rattle.lattice_membership.specs.Laws.Made.{rows-back, first-below, made}
 use borrow.Author.Needs.{needs}
 use Rattle.lattice_membership.proofs.lattice_of.Statement.{statement}
 use Rattle.lattice_membership.proofs.lattice_of.Tie as tie
@@ -16,25 +19,27 @@ use Rattle.lattice_membership.proofs.lattice_of.Tie as tie
 four-rows : (c : tie.Start) → length (c .args .b) ≡ 4
 four-rows c = search needs
 
+choice-long : (c : tie.After-first-minor) → mostVectors ≤ length (c .first-minor .result .at)
+choice-long c = let n : length (c .first-minor .result .at) ≡ 4 = search needs in omega (arith, n)
+
 first-minor-requires : tie.Need-first-minor-requires
 first-minor-requires c κs = (c .pre .few, c .pre .short)
 
 vector-rows-requires : tie.Need-vector-rows-requires
 vector-rows-requires c κs = search needs
 
-picked-requires : tie.Need-picked-requires
-picked-requires c κs =
+square-requires : tie.Need-square-requires
+square-requires c κs =
     let f = c .before .before in
     let s = f .before in
-    (s .pre .few, first-within (s .args .d) (s .args .b) (s .pre) (four-rows s) (f .first-minor .result) (f .first-minor .ensures))
+    (s .pre .few, first-below (s .args .d) (s .args .b) (s .pre) (four-rows s) (f .first-minor .result) (f .first-minor .ensures))
 
 cofactor-rows-requires : tie.Need-cofactor-rows-requires
 cofactor-rows-requires c κs =
     let f = c .before .before .before in
     let s = f .before in (
       s .pre .few,
-      λ i h. subst (λ t. N (getD t i []) ≤ℤ pos 400000000) (sym (c .picked .ensures))
-          (first-short (s .args .d) (s .args .b) (s .pre) (four-rows s) (f .first-minor .result) (f .first-minor .ensures) i h),
+      λ i. subst (λ t. (c : ℕ) → Within 20000 (nth (getD t i []) c)) (sym (c .square .ensures)) (table-small (f .first-minor .result .at) (s .args .d) (s .args .b) (s .pre .short) i),
     )
 
 returns : tie.Need-returns
@@ -46,7 +51,7 @@ returns c =
     let m = f .first-minor in (
       made (s .args .d) (s .args .b) (s .pre) (four-rows s) (m .result) (m .ensures) _ refl (v .vector-rows .ensures) refl
           (toZ-ofZ {w = w64} {z = m .result .minor} (record { sfits = m .ok .1 .1 .1 .0 .1 }))
-          (k .cofactor-rows .ensures ∙ ap (λ t. cofactorRows t (s .args .d)) (k .before .picked .ensures)),
+          (k .cofactor-rows .ensures ∙ ap (λ t. cofactorRows t (s .args .d)) (k .before .square .ensures)) (choice-long f),
       (refl, ap (λ rows. take (s .args .d) (map (λ row. row .at) rows)) (v .vector-rows .ensures) ∙ ap (take (s .args .d)) (rows-back (s .args .b))),
     )
 
@@ -56,6 +61,6 @@ lattice-of-spec =
     (tie.spec
     first-minor-requires
     vector-rows-requires
-    picked-requires
+    square-requires
     cofactor-rows-requires
     returns)

@@ -14,11 +14,12 @@ use Rattle.integers.specs.Size.{Within, fits-within}
 use Rattle.integers.specs.Tests.{not-false}
 use Rattle.lattices.specs.Vector.{Vec, dot, nth, comb, _⊙_, _⊖_}
 use Rattle.lattices.specs.Laws.Vector.{_≈_, ≈-trans, ≈-of-≡}
-use Rattle.input_checks.specs.Volumes.{nonzero, short-within}
+use Rattle.input_checks.specs.Lengths.{short-within}
+use Rattle.lattice_membership.specs.Nonzero.{nonzero}
 use Rattle.row_operations.specs.Minus.{room}
 use Rattle.lattice_membership.specs.declared.Lattice.{Lattice}
 use Rattle.lattice_membership.specs.Known.{rowIn, quotientsOf, isWhole}
-use Rattle.lattice_membership.specs.Laws.Members.{not-true, quot-within, divisor-pos, left-none, p, top, vectorAt, places-known, coordinates-are, coordinates-small, not-member, left-decides, minor-within, turn-room, turn-small, turn-left}
+use Rattle.lattice_membership.specs.Laws.Members.{not-true, quot-within, divisor-pos, left-none, p, top, vectorAt, coordinates-small, not-member, left-decides, minor-within, turn-room, turn-small, turn-left}
 use borrow.Author.Needs.{needs}
 use Rattle.lattice_membership.proofs.member.Statement.{statement}
 use Rattle.lattice_membership.proofs.member.Tie as tie
@@ -30,10 +31,10 @@ abbrev μ-loop : tie.MeasureT-loop
 μ-loop l p rest₀ j₀ j-end rest j = j-end - j
 
 picks : (f : tie.After-pick Inv-loop μ-loop) → let s = f .before .before in f .pick .result ≡ p (s .args .t1) (s .pre .0) (s .args .v) (s .pre .1)
-picks f = let s = f .before .before in f .pick .ensures ∙ coordinates-are (s .args .t1) (s .pre .0) (s .args .v) (s .pre .1)
+picks f = f .pick .ensures
 
 pick-requires : tie.Need-pick-requires Inv-loop μ-loop
-pick-requires c κs = let s = c .before in (s .pre .0 .few, places-known (s .args .t1) (s .pre .0) (s .args .v) (s .pre .1))
+pick-requires c κs = c .before .pre .0 .below
 
 loop-holds : tie.Need-loop-holds Inv-loop μ-loop
 loop-holds c = let s = c .before .before in (search needs, (left-none (s .args .v) [] [], short-within (s .args .v) (s .pre .1)))
@@ -91,7 +92,7 @@ module _ (n : tie.After-numerator Inv-loop μ-loop) where
 whole-requires : tie.Need-whole-requires Inv-loop μ-loop
 whole-requires c κs =
     let n = c .before in
-    (subst (Within 640000000000000000) (sym (top-plain n)) (n .numerator .ensures .1), λ e. start n .pre .0 .nonzero (sym (minor-plain n) ∙ e))
+    (subst (Within 3840000000000000000) (sym (top-plain n)) (n .numerator .ensures .1), λ e. start n .pre .0 .nonzero (sym (minor-plain n) ∙ e))
 
 returns : tie.Need-returns Inv-loop μ-loop
 returns c =

@@ -65,7 +65,7 @@ returns c =
     let p : length a ≤ i = search needs in
     let q : length b ≤ i = search needs in
     let first = ap (toZ w64) (c .before .loop .inv .1) ∙ toZ-ofZ (numerator-turn a b (s .pre .0) (s .pre .1) i h .sum) in
-    (first ∙ ap₂ dot (take-all i a p) (take-all i b q), subst (Within 640000000000000000) (sym first) (numerator-within i a b (s .pre .0) (s .pre .1) h))
+    (first ∙ ap₂ dot (take-all i a p) (take-all i b q), subst (Within 3840000000000000000) (sym first) (numerator-within i a b (s .pre .0) (s .pre .1) h))
 
 pub numerator-spec : {M : Type 1} → statement M
 numerator-spec =

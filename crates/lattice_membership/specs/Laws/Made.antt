@@ -2,11 +2,11 @@
 use mathlib.Core.Path.{_≡_, refl, sym, ap, ap₂, _∙_, subst}
 use mathlib.Core.Logic.{_≢_}
 use mathlib.Core.Bool.{true≢false}
-use mathlib.Core.List.{List, [], _∷_, map}
+use mathlib.Core.List.{List, [], _∷_, _++_, map}
 use Prim.Native.Nat.{ℕ, zero, suc, _≤_, _<_}
 use native.Mathlib.Omega.{arith}
 use lib.IntN.{pos}
-use lib.ListN.{length, getD, take, length-take, length-map}
+use lib.ListN.{length, getD, take, drop, length-take, length-map}
 use lib.Seq.{getD-take}
 use lib.Signed.{_≤ℤ_}
 use Rattle.integers.specs.AllLaws.{getD-map}
@@ -20,21 +20,20 @@ use Rattle.lattices.specs.Refusal.{mostVectors, mostCoordinates}
 use Rattle.exterior_algebra.specs.Dependence.{Fit, independent-exactly}
 use Rattle.exterior_algebra.specs.Minors.{marks}
 use Rattle.exterior_algebra.specs.Sizes.{Short}
-use Rattle.input_checks.specs.Volumes.{short-from}
+use Rattle.input_checks.specs.Lengths.{short-from}
 use Rattle.successive_minima.specs.Reduced.{Reduced}
 use Rattle.successive_minima.specs.Laws.ReducedLaws.{reduced-independent}
 use Rattle.row_operations.specs.declared.TableRow.{TableRow}
 use Rattle.row_operations.specs.RowStructs.{vectorRow, tableRow}
 use Rattle.row_operations.specs.Rows.{firstFour}
 use Rattle.input_checks.specs.declared.minors.Minor.{Minor}
-use Rattle.input_checks.specs.Choice.{places}
-use Rattle.input_checks.specs.FirstMinor.{Chosen, FirstMinor, all-zero}
+use Rattle.input_checks.specs.Choice.{places, fourAt}
+use Rattle.input_checks.specs.Determinant.{unitRows, cofactorsOf}
+use Rattle.input_checks.specs.FirstMinor.{Chosen, FirstMinor, all-zero, cofactors-give, table-small}
 use Rattle.lattice_membership.specs.declared.Lattice.{Lattice}
-use Rattle.lattice_membership.specs.Coordinates.{coordinates}
-use Rattle.lattice_membership.specs.Cofactor.{cofactors, cofactorRows}
+use Rattle.lattice_membership.specs.Cofactor.{cofactorRows}
 use Rattle.lattice_membership.specs.Known.{ReducedBasis, Known, Cofactors, vectorsIn, rowIn}
-use Rattle.lattice_membership.specs.Laws.Minor.{place-within}
-use Rattle.lattice_membership.specs.Laws.Cofactors.{picked-rows, picked-short, cofactors-small, cofactors-give, first-four}
+use Rattle.lattice_membership.specs.Laws.Cofactors.{cofactors-small, first-four}
 
 pub rows-back : (l : List Vec) → map (λ row. row .at) (map vectorRow l) ≡ l
 rows-back [] = refl
@@ -46,14 +45,14 @@ filled-row (suc n) z [] i x h k = absurd (omega arith)
 filled-row (suc n) z (y ∷ l) zero x h k = refl
 filled-row (suc n) z (y ∷ l) (suc i) x h k = filled-row n z l i x (omega arith) (omega arith)
 
-pub row-of : (t : List Vec) (d j : ℕ) → d ≤ 4 → j < d → getD (cofactorRows t d) j (tableRow []) .at ≡ cofactors t d j
+pub row-of : (t : List Vec) (d j : ℕ) → d ≤ 4 → j < d → getD (cofactorRows t d) j (tableRow []) .at ≡ cofactorsOf t j
 row-of t d j few h =
-    let f : ℕ → TableRow = λ i. tableRow (cofactors t d i) in
+    let f : ℕ → TableRow = λ i. tableRow (cofactorsOf t i) in
     let long : length (take d firstFour) ≡ d = omega (arith, length-take d firstFour) in
     ap (λ r. r .at)
     (filled-row 4 (tableRow (padded 4 [])) (map f (take d firstFour)) j (tableRow []) (omega (arith, length-map (take d firstFour) f, long)) (omega arith)
     ∙ getD-map f (take d firstFour) 0 (tableRow []) j (omega (arith, long)))
-    ∙ ap (cofactors t d) (getD-take d firstFour j 0 h ∙ first-four j (omega arith))
+    ∙ ap (cofactorsOf t) (getD-take d firstFour j 0 h ∙ first-four j (omega arith))
 
 -- a reduced list has a minor that is not zero
 pub has-minor : {d : ℕ} {b : List Vec} → ReducedBasis d b → {m : Minor} → FirstMinor (take d b) m → m .minor ≢ pos 0
@@ -78,44 +77,38 @@ module _ (d : ℕ) (b : List Vec) (r : ReducedBasis d b) (four-rows : length b �
   unfolding s
   taken = ap (λ n. take n (m .at)) (sym vectors-count) ∙ chosen .taken
 
-  -- its places, and the length of what they pick
-  pub first-within : (i : ℕ) → i < d → getD (m .at) i 0 < mostCoordinates
-  unfolding s
-  first-within i h = place-within s d count-first (r .few) (m .at) taken (chosen .wide) i h
+  -- the coordinates of its vectors there, unit rows behind them
+  abbrev pub table : List Vec
+  table = map (fourAt (m .at)) (take d b) ++ drop d unitRows
 
-  pub first-short : (i : ℕ) → i < d → N (getD (map (coordinates (m .at) d) b) i []) ≤ℤ pos 400000000
-  first-short i h = picked-short s d count-first (r .few) (m .at) taken b four-rows (r .short) i h
+  pub first-below : (i : ℕ) → i < mostVectors → getD (m .at) i 0 < mostCoordinates
+  first-below = chosen .below
 
   pub made : (l : Lattice) → l .d ≡ d → l .vectors ≡ map vectorRow b → l .choice ≡ m .at → l .minor ≡ m .minor
-      → l .cofactors ≡ cofactorRows (map (coordinates (m .at) d) b) d → Known l
+      → l .cofactors ≡ cofactorRows table d → mostVectors ≤ length (m .at) → Known l
   unfolding s
-  made l e-d e-vectors e-choice e-minor e-rows = record {
+  made l e-d e-vectors e-choice e-minor e-rows long = record {
     few = subst (λ n. n ≤ 4) (sym e-d) (r .few);
-    four = (ap length e-vectors ∙ length-map b vectorRow ∙ four-rows, ap length e-rows ∙ length-filled (tableRow (padded 4 [])) 4 (map (λ j. tableRow (cofactors t d j)) (take d firstFour)));
+    four = (ap length e-vectors ∙ length-map b vectorRow ∙ four-rows, ap length e-rows ∙ length-filled (tableRow (padded 4 [])) 4 (map (λ j. tableRow (cofactorsOf table j)) (take d firstFour)));
     reduced = subst Reduced (sym vs) (r .reduced);
     short = subst (Short (pos 400000000)) (sym vs) (short-from 400000000 d 0 b (r .short));
+    below = subst (λ at. (i : ℕ) → i < mostVectors → getD at i 0 < mostCoordinates) (sym e-choice) first-below;
     index = s;
-    wide = chosen .wide;
-    count = count-first ∙ sym e-d;
-    chosen = ap₂ take e-d e-choice ∙ taken;
     at-index = e-minor ∙ chosen .minor ∙ ap (λ l. volume l s) (sym vs);
     nonzero = λ e. has-minor r k (sym e-minor ∙ e);
-    rows = λ j h. subst (λ bs. Cofactors bs s j (rowIn l j)) (sym vs) (subst (Cofactors (take d b) s j) (sym (row j (subst (λ n. j < n) e-d h))) (cofactors-known j (subst (λ n. j < n) e-d h)));
+    rows = λ j h. subst (λ bs. Cofactors bs (l .choice) s j (rowIn l j)) (sym vs) (subst (λ at. Cofactors (take d b) at s j (rowIn l j)) (sym e-choice) (subst (Cofactors (take d b) (m .at) s j) (sym (row j (subst (λ n. j < n) e-d h))) (cofactors-known j (subst (λ n. j < n) e-d h))));
   }
     where
-      t : List Vec
-      t = map (coordinates (m .at) d) b
-
       vs : vectorsIn l ≡ take d b
       vs = ap₂ take e-d (ap (map (λ row. row .at)) e-vectors ∙ rows-back b)
 
-      row : (j : ℕ) → j < d → rowIn l j ≡ cofactors t d j
-      row j h = ap (λ rs. getD rs j (tableRow []) .at) e-rows ∙ row-of t d j (r .few) h
+      row : (j : ℕ) → j < d → rowIn l j ≡ cofactorsOf table j
+      row j h = ap (λ rs. getD rs j (tableRow []) .at) e-rows ∙ row-of table d j (r .few) h
 
-      cofactors-known : (j : ℕ) → j < d → Cofactors (take d b) s j (cofactors t d j)
+      cofactors-known : (j : ℕ) → j < d → Cofactors (take d b) (m .at) s j (cofactorsOf table j)
       cofactors-known j h = record {
-        give = cofactors-give s d count-first (r .few) (m .at) taken b four-rows (r .short) j h;
-        small = cofactors-small t d j (picked-rows s d count-first (r .few) (m .at) taken b four-rows (r .short)) (r .few) h (picked-short s d count-first (r .few) (m .at) taken b four-rows (r .short));
+        give = cofactors-give (m .at) d (r .few) long s count-first taken (take d b) vectors-count j h;
+        small = cofactors-small table (table-small (m .at) d b (r .short)) j;
       }
 
 -- ---- the basis that a reduction leaves: vectors filled up to the width

@@ -23,15 +23,16 @@ use Rattle.integers.specs.Size.{Within, within-le, within-add, within-sub, with
 use Rattle.integers.specs.Tests.{both, true-T}
 use Rattle.lattices.specs.Vector.{Vec, N, Zero, nth, dot, comb, _⊕_, _⊙_, _⊖_}
 use Rattle.lattices.specs.Laws.Vector.{_≈_, ≈-sym, ≈-trans, ≈-of-≡, ≈-N, ≈-nth, ≈-Zero, Zero-≈, bilinear, nil-dot, comb-nil, comb-snoc, ⊖-zero}
-use Rattle.lattices.specs.Volume.{Index, head, rest}
 use Rattle.lattices.specs.Answer.{padded}
-use Rattle.lattices.specs.Refusal.{mostCoordinates}
+use Rattle.lattices.specs.Refusal.{mostVectors}
 use Rattle.exterior_algebra.specs.Cramer.{cramer}
 use Rattle.exterior_algebra.specs.Hadamard.{minor}
-use Rattle.exterior_algebra.specs.Minors.{pick}
 use Rattle.exterior_algebra.specs.Sizes.{product-≤}
-use Rattle.input_checks.specs.Volumes.{nonzero, is-nonzero, short-within}
+use Rattle.input_checks.specs.Lengths.{short-within}
+use Rattle.lattice_membership.specs.Nonzero.{nonzero}
 use Rattle.input_checks.specs.Any.{any-none}
+use Rattle.input_checks.specs.Choice.{fourAt}
+use Rattle.input_checks.specs.FirstMinor.{picked-small}
 use Rattle.successive_minima.specs.Member.{isMember, Member}
 use Rattle.successive_minima.specs.Laws.Members.{member-is, is-member}
 use Rattle.successive_minima.specs.Laws.Solving.{quot-exact, reduced-within}
@@ -39,11 +40,14 @@ use Rattle.row_operations.specs.RowStructs.{vectorRow, tableRow}
 use Rattle.row_operations.specs.Dot.{DotTurn, dot-within}
 use Rattle.row_operations.specs.Minus.{nth-minus, room}
 use Rattle.lattice_membership.specs.declared.Lattice.{Lattice}
-use Rattle.lattice_membership.specs.Coordinates.{coordinates}
 use Rattle.lattice_membership.specs.Known.{Known, vectorsIn, rowIn, quotientsOf, mostTimes, isWhole}
-use Rattle.lattice_membership.specs.Laws.Minor.{N-picked, at-places, place-within}
 
 -- ---- a whole multiple
+
+pub is-nonzero : (x : ℤ) → x ≢ pos 0 → nonzero x ≡ true
+is-nonzero (pos zero) f = absurd (f refl)
+is-nonzero (pos (suc n)) f = refl
+is-nonzero (negsuc n) f = refl
 
 rem-size : (z y : ℤ) → natAbs (remZ z y) ≡ natAbs z % natAbs y
 rem-size (pos a) y = refl
@@ -95,10 +99,10 @@ within-high (negsuc n) e = sym (le-leb (suc n) 1080000 (omega (arith, leb→le n
 
 -- ---- the sum of products of a numerator
 
-pub numerator-within : (i : ℕ) (a b : List ℤ) → ((c : ℕ) → Within 8000000000000 (nth a c)) → ((c : ℕ) → Within 20000 (nth b c)) → i ≤ 4 → Within 640000000000000000 (dot (take i a) (take i b))
+pub numerator-within : (i : ℕ) (a b : List ℤ) → ((c : ℕ) → Within 48000000000000 (nth a c)) → ((c : ℕ) → Within 20000 (nth b c)) → i ≤ 4 → Within 3840000000000000000 (dot (take i a) (take i b))
 numerator-within i a b f g h = within-le (omega arith) (dot-within i a b f g)
 
-pub numerator-turn : (a b : List ℤ) → ((c : ℕ) → Within 8000000000000 (nth a c)) → ((c : ℕ) → Within 20000 (nth b c)) → (i : ℕ) → i ≤ 4 → DotTurn a b i
+pub numerator-turn : (a b : List ℤ) → ((c : ℕ) → Within 48000000000000 (nth a c)) → ((c : ℕ) → Within 20000 (nth b c)) → (i : ℕ) → i ≤ 4 → DotTurn a b i
 numerator-turn a b f g i h = record {
   left = fits-within (f i) tt;
   right = fits-within (g i) tt;
@@ -109,18 +113,9 @@ numerator-turn a b f g i h = record {
 
 -- ---- picking sees coordinates only
 
-head-nth : (v : Vec) → head v ≡ nth v 0
-head-nth [] = refl
-head-nth (x ∷ v) = refl
-
-rest-nth : (v : Vec) (i : ℕ) → nth (rest v) i ≡ nth v (suc i)
-rest-nth [] i = refl
-rest-nth (x ∷ v) i = refl
-
-pick-same : (s : Index) (u v : Vec) → ((i : ℕ) → nth u i ≡ nth v i) → pick s u ≡ pick s v
-pick-same [] u v h = refl
-pick-same (false ∷ s) u v h = pick-same s (rest u) (rest v) (λ i. rest-nth u i ∙ h (suc i) ∙ sym (rest-nth v i))
-pick-same (true ∷ s) u v h = ap₂ _∷_ (head-nth u ∙ h 0 ∙ sym (head-nth v)) (pick-same s (rest u) (rest v) (λ i. rest-nth u i ∙ h (suc i) ∙ sym (rest-nth v i)))
+pick-same : (u v : Vec) → ((i : ℕ) → nth u i ≡ nth v i) → (l : List ℕ) → map (nth u) l ≡ map (nth v) l
+pick-same u v h [] = refl
+pick-same u v h (i ∷ l) = ap₂ _∷_ (h i) (pick-same u v h l)
 
 -- ---- tests
 
@@ -194,7 +189,7 @@ left-none v qs ws = ≈-sym (⊖-zero v {v = comb [] []} (comb-nil []))
 
 module _ (l : Lattice) (k : Known l) (v : Vec) (limit : N v ≤ℤ pos 400000000) where
   abbrev pub p : List ℤ
-  p = padded 4 (pick (k .index) v)
+  p = fourAt (l .choice) v
 
   -- the numerators, and the quotients
   abbrev pub top : ℕ → ℤ
@@ -203,14 +198,8 @@ module _ (l : Lattice) (k : Known l) (v : Vec) (limit : N v ≤ℤ pos 400000000
   abbrev pub quotients : List ℤ
   quotients = quotientsOf l p
 
-  pub places-known : (i : ℕ) → i < l .d → getD (l .choice) i 0 < mostCoordinates
-  places-known i h = place-within (k .index) (l .d) (k .count) (k .few) (l .choice) (k .chosen) (k .wide) i h
-
-  pub coordinates-are : coordinates (l .choice) (l .d) v ≡ p
-  coordinates-are = at-places (k .index) (l .d) (k .count) (k .few) (l .choice) (k .chosen) v
-
   pub coordinates-small : (c : ℕ) → Within 20000 (nth p c)
-  coordinates-small = short-within p (≤ℤ-trans (N-picked (k .index) (subst (λ n. n ≤ 4) (sym (k .count)) (k .few)) v) limit)
+  coordinates-small = picked-small v (short-within v limit) mostVectors (take mostVectors (l .choice))
 
   long : length (vectorsIn l) ≡ l .d
   long = omega (arith, length-take (l .d) (map (λ row. row .at) (l .vectors)), length-map (l .vectors) (λ row. row .at), k .four .0, k .few)
@@ -225,7 +214,7 @@ module _ (l : Lattice) (k : Known l) (v : Vec) (limit : N v ≤ℤ pos 400000000
   top-is m j h =
       let bs = vectorsIn l in
       let x = m .coefficients in
-      ap (λ q. dot (rowIn l j) (padded 4 q)) (pick-same (k .index) v (comb x bs) (λ i. sym (≈-nth (m .gives) i)))
+      ap (λ q. dot (rowIn l j) (padded mostVectors q)) (pick-same v (comb x bs) (λ i. sym (≈-nth (m .gives) i)) (take mostVectors (l .choice)))
       ∙ k .rows j h .give (comb x bs) ∙ cramer j x bs (omega (arith, long)) (k .index) ∙ ap (λ z. nth x j *ℤ z) (sym (k .at-index))
 
   coefficient-small : (m : Member (vectorsIn l) v) (j : ℕ) → natAbs (nth (m .coefficients) j) ≤ mostTimes

@@ -1,5 +1,5 @@
 -- The array holds the rows that are kept.
-use mathlib.Core.Path.{_≡_, sym, ap, _∙_, subst}
+use mathlib.Core.Path.{sym, ap, _∙_, subst}
 use lib.ListN.{take}
 use borrow.Author.Needs.{needs}
 use Rattle.lattice_membership.specs.Known.{ReducedBasis}

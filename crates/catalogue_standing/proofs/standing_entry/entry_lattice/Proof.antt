@@ -1,6 +1,5 @@
 -- What is kept of the entry is made a lattice.
 use mathlib.Core.Path.{subst}
-use borrow.Author.Needs.{needs}
 use Rattle.catalogue_records.specs.EntriesIn.{entryIn}
 use Rattle.catalogue_standing.specs.SameLattice.{LatticeOf}
 use Rattle.catalogue_standing.proofs.standing_entry.entry_lattice.Statement.{statement}

@@ -1,6 +1,5 @@
 -- Each test decides what is left.
 use mathlib.Core.Path.{sym, _∙_}
-use borrow.Author.Needs.{needs}
 use borrow.Author.Tests.{not-true, not-false}
 use Rattle.catalogue_records.specs.EntriesIn.{entryIn}
 use Rattle.fold_rules.specs.Laws.Deciding.{different-m, different-d}

@@ -3,7 +3,6 @@ use mathlib.Core.Path.{_≡_, sym, _∙_}
 use mathlib.Core.Bool.{false}
 use Prim.Native.Nat.{ℕ, _-_, _≤_, _<_}
 use native.Mathlib.Omega.{arith}
-use borrow.Author.Needs.{needs}
 use Rattle.catalogue_records.specs.EntriesIn.{entryIn}
 use Rattle.catalogue_records.specs.Entries.{entryAt, entry-has}
 use Rattle.fold_rules.specs.Fold.{sameLattice}

@@ -4,7 +4,6 @@ use mathlib.Core.Logic.{⊎-elim}
 use mathlib.Core.Bool.{false}
 use Prim.Native.Nat.{ℕ, _-_, _≤_, _<_}
 use native.Mathlib.Omega.{arith}
-use lib.ListN.{length}
 use borrow.Author.Needs.{needs}
 use Rattle.catalogue_standing.specs.Places.{First, stander, not-standing, standing-here, Closed, before-more, closed-none, closed-more}
 use Rattle.catalogue_rules.specs.Catalogue.{mostEntries}

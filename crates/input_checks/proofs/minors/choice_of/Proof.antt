@@ -7,9 +7,8 @@ use native.Mathlib.Numerals.{add-one}
 use lib.ListN.{set}
 use Rattle.integers.specs.Filled.{filled}
 use Rattle.exterior_algebra.specs.Minors.{marks}
-use Rattle.input_checks.specs.Minors.{halves}
 use Rattle.lattices.specs.Refusal.{mostCoordinates}
-use Rattle.input_checks.specs.Choice.{choice, places}
+use Rattle.input_checks.specs.Choice.{choice, places, halves}
 use Rattle.input_checks.specs.Choices.{length-choice, marks-≤, marks-taken, places-taken, marks-left, places-left}
 use borrow.Author.Needs.{needs}
 use Rattle.input_checks.proofs.minors.choice_of.Statement.{statement}

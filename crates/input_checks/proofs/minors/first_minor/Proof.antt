@@ -1,13 +1,13 @@
 -- The first coordinates, or any.
 use mathlib.Core.Path.{_≡_, sym, ap, _∙_, subst}
-use Prim.Native.Nat.{_<_}
+use Prim.Native.Nat.{ℕ, _<_}
 use native.Mathlib.Omega.{arith}
 use lib.ListN.{length, getD, take, length-take}
 use mir.Syntax.{w64}
 use mir.Val.{ofZ}
 use mir.Facts.{toZ-ofZ}
 use borrow.Author.Needs.{needs}
-use Rattle.lattices.specs.Refusal.{mostCoordinates}
+use Rattle.lattices.specs.Refusal.{mostVectors, mostCoordinates}
 use Rattle.input_checks.specs.Choice.{places, firsts}
 use Rattle.input_checks.specs.Choices.{places-firsts, length-firsts, marks-firsts, counts-at}
 use Rattle.input_checks.proofs.minors.first_minor.Statement.{statement}
@@ -16,10 +16,13 @@ use Rattle.input_checks.proofs.minors.first_minor.Tie as tie
 in-order-requires : tie.Need-in-order-requires
 in-order-requires c κs = search needs
 
+ordered : (c : tie.After-in-order) (i : ℕ) → i < mostVectors → getD (c .in-order .result) i 0 < mostCoordinates
+ordered c i h = subst (λ l. getD l i 0 < mostCoordinates) (sym (c .in-order .ensures)) (omega (arith, counts-at 0 mostCoordinates i h, h))
+
 minor-of-requires : tie.Need-minor-of-requires
 minor-of-requires c κs =
     let s = c .before in
-    (s .pre .0, (s .pre .1, λ i h. subst (λ l. getD l i 0 < mostCoordinates) (sym (c .in-order .ensures)) (omega (arith, counts-at 0 mostCoordinates i h, h))))
+    (s .pre .0, (s .pre .1, ordered c))
 
 rows : (s : tie.Start) → length (s .args .b) ≡ 4
 rows s = search needs
@@ -43,6 +46,7 @@ returns c =
         wide = length-firsts mostCoordinates (a .d);
         count = marks-firsts mostCoordinates (a .d) few ∙ sym n;
         taken = ap (λ k. take k (o .in-order .result)) n ∙ taken;
+        below = ordered o;
         minor = held ∙ f .minor-of .ensures index (marks-firsts mostCoordinates (a .d) few) taken;
       };
     }

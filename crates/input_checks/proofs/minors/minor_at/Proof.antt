@@ -8,7 +8,7 @@ use mir.Facts.{toZ-ofZ}
 use borrow.Author.Needs.{needs}
 use Rattle.lattices.specs.Refusal.{mostCoordinates}
 use Rattle.exterior_algebra.specs.Minors.{marks, volume-off}
-use Rattle.input_checks.specs.Choice.{choice, places}
+use Rattle.input_checks.specs.Choice.{choice}
 use Rattle.input_checks.specs.Choices.{length-choice}
 use Rattle.input_checks.specs.FirstMinor.{places-below, places-taken}
 use Rattle.input_checks.proofs.minors.minor_at.Statement.{statement}

@@ -1,10 +1,10 @@
 -- Every minor before is zero.
-use mathlib.Core.Path.{_≡_, sym, ap, _∙_}
+use mathlib.Core.Path.{_≡_, refl, sym, ap, _∙_, subst}
 use mathlib.Core.Logic.{_≢_}
-use Prim.Native.Nat.{ℕ, _-_, _+_, _^_, _≤_, _<_}
+use Prim.Native.Nat.{ℕ, _-_, _^_, _≤_, _<_}
 use native.Mathlib.Omega.{arith}
 use lib.IntN.{pos}
-use lib.ListN.{length, take}
+use lib.ListN.{length, getD, take}
 use mir.Syntax.{w64}
 use mir.Val.{toZ, ofZ}
 use mir.Facts.{toZ-ofZ}
@@ -13,7 +13,7 @@ use Rattle.lattices.specs.Volume.{volume}
 use Rattle.lattices.specs.Refusal.{mostCoordinates}
 use Rattle.input_checks.specs.Choice.{choice}
 use Rattle.input_checks.specs.Choices.{length-choice}
-use Rattle.input_checks.specs.FirstMinor.{count-of, places-taken, every-choice, one-more}
+use Rattle.input_checks.specs.FirstMinor.{count-of, places-below, places-taken, every-choice, one-more}
 use Rattle.input_checks.proofs.minors.other_minor.Statement.{statement}
 use Rattle.input_checks.proofs.minors.other_minor.Tie as tie
 
@@ -45,7 +45,7 @@ returns c =
     let count = count-of bs s (λ e. not-zero (f .minor-at .ensures .0 ∙ e)) in
     record {
       none = λ e. absurd (not-zero e);
-      some = λ h. record { index = s; wide = wide; count = count; taken = ap (take (length bs)) (f .minor-at .ensures .1) ∙ places-taken s wide (length bs) count; minor = f .minor-at .ensures .0 };
+      some = λ h. record { index = s; wide = wide; count = count; taken = ap (take (length bs)) (f .minor-at .ensures .1) ∙ places-taken s wide (length bs) count; below = λ i h. subst (λ l. getD l i 0 < mostCoordinates) (sym (f .minor-at .ensures .1)) (places-below s wide i); minor = f .minor-at .ensures .0 };
     }
 
 add-number : tie.Need-add-number Inv-loop μ-loop
@@ -67,7 +67,7 @@ returns-2 c =
     let end : l .loop .number ≡ 2 ^ mostCoordinates = omega arith in
     record {
       none = λ e. every-choice (take (l .before .args .d) (l .before .args .b)) (λ k h. l .loop .inv .1 k (omega (arith, end, h)));
-      some = λ h. absurd (h (λ i. pos 0));
+      some = λ h. absurd (h refl);
     }
 
 pub other-minor-spec : {M : Type 1} → statement M

@@ -9,10 +9,10 @@ use Rattle.row_operations.specs.Front.{front}
 use Rattle.row_operations.specs.Packing.{blanks, row-packed, rows-packed}
 use Rattle.gram_matrix.specs.Work.{work-packed}
 use borrow.Author.Needs.{needs}
-use Rattle.gram_matrix.proofs.packed.Statement.{statement}
-use Rattle.gram_matrix.proofs.packed.Tie as tie
-use Rattle.gram_matrix.proofs.packed.Reads as reads
-use Rattle.gram_matrix.proofs.packed.Lts as lts
+use Rattle.gram_matrix.proofs.work.packed.Statement.{statement}
+use Rattle.gram_matrix.proofs.work.packed.Tie as tie
+use Rattle.gram_matrix.proofs.work.packed.Reads as reads
+use Rattle.gram_matrix.proofs.work.packed.Lts as lts
 
 abbrev Inv-loop : tie.InvT-loop
 Inv-loop g b u v passes w₀ i₀ w i =
