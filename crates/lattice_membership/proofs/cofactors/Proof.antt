@@ -31,8 +31,8 @@ small : (c : tie.After-other3) → (Small (c .before .before .other .result)) ×
 small c =
     let s = c .before .before .before in
     let row : (r : ℕ) → Small (getD (without (s .args .j) (s .args .t)) r []) = without-small (s .args .j) (s .args .t) (s .pre .1) in (
-      subst Small (sym (c .before .before .other .ensures)) (row (s .args .j % 2)),
-      (subst Small (sym (c .before .other2 .ensures)) (row (1 - s .args .j % 2)), subst Small (sym (c .other3 .ensures)) (row 2)),
+      subst Small (sym (c .before .before .other .ensures)) (row _),
+      (subst Small (sym (c .before .other2 .ensures)) (row _), subst Small (sym (c .other3 .ensures)) (row _)),
     )
 
 three-requires : tie.Need-three-requires

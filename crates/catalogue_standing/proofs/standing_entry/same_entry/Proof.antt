@@ -27,7 +27,7 @@ entry-lattice-requires : tie.Need-entry-lattice-requires
 entry-lattice-requires c κs = c .before .before .before .before .before .before .before .before .pre .0 .0
 
 holds-lattice-requires : tie.Need-holds-lattice-requires
-holds-lattice-requires c κs = (c .entry-lattice .ensures .known, c .before .before .before .before .before .before .before .before .before .pre .1 .known)
+holds-lattice-requires c κs = search (c .entry-lattice .ensures .known, c .before .before .before .before .before .before .before .before .before .pre .1 .known)
 
 returns-4 : tie.Need-returns-4
 returns-4 c =
