@@ -111,13 +111,13 @@ take-all-requires c κs = let a = c .before in
       ),
     )
 
-named-requires : tie.Need-named-requires
-named-requires c κs = let s = c .before .before .before .before .before .before .before .before in (coordinates (s .args .t) (s .pre .1 .1 .0 .target), left-bounded (s .pre .1 .1 .0) (left c))
-
 returns : tie.Need-returns
 returns c = let l = c .before in
     let a = l .before .before in
     record { list = found-list a; rest = rest-of l; is = c .named .ensures; places = l .take-all .ensures .1; coefficients = found a; left = left l }
+
+named-requires : tie.Need-named-requires
+named-requires c κs = let s = c .before .before .before .before .before .before .before .before in (coordinates (s .args .t) (s .pre .1 .1 .0 .target), left-bounded (s .pre .1 .1 .0) (left c))
 
 pub searched-spec : {M : Type 1} → statement M
 searched-spec =
