@@ -4,8 +4,8 @@
  * Link with target/lib/libraghymtos.a, which rust/archive makes (x86-64 Linux).
  *
  * The functions are pure: they keep nothing, allocate nothing and may be called from any thread.
- * Those on catalogues take up to half a megabyte of its stack. They are proved for every input that
- * this header allows; the header itself is taken on trust. */
+ * Those on catalogues need 640 KB of its stack. They are proved for every input that this header
+ * allows; the header itself is taken on trust. */
 #ifndef RAGHYMTOS_H
 #define RAGHYMTOS_H
 
