@@ -6,12 +6,14 @@ use native.Mathlib.Omega.{arith}
 use native.Mathlib.Decide.{decLt, ℕ-discrete}
 use lib.IntN.{ℤ, pos, negsuc, _+ℤ_, _-ℤ_, _*ℤ_}
 use lib.ListN.{length, getD, set, take, length-map, length-set, length-take, List·getD-eq-default}
-use lib.Seq.{getD-set-same, getD-set-other, getD-take, ext-getD}
+use lib.Seq.{getD-set-same, getD-set-other, set-set, getD-take, ext-getD}
+use Rattle.integers.specs.Identity.{by-ring, reads}
 use Rattle.integers.specs.AllLaws.{getD-map}
 use Rattle.integers.specs.Ring.{negsuc-zero-*ℤ}
 use Rattle.integers.specs.ListLaws.{entries}
 use Rattle.lattices.specs.Vector.{Vec, nth, dot, comb, _⊕_, _⊙_, _⊖_}
 use Rattle.lattices.specs.Laws.Vector.{≈-refl, ≈-dot, nth-≈}
+use Rattle.row_operations.specs.Dot.{dot-suc}
 use Rattle.gram_matrix.specs.Gram.{losing, losingEntry, nth-comb}
 use Rattle.gram_matrix.specs.Columns.{nth-column}
 
@@ -38,6 +40,22 @@ length-entered k (z ∷ r) (row ∷ g) = ap suc (length-entered k r g)
 -- and row k is r with its entry k lowered
 abbrev pub crossed : List ℤ → ℕ → List ℤ → List (List ℤ) → List (List ℤ)
 crossed x k r g = set (entered k r g) k (losingEntry x k r)
+
+-- coefficients that are 0 from k on weigh nothing there
+pub dot-behind : (n k : ℕ) (x r : List ℤ) → ((i : ℕ) → k ≤ i → nth x i ≡ pos 0) → k ≤ n → dot (take n x) (take n r) ≡ dot (take k x) (take k r)
+dot-behind zero k x r z h = let e : zero ≡ k = omega arith in ap (λ i. dot (take i x) (take i r)) e
+dot-behind (suc n) k x r z h = pick (decLt n k) (dot-behind n k x r z)
+  where
+    nothing : (a b : ℤ) → a +ℤ pos 0 *ℤ b ≡ a
+    nothing a b = by-ring (a ∷ b ∷ []) (search reads) (search reads) tt
+
+    pick : Dec (n < k) → (k ≤ n → dot (take n x) (take n r) ≡ dot (take k x) (take k r)) → dot (take (suc n) x) (take (suc n) r) ≡ dot (take k x) (take k r)
+    pick (yes l) q = let e : suc n ≡ k = omega arith in ap (λ i. dot (take i x) (take i r)) e
+    pick (no l) q = let m : k ≤ n = omega (arith, l) in dot-suc n x r ∙ ap (λ y. dot (take n x) (take n r) +ℤ y *ℤ nth r n) (z n m) ∙ nothing (dot (take n x) (take n r)) (nth r n) ∙ q m
+
+-- the row stored, and then its entry k
+pub stored : (t : List (List ℤ)) (k : ℕ) (r : List ℤ) (z : ℤ) → k < length t → set (set t k r) k (set (getD (set t k r) k []) k z) ≡ set t k (set r k z)
+stored t k r z h = set-set t k r (set (getD (set t k r) k []) k z) ∙ ap (λ l. set t k (set l k z)) (getD-set-same t k r [] h)
 
 -- ---- where the table is symmetric, this is the loss of rows and entries
 module _ (g : List (List ℤ)) (symmetric : (i j : ℕ) → nth (getD g i []) j ≡ nth (getD g j []) i) (x : List ℤ) (k : ℕ) (h : k < length g) where

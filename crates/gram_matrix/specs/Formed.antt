@@ -61,7 +61,7 @@ module _ (bs : List Vec) (n : ℕ) (four : length bs + n ≡ 4) where
       ∙ filled-append (padded 4 []) 4 n (map (products bs) bs) (omega (arith, length-map bs (products bs)))
 
 -- ---- every entry, beyond the last too
-nth-products : (bs : List Vec) (v : Vec) → length bs ≤ 4 → (j : ℕ) → nth (products bs v) j ≡ dot (getD bs j []) v
+pub nth-products : (bs : List Vec) (v : Vec) → length bs ≤ 4 → (j : ℕ) → nth (products bs v) j ≡ dot (getD bs j []) v
 nth-products bs v h j = nth-padded 4 (map (λ w. dot w v) bs) (omega (arith, length-map bs (λ w. dot w v))) j ∙ each bs j
   where
     each : (bs : List Vec) (j : ℕ) → nth (map (λ w. dot w v) bs) j ≡ dot (getD bs j []) v
@@ -89,6 +89,17 @@ rows-wide f z (suc n) (x ∷ l) (suc m) h p q = rows-wide f z n l m (omega arith
 
 formed-wide : (bs : List Vec) (m : ℕ) → m < 4 → length (getD (formed bs) m []) ≡ 4
 formed-wide bs m h = rows-wide (products bs) (padded 4 []) 4 bs m h refl (λ v. length-padded 4 (map (λ w. dot w v) bs))
+
+-- the row behind the last is still of zeros
+getD-filled : {A : Type 0} (z d : A) (n : ℕ) (l : List A) (i : ℕ) → length l ≤ i → i < n → getD (filled z n l) i d ≡ z
+getD-filled z d zero l i h k = absurd (omega arith)
+getD-filled z d (suc n) [] zero h k = refl
+getD-filled z d (suc n) [] (suc i) h k = getD-filled z d n [] i (omega arith) (omega arith)
+getD-filled z d (suc n) (x ∷ l) zero h k = absurd (omega arith)
+getD-filled z d (suc n) (x ∷ l) (suc i) h k = getD-filled z d n l i (omega arith) (omega arith)
+
+pub zeros-behind : (b : List Vec) (i : ℕ) → i < 4 → getD (formed (take i b)) i [] ≡ padded 4 []
+zeros-behind b i h = getD-filled (padded 4 []) [] 4 (map (products (take i b)) (take i b)) i (omega (arith, length-map (take i b) (products (take i b)), length-take i b)) h
 
 -- ---- one vector more: its row and its column
 module _ (b : List Vec) (i : ℕ) (h : i < length b) (four : length b ≤ 4) where

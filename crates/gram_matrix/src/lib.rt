@@ -2,16 +2,17 @@
 ghost use mathlib.Core.Path.{_≡_};
 ghost use mathlib.Core.List.{List, [], _++_, map};
 ghost use Prim.Native.Nat.{ℕ, suc, _+_, _-_, _≤_, _<_};
-ghost use lib.IntN.{natAbs, _-ℤ_, _*ℤ_};
+ghost use lib.IntN.{pos, natAbs, _-ℤ_, _*ℤ_};
 ghost use lib.ListN.{length, getD, set, take, drop};
 ghost use Rattle.lattices.specs.Vector.{nth, dot, _⊖_, _⊙_};
 ghost use Rattle.row_operations.specs.Minus.{room};
 ghost use Rattle.gram_matrix.specs.Columns.{gainedAt, gainedColumns};
 ghost use Rattle.gram_matrix.specs.Lose.{Losable, Gainable, Loses, Gains, lost};
-ghost use Rattle.gram_matrix.specs.Gram.{losing, losingEntry};
+ghost use Rattle.gram_matrix.specs.Gram.{losing};
 ghost use Rattle.gram_matrix.specs.Cross.{entered, crossed};
 ghost use Rattle.integers.specs.Size.{Within};
 ghost use Rattle.gram_matrix.specs.Formed.{products, formed, grown};
+ghost use Rattle.lattices.specs.Answer.{padded};
 ghost use Rattle.lattices.specs.Greedy.{Row, order};
 ghost use Rattle.gram_matrix.specs.Order.{exchanged, swapped, insertAt};
 ghost use Rattle.gram_matrix.specs.Tied.{Held, Kind, Tied, shorterIn};
@@ -25,19 +26,18 @@ pub mod work;
 // A number for each two vectors.
 pub type Table = [[i64; 4]; 4];
 
-// The inner products of the first d vectors with v, zeros behind.
-fn products(b: &Basis, d: usize, v: Vector) -> [i64; 4]
+// The inner products of the first d vectors with v, to where there are zeros.
+pub fn products(b: &Basis, d: usize, v: Vector, r: &mut [i64; 4])
     requires { ⌜ d ≤ 4 ⌝ }
     requires { ⌜ length (now b) ≡ 4 ⌝ }
     requires { ⌜ ((i j : ℕ) → Within 100000 (nth (getD (now b) i []) j)) ⌝ }
     requires { ⌜ ((j : ℕ) → Within 100000 (nth v j)) ⌝ }
-    ensures { λ r. ⌜ r ≡ products (take d (now (b .entry))) v ⌝ }
+    requires { ⌜ now r ≡ padded 4 [] ⌝ }
+    ensures { λ _. ⌜ now (r .exit) ≡ products (take d (now (b .entry))) v ⌝ }
 {
-    let mut r = [0; 4];
     for j in 0..d {
         r[j] = row_operations::dot(b[j], v);
     }
-    r
 }
 
 // Entry k of each row becomes that of r at its place.
@@ -51,20 +51,19 @@ fn enter(g: &mut Table, k: usize, r: &[i64; 4])
     }
 }
 
-// The Gram matrix of the first d vectors, zeros behind: with each vector its row and its column are added.
-pub fn formed(b: &Basis, d: usize) -> Table
+// The Gram matrix of the first d vectors, to where there are zeros: with each vector its row and its column are added.
+pub fn formed(b: &Basis, d: usize, g: &mut Table)
     requires { ⌜ d ≤ 4 ⌝ }
     requires { ⌜ length (now b) ≡ 4 ⌝ }
     requires { ⌜ ((i j : ℕ) → Within 100000 (nth (getD (now b) i []) j)) ⌝ }
-    ensures { λ r. ⌜ r ≡ formed (take d (now (b .entry))) ⌝ }
+    requires { ⌜ now g ≡ formed [] ⌝ }
+    ensures { λ _. ⌜ now (g .exit) ≡ formed (take d (now (b .entry))) ⌝ }
 {
-    let mut g = [[0; 4]; 4];
     for i in 0..d {
-        let r = products(b, i + 1, b[i]);
-        g[i] = r;
-        enter(&mut g, i, &r);
+        products(b, i + 1, b[i], &mut g[i]);
+        let r = g[i];
+        enter(g, i, &r);
     }
-    g
 }
 
 // Is vector k shorter than the one before it?
@@ -257,18 +256,6 @@ fn dot_first(x: &[i64; 3], r: &[i64; 4], k: usize) -> i64
     sum
 }
 
-// Entry k of a row loses the combination x of the entries before it.
-fn less_entry(r: &[i64; 4], k: usize, x: &[i64; 3]) -> [i64; 4]
-    requires { ⌜ k ≤ 3 ⌝ }
-    requires { ⌜ ((i : ℕ) → Within 2000000000000000000 (nth (now x) i *ℤ nth (now r) i)) ⌝ }
-    requires { ⌜ Within 1000000000000000000 (nth (now r) k) ⌝ }
-    ensures { λ s. ⌜ s ≡ losingEntry (take k (now (x .entry))) k (now (r .entry)) ⌝ }
-{
-    let mut s = *r;
-    s[k] = r[k] - dot_first(x, r, k);
-    s
-}
-
 // Row and column k of the Gram matrix become r, what is left of row k when the rows before it are taken away x times; its entry k, the
 // squared length, loses the same once more.
 pub fn cross(g: &mut Table, k: usize, r: &[i64; 4], x: &[i64; 3])
@@ -276,8 +263,11 @@ pub fn cross(g: &mut Table, k: usize, r: &[i64; 4], x: &[i64; 3])
     requires { ⌜ length (now g) ≡ 4 ⌝ }
     requires { ⌜ ((i : ℕ) → Within 2000000000000000000 (nth (now x) i *ℤ nth (now r) i)) ⌝ }
     requires { ⌜ Within 1000000000000000000 (nth (now r) k) ⌝ }
+    requires { ⌜ ((i : ℕ) → k ≤ i → nth (now x) i ≡ pos 0) ⌝ }
     ensures { λ _. ⌜ now (g .exit) ≡ crossed (take k (now (x .entry))) k (now (r .entry)) (now (g .entry)) ⌝ }
 {
     enter(g, k, r);
-    g[k] = less_entry(r, k, x);
+    g[k] = *r;
+    // the coefficients from k on are 0
+    g[k][k] = r[k] - dot_first(x, r, 3);
 }

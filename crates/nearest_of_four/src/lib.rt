@@ -139,7 +139,7 @@ fn best(g: &[[i64; 4]; 4], j: i64, s: &mut [i64; 4]) -> [i64; 4]
 {
     nearest_of_three::lose(s, j, g[3]);
     let mut y = [0; 3];
-    nearest_of_three::among(g, 3, s, &mut y);
+    nearest_of_three::descend(g, 3, s, &mut y);
     [y[0], y[1], y[2], j]
 }
 

@@ -1,11 +1,11 @@
--- Gram matrix and inner products as the loops form them of vectors: the numbers themselves, so the factor is 1. Beyond the last vector they are 0.
-use mathlib.Core.Path.{_≡_, sym, ap, _∙_, subst}
+-- Gram matrix and inner products formed of vectors: the numbers themselves, so the factor is 1. Beyond the last vector they are 0.
+use mathlib.Core.Path.{_≡_, sym, subst}
 use mathlib.Core.List.{List, []}
 use Prim.Native.Nat.{ℕ, _≤_, _<_}
 use native.Mathlib.Omega.{arith}
 use native.Mathlib.Decide.{decLt}
 use lib.IntN.{ℤ, pos, _*ℤ_}
-use lib.ListN.{length, getD, take, length-take, List·getD-eq-default}
+use lib.ListN.{length, getD, take, length-take}
 use lib.Seq.{getD-take, take-take}
 use lib.Signed.{_≤ℤ_, ltZ-yes}
 use Rattle.integers.specs.Certificate.{nn-pos}
@@ -13,7 +13,6 @@ use Rattle.integers.specs.Ring.{pos-one-*ℤ}
 use Rattle.lattices.specs.Vector.{Vec, N, nth, dot}
 use Rattle.lattices.specs.Laws.Vector.{nil-dot}
 use Rattle.nearest_of_three.specs.Meant.{Products, Gram, Meant}
-use Rattle.nearest_of_three.specs.Filled.{Filled}
 use Rattle.nearest_of_three.specs.Searchable.{behind, Searchable}
 
 -- the inner products of the vectors with v, four places
@@ -25,15 +24,6 @@ pub record GramOf (vs : List Vec) (g : List (List ℤ)) : Type 0 where
   pub gram : Gram (pos 1) vs g
   pub count : length g ≡ 4
   pub long : (i : ℕ) → length (getD g i []) ≤ 4
-
-module _ (k : ℕ) (short : k ≤ 4) (b : List Vec) where
-  pub products-filled : (v : Vec) (r : List ℤ) → Filled (pos 0) (pos 0) (λ j x. x ≡ dot (getD b j []) v) 4 k r → ProductsOf (take k b) v r
-  products-filled v r p = record { products = record { at = λ i. pos-one-*ℤ (nth r i) ∙ pick i (decLt i k) (decLt i 4) }; long = p .size }
-    where
-      pick : (i : ℕ) → Dec (i < k) → Dec (i < 4) → nth r i ≡ dot (getD (take k b) i []) v
-      pick i (yes h) m = p .done i h ∙ ap (λ u. dot u v) (sym (getD-take k b i [] h))
-      pick i (no h) (yes m) = p .rest i (omega (arith, h)) m ∙ sym (ap (λ u. dot u v) (behind k i b (omega (arith, h))) ∙ nil-dot v)
-      pick i (no h) (no m) = List·getD-eq-default r (pos 0) (omega (arith, m, p .size)) ∙ sym (ap (λ u. dot u v) (behind k i b (omega (arith, h))) ∙ nil-dot v)
 
 -- they are the numbers of the search among the first k vectors
 module _ (k : ℕ) (b : List Vec) (t : Vec) (v : Searchable k b t) {g : List (List ℤ)} {r : List ℤ} (q : GramOf (take k b) g) (p : ProductsOf (take k b) t r) where

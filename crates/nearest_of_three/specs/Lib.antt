@@ -14,6 +14,5 @@ pub mod Places
 pub mod Sweep
 pub mod PairFits
 pub mod Stepped
-pub mod Filled
 pub mod Searchable
 pub mod Formed

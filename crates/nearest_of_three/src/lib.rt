@@ -19,7 +19,6 @@ ghost use Rattle.nearest_of_three.specs.Numbers.{moved, Sized};
 ghost use Rattle.nearest_of_three.specs.Multiples.{Still, Along, SettledAlong};
 ghost use Rattle.nearest_of_three.specs.Sweep.{Swept};
 ghost use Rattle.nearest_of_three.specs.Stepped.{Stepped};
-ghost use Rattle.nearest_of_three.specs.Formed.{ProductsOf};
 
 mod table;
 
@@ -176,6 +175,25 @@ fn improve(g: &[[i64; 4]; 4], k: usize, r: &mut [i64; 4], x: &mut [i64; 3]) -> b
 
 // The vector nearest to a target in the lattice of the first k of four vectors, from numbers alone: g is the Gram matrix of the four, r holds
 // their inner products with the target. Afterwards x holds the coefficients, and r the inner products with what is left of the target.
+// By steps to a smaller value until there is none.
+pub fn descend(g: &[[i64; 4]; 4], k: usize, r: &mut [i64; 4], x: &mut [i64; 3])
+    requires { ⌜ k ≤ 3 ⌝ }
+    requires { ⌜ 2 ≤ k ⌝ }
+    requires { ⌜ length (now g) ≡ 4 ⌝ }
+    requires { ⌜ length (now r) ≡ 4 ⌝ }
+    requires { ⌜ now x ≡ replicate 3 (pos 0) ⌝ }
+    requires { ⌜ Known k (now g) (now r) ⌝ }
+    ensures { λ _. ⌜ now (r .exit) ≡ now (r .entry) ⊖ comb (take k (now (x .exit))) (take k (now (g .entry))) ⌝ }
+    ensures { λ _. ⌜ ((F : ℤ) (vs : List Vec) (t : Vec) → Meant F k vs t (now (g .entry)) (now (r .entry)) → now (x .exit) ≡ padded 3 (nearest (take k vs) t)) ⌝ }
+{
+    loop {
+        if !improve(g, k, r, x) {
+            return;
+        }
+    }
+}
+
+// The same for one vector too, where the nearest multiple is all. It is small, so that the compiler puts it where it is called.
 pub fn among(g: &[[i64; 4]; 4], k: usize, r: &mut [i64; 4], x: &mut [i64; 3])
     requires { ⌜ k ≤ 3 ⌝ }
     requires { ⌜ length (now g) ≡ 4 ⌝ }
@@ -189,22 +207,5 @@ pub fn among(g: &[[i64; 4]; 4], k: usize, r: &mut [i64; 4], x: &mut [i64; 3])
         sweep(g, k, r, x);
         return;
     }
-    loop {
-        if !improve(g, k, r, x) {
-            return;
-        }
-    }
-}
-
-// The inner products of the first k vectors with v, zeros behind, to where they are kept.
-pub fn products(b: &row_operations::Basis, k: usize, v: row_operations::Vector, r: &mut [i64; 4])
-    requires { ⌜ k ≤ 4 ⌝ }
-    requires { ⌜ ((i : ℕ) → i < k → Bounded 100000 (getD (now b) i [])) ⌝ }
-    requires { ⌜ Bounded 100000 v ⌝ }
-    requires { ⌜ now r ≡ replicate 4 (pos 0) ⌝ }
-    ensures { λ _. ⌜ ProductsOf (take k (now (b .entry))) v (now (r .exit)) ⌝ }
-{
-    for i in 0..k {
-        r[i] = row_operations::dot(b[i], v);
-    }
+    descend(g, k, r, x);
 }

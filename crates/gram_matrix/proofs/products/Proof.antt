@@ -25,7 +25,7 @@ abbrev μ-loop : tie.MeasureT-loop
 μ-loop b d v r₀ j₀ r j = d - j
 
 loop-holds : tie.Need-loop-holds Inv-loop μ-loop
-loop-holds c = (search needs, refl)
+loop-holds c = (search needs, c .pre .1 .1 .1 .1)
 
 mul-dot : tie.Need-mul-dot Inv-loop μ-loop
 mul-dot c = search needs
@@ -36,13 +36,13 @@ element-copy-out-dot c = search needs
 dot-requires : tie.Need-dot-requires Inv-loop μ-loop
 dot-requires c κs = let l = c .before .before in
     let s = l .before in
-    (s .pre .1 .1 .0 (l .loop .j), s .pre .1 .1 .1)
+    (s .pre .1 .1 .0 (l .loop .j), s .pre .1 .1 .1 .0)
 
-mul-r : tie.Need-mul-r Inv-loop μ-loop
-mul-r c = search needs
+mul-t12 : tie.Need-mul-t12 Inv-loop μ-loop
+mul-t12 c = search needs
 
-array-set-from-r : tie.Need-array-set-from-r Inv-loop μ-loop
-array-set-from-r c = search needs
+element-set-from-r : tie.Need-element-set-from-r Inv-loop μ-loop
+element-set-from-r c = search needs
 
 add-j : tie.Need-add-j Inv-loop μ-loop
 add-j c = search needs
@@ -73,8 +73,8 @@ products-spec =
     mul-dot
     element-copy-out-dot
     dot-requires
-    mul-r
-    array-set-from-r
+    mul-t12
+    element-set-from-r
     add-j
     loop-less
     loop-again
