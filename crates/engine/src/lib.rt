@@ -152,7 +152,8 @@ pub fn reduce(numbers: &[i64], d: usize, m: usize) -> Reduction
     if number != 0 {
         return refused(number);
     }
-    let g = gram_matrix::formed(&b, d);
+    let mut g = [[0; 4]; 4];
+    gram_matrix::formed(&b, d, &mut g);
     let e = row_operations::unit_table(d);
     finished(reduce_first(g, b, e, e, d, 0))
 }
@@ -204,12 +205,12 @@ fn searched(g: &Table, b: &Basis, d: usize, t: Vector) -> NearestVector
     ensures { λ r. ⌜ Answered d (now (b .entry)) t r ⌝ }
 {
     let mut r = [0; 4];
-    nearest_of_three::products(b, d, t, &mut r);
+    gram_matrix::products(b, d, t, &mut r);
     let n = row_operations::dot(t, t);
     let mut x = [0; 4];
     nearest_of_four::among(g, d, n, &mut r, &mut x);
     let mut rest = t;
-    nearest_of_four::take_all(b, d, x, &mut rest);
+    row_operations::minus_combination(&mut rest, b, d, x);
     named(t, x, rest)
 }
 
@@ -227,7 +228,8 @@ pub fn nearest(numbers: &[i64], d: usize, m: usize, target: &[i64]) -> NearestVe
     if n != 0 {
         return refused_nearest(n);
     }
-    let h = gram_matrix::formed(&a, d);
+    let mut h = [[0; 4]; 4];
+    gram_matrix::formed(&a, d, &mut h);
     let e = row_operations::unit_table(d);
     let w = reduce_first(h, a, e, e, d, 0);
     let vectors = w.vectors;

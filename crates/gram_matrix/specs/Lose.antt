@@ -54,26 +54,26 @@ row-wide w zero (r ∷ t) c h = c .0
 row-wide w (suc i) (r ∷ t) c h = row-wide w i t (c .1) (omega arith)
 
 module _ (k : ℕ) (x : List ℤ) (t : List (List ℤ)) (three : k ≤ 3) (count : length x ≡ 3) (l : Loses k x t) where
-  left-wide : (j : ℕ) → length (left x t k j) ≡ l .width
+  left-wide : (j : ℕ) → length (left x t (getD t k []) j) ≡ l .width
   left-wide j = length-⊕ (getD t k []) (negsuc 0 ⊙ comb (take j x) (take j t))
       ∙ omega (arith, row-wide (l .width) k t (l .wide) (omega (arith, l .four)), length-⊙ (negsuc 0) (comb (take j x) (take j t)), comb-places (l .width) (take j x) (take j t) (take-wide (l .width) j t (l .wide)))
 
-  module _ (j : ℕ) (h : j < k) {s : List (List ℤ)} (e : s ≡ set t k (left x t k j)) where
-    own : getD s k [] ≡ left x t k j
-    own = ap (λ s. getD s k []) e ∙ getD-set-same t k (left x t k j) [] (omega (arith, l .four))
+  module _ (j : ℕ) (h : j < k) {s : List (List ℤ)} (e : s ≡ set t k (left x t (getD t k []) j)) where
+    own : getD s k [] ≡ left x t (getD t k []) j
+    own = ap (λ s. getD s k []) e ∙ getD-set-same t k (left x t (getD t k []) j) [] (omega (arith, l .four))
 
     other : getD s j [] ≡ getD t j []
-    other = ap (λ s. getD s j []) e ∙ getD-set-other t k j (left x t k j) [] (λ e. omega arith)
+    other = ap (λ s. getD s j []) e ∙ getD-set-other t k j (left x t (getD t k []) j) [] (λ e. omega arith)
 
     pub losable : length s ≡ 4 → Losable k j (nth x j) s
     losable f = record {
       four = f;
       same = ap length own ∙ left-wide j ∙ sym (ap length other ∙ row-wide (l .width) j t (l .wide) (omega (arith, l .four)));
-      fits = λ i. rw (own, other) (le-trans (left-room x t k j i h) (l .fits i));
+      fits = λ i. rw (own, other) (le-trans (left-room x t (getD t k []) k j i h) (l .fits i));
     }
 
-    pub lost-next : lost k j (nth x j) s ≡ set t k (left x t k (suc j))
-    lost-next = ap₂ (λ s a. set s k a) e (ap₂ (λ a b. a ⊖ nth x j ⊙ b) own other ∙ left-suc x t k j (omega (arith, count)) (omega (arith, l .four))) ∙ set-set t k _ _
+    pub lost-next : lost k j (nth x j) s ≡ set t k (left x t (getD t k []) (suc j))
+    lost-next = ap₂ (λ s a. set s k a) e (ap₂ (λ a b. a ⊖ nth x j ⊙ b) own other ∙ left-suc x t (getD t k []) j (omega (arith, count)) (omega (arith, l .four))) ∙ set-set t k _ _
 
 module _ (k : ℕ) (x : List ℤ) (t : List (List ℤ)) (three : k ≤ 3) (count : length x ≡ 3) (l : Gains k x t) (j : ℕ) (h : j < k) {s : List (List ℤ)} (e : s ≡ gainedColumns (take j x) k t) where
   pub gainable : length s ≡ 4 → Gainable k j (nth x j) s

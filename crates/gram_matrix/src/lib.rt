@@ -30,7 +30,7 @@ pub type Table = [[i64; 4]; 4];
 pub fn products(b: &Basis, d: usize, v: Vector, r: &mut [i64; 4])
     requires { ⌜ d ≤ 4 ⌝ }
     requires { ⌜ length (now b) ≡ 4 ⌝ }
-    requires { ⌜ ((i j : ℕ) → Within 100000 (nth (getD (now b) i []) j)) ⌝ }
+    requires { ⌜ ((i j : ℕ) → i < d → Within 100000 (nth (getD (now b) i []) j)) ⌝ }
     requires { ⌜ ((j : ℕ) → Within 100000 (nth v j)) ⌝ }
     requires { ⌜ now r ≡ padded 4 [] ⌝ }
     ensures { λ _. ⌜ now (r .exit) ≡ products (take d (now (b .entry))) v ⌝ }

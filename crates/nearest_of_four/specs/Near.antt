@@ -1,25 +1,26 @@
 -- What the nearest vector asks of its vectors and its target, and the sizes that follow.
 use mathlib.Core.Path.{_≡_, sym, ap, _∙_, subst}
-use mathlib.Core.List.{List, []}
-use Prim.Native.Nat.{ℕ, _≤_, _<_}
+use mathlib.Core.List.{List, [], _∷_}
+use Prim.Native.Nat.{ℕ, zero, suc, _+_, _*_, _≤_, _<_}
 use native.Mathlib.Omega.{arith}
-use lib.IntN.{ℤ, pos, negsuc, _*ℤ_}
-use lib.ListN.{length, getD, take, length-take, List·getD-eq-default}
-use lib.Seq.{take-all}
+use native.Mathlib.Decide.{decLt}
+use lib.IntN.{ℤ, pos, natAbs, _*ℤ_}
+use lib.ListN.{length, getD, take, length-take}
+use lib.Seq.{getD-take}
 use lib.Signed.{_≤ℤ_, leZ-yes}
 use Rattle.integers.specs.Order.{≤ℤ-trans, ≤ℤ-of-≡}
 use Rattle.integers.specs.Ring.{pos-one-*ℤ}
-use Rattle.integers.specs.Size.{Within, root-within}
+use Rattle.integers.specs.Size.{Within, load, within-mul, root-within}
 use Rattle.lattices.specs.Vector.{Vec, N, nth, comb, _⊖_}
-use Rattle.lattices.specs.Laws.Vector.{_≈_, ≈-refl, ≈-trans, ≈-of-≡, ≈-⊕, ≈-⊙, ≈-N, square-≤}
+use Rattle.lattices.specs.Laws.Vector.{_≈_, ≈-N, square-≤}
 use Rattle.lattices.specs.Nearest.{nearest}
 use Rattle.lattices.specs.Answer.{padded}
-use Rattle.lattices.specs.Laws.Answer.{nth-padded, take-padded}
+use Rattle.lattices.specs.Laws.Answer.{take-padded}
 use Rattle.successive_minima.specs.Reduced.{Reduced}
 use Rattle.successive_minima.specs.Laws.NearestLaws.{nearest-shorter, nearest-count}
 use Rattle.successive_minima.specs.Laws.Digits.{Bounded}
-use Rattle.nearest_of_three.specs.Searchable.{Searchable, coordinates as long}
-use Rattle.nearest_of_three.specs.State.{comb-front}
+use Rattle.row_operations.specs.Minus.{room}
+use Rattle.nearest_of_three.specs.Searchable.{Searchable, behind, rows-bounded, coordinates as long}
 use Rattle.nearest_of_three.specs.Formed.{ProductsOf, GramOf, meant-formed}
 use Rattle.nearest_of_four.specs.MeantNear.{MeantNear, KnownNear}
 
@@ -59,11 +60,26 @@ module _ (d : ℕ) (b : List Vec) (t : Vec) (few : d ≤ 4) (h : d ≤ length b)
   unfolding w
   count = nearest-count (take d b) t ∙ omega (arith, length-take d b)
 
-  pub rest-is : t ⊖ comb (take d x) b ≈ t ⊖ comb (nearest (take d b) t) (take d b)
+  pub taken : take d x ≡ nearest (take d b) t
   unfolding w
-  rest-is = ≈-⊕ (≈-refl {u = t}) (≈-⊙ (negsuc 0) (≈-trans (≈-of-≡ (ap (λ z. comb (take d z) b) e ∙ ap (λ z. comb z b) (take-padded d 4 w count few)))
-      (≈-trans (comb-front d w b (λ j k. List·getD-eq-default w (pos 0) (omega (arith, count)))) (≈-of-≡ (ap (λ z. comb z (take d b)) (take-all d w (omega (arith, count))))))))
+  taken = ap (take d) e ∙ take-padded d 4 w count few
 
-  pub list-small : Bounded 30000000 (nearest (take d b) t) → Bounded 30000000 x
-  unfolding w
-  list-small f i = subst (λ y. Within 30000000 (nth y i)) (sym e) (subst (Within 30000000) (sym (nth-padded 4 w (omega (arith, count)) i)) (f i))
+-- ---- room to take them away
+load-within : (n A B : ℕ) (x : List ℤ) (t : List Vec) (i : ℕ) → length t ≤ n → Bounded A x → ((j : ℕ) → Within B (nth (getD t j []) i)) → load x t i ≤ n * (A * B)
+unfolding load
+load-within n A B [] t i h f g = omega arith
+load-within n A B (y ∷ x) [] i h f g = omega arith
+load-within zero A B (y ∷ x) (r ∷ t) i h f g = absurd (omega arith)
+load-within (suc n) A B (y ∷ x) (r ∷ t) i h f g =
+    let m = within-mul {A = A} {B = B} {a = y} {b = nth r i} (f 0) (g 0) .within in
+    let q = load-within n A B x t i (omega arith) (λ j. f (suc j)) (λ j. g (suc j)) in
+    omega (arith, m, q)
+
+pub rest-room : {d : ℕ} {b : List Vec} {t : Vec} (x : List ℤ) → d ≤ 4 → d ≤ length b → Near d b t → Bounded 30000000 x → (i : ℕ) → natAbs (nth t i) + load x (take d b) i ≤ room
+rest-room {d} {b} {t} x few h n f i =
+    let l = load-within 4 30000000 100000 x (take d b) i (omega (arith, length-take d b)) f (λ j. row j (decLt j d)) in
+    omega (arith, l, coordinates t (n .target) i .within)
+  where
+    row : (j : ℕ) → Dec (j < d) → Within 100000 (nth (getD (take d b) j []) i)
+    row j (yes l) = rw (getD-take d b j [] l) (rows-bounded (searchable h n) j l i)
+    row j (no l) = rw (behind d j b (omega (arith, l))) (record { within = omega arith })

@@ -23,7 +23,7 @@ ghost use Rattle.nearest_of_four.specs.Best.{Best};
 mod start;
 
 // The combination e of the first d rows of t is taken away from s.
-pub fn take_all(t: &[[i64; 4]; 4], d: usize, e: [i64; 4], s: &mut [i64; 4])
+fn take_all(t: &[[i64; 4]; 4], d: usize, e: [i64; 4], s: &mut [i64; 4])
     requires { ⌜ d ≤ 4 ⌝ }
     requires { ⌜ length (now t) ≡ 4 ⌝ }
     requires { ⌜ length (now s) ≡ 4 ⌝ }

@@ -4,8 +4,7 @@ use mathlib.Core.List.{List, [], _∷_}
 use Prim.Native.Nat.{ℕ, zero, suc, _+_, _≤_, _<_}
 use native.Mathlib.Omega.{arith}
 use lib.IntN.{ℤ, pos, negsuc, natAbs, _*ℤ_, +ℤ-assoc, *ℤ-zero, zero-*ℤ}
-use lib.ListN.{length, getD, set, take}
-use lib.Seq.{set-getD}
+use lib.ListN.{length, getD, take}
 use Rattle.integers.specs.Ring.{*ℤ-+ℤ, negsuc-zero-*ℤ}
 use Rattle.integers.specs.Size.{load, size-add, size-sub}
 use Rattle.integers.specs.ListLaws.{entries}
@@ -70,19 +69,19 @@ load-below (suc j) (suc k) [] t i h = simp zero-*ℤ (omega arith)
 load-below (suc j) (suc k) (y ∷ x) [] i h = simp *ℤ-zero (omega arith)
 load-below (suc j) (suc k) (y ∷ x) (r ∷ t) i h = omega (arith, load-below j k x t i (omega arith))
 
--- ---- the table after j of the k rows
+-- ---- what is left of a after j of the rows
 
-module _ (x : List ℤ) (t : List (List ℤ)) (k : ℕ) where
+module _ (x : List ℤ) (t : List (List ℤ)) (a : List ℤ) where
   abbrev pub left : ℕ → List ℤ
-  left j = getD t k [] ⊖ comb (take j x) (take j t)
+  left j = a ⊖ comb (take j x) (take j t)
 
-  pub left-zero : set t k (left zero) ≡ t
+  pub left-none : left zero ≡ a
   unfolding comb _⊙_
-  left-zero = ap (set t k) (⊕-nil (getD t k [])) ∙ set-getD t k []
+  left-none = ⊕-nil a
 
   pub left-suc : (j : ℕ) → j < length x → j < length t → left j ⊖ nth x j ⊙ getD t j [] ≡ left (suc j)
-  left-suc j h l = sym (ap (λ s. getD t k [] ⊖ s) (comb-suc j x t h l) ∙ ⊖-⊕ (getD t k []) (comb (take j x) (take j t)) (nth x j ⊙ getD t j []))
+  left-suc j h l = sym (ap (λ s. a ⊖ s) (comb-suc j x t h l) ∙ ⊖-⊕ a (comb (take j x) (take j t)) (nth x j ⊙ getD t j []))
 
-  pub left-room : (j i : ℕ) → j < k → natAbs (nth (left j) i) + natAbs (nth x j *ℤ nth (getD t j []) i) ≤ natAbs (nth (getD t k []) i) + load (take k x) (take k t) i
-  left-room j i h =
-      simp (entries, negsuc-zero-*ℤ) (omega (arith, size-sub (nth (getD t k []) i) (nth (comb (take j x) (take j t)) i), size-comb (take j x) (take j t) i, load-below j k x t i h))
+  pub left-room : (k j i : ℕ) → j < k → natAbs (nth (left j) i) + natAbs (nth x j *ℤ nth (getD t j []) i) ≤ natAbs (nth a i) + load (take k x) (take k t) i
+  left-room k j i h =
+      simp (entries, negsuc-zero-*ℤ) (omega (arith, size-sub (nth a i) (nth (comb (take j x) (take j t)) i), size-comb (take j x) (take j t) i, load-below j k x t i h))

@@ -9,6 +9,7 @@ ghost use Rattle.integers.specs.Size.{Within, load};
 ghost use Rattle.lattices.specs.Vector.{dot, comb, _⊖_, _⊙_};
 ghost use Rattle.lattices.specs.Greedy.{units};
 ghost use Rattle.lattices.specs.Answer.{table};
+ghost use Rattle.lattices.specs.Refusal.{mostCoordinates};
 ghost use Rattle.row_operations.specs.Minus.{room};
 
 // How many coordinates a vector has.
@@ -56,15 +57,17 @@ pub fn minus_multiple(a: Vector, q: i64, b: Vector) -> Vector
     r
 }
 
-// Row k loses the combination x of the rows before it.
-pub fn minus_rows(t: &mut Basis, k: usize, x: [i64; 3])
-    requires { ⌜ k ≤ 3 ⌝ }
-    requires { ⌜ length (now t) ≡ 4 ⌝ }
-    requires { ⌜ ((i : ℕ) → natAbs (nth (getD (now t) k []) i) + load (take k x) (take k (now t)) i ≤ room) ⌝ }
-    ensures { λ _. ⌜ now (t .exit) ≡ set (now (t .entry)) k (getD (now (t .entry)) k [] ⊖ comb (take k x) (take k (now (t .entry)))) ⌝ }
+// r loses the combination x of the first d vectors.
+pub fn minus_combination(r: &mut Vector, b: &Basis, d: usize, x: [i64; 4])
+    requires { ⌜ d ≤ 4 ⌝ }
+    requires { ⌜ length (now b) ≡ 4 ⌝ }
+    requires { ⌜ length (now r) ≡ mostCoordinates ⌝ }
+    requires { ⌜ ((i : ℕ) → natAbs (nth (now r) i) + load (take d x) (take d (now b)) i ≤ room) ⌝ }
+    ensures { λ _. ⌜ length (now (r .exit)) ≡ mostCoordinates ⌝ }
+    ensures { λ _. ⌜ now (r .exit) ≡ now (r .entry) ⊖ comb (take d x) (take d (now (b .entry))) ⌝ }
 {
-    for j in 0..k {
-        t[k] = minus_multiple(t[k], x[j], t[j]);
+    for j in 0..d {
+        *r = minus_multiple(*r, x[j], b[j]);
     }
 }
 

@@ -47,25 +47,28 @@ given c = c .before .before .before .checked .last .1 .1 .1 .0
 read : (c : tie.Else2) → given c ≡ table mostVectors mostCoordinates (basis (untargeted (c .before .before .before .before .before)))
 read c = c .before .before .before .checked .ensures .1 (c .before .before .if1 .left)
 
-formed-is : (c : tie.After-unit-table) → let a = c .before .before .before in c .before .formed .result ≡ formed (take (a .before .before .before .before .before .args .d) (table mostVectors mostCoordinates (basis (untargeted (a .before .before .before .before .before)))))
-formed-is c = let a = c .before .before .before in c .before .formed .ensures ∙ ap (λ t. formed (take (a .before .before .before .before .before .args .d) t)) (read a)
+abbrev formed-gram : tie.After-formed → List (List ℤ)
+formed-gram c = c .formed .last .1 .1 .0
 
-begun : (c : tie.After-unit-table) → let a = c .before .before .before in Reducible (a .before .before .before .before .before .args .d) 0 (c .before .formed .result) (given a) (c .unit-table .result) (c .unit-table .result)
-begun c = let a = c .before .before .before in begins (untargeted (a .before .before .before .before .before)) (first (a .before .before)) (formed-is c) (read a) (c .unit-table .ensures)
+formed-is : (c : tie.After-unit-table) → let a = c .before .before .before .before in formed-gram (c .before) ≡ formed (take (a .before .before .before .before .before .args .d) (table mostVectors mostCoordinates (basis (untargeted (a .before .before .before .before .before)))))
+formed-is c = let a = c .before .before .before .before in c .before .formed .ensures ∙ ap (λ t. formed (take (a .before .before .before .before .before .args .d) t)) (read a)
 
-outcome-of : (c : tie.After-reduce-first) → let a = c .before .before .before .before in let i = untargeted (a .before .before .before .before .before) in Outcome whole (i .d) 0 (Begin.first i (first (a .before .before))) (c .reduce-first .result)
+begun : (c : tie.After-unit-table) → let a = c .before .before .before .before in Reducible (a .before .before .before .before .before .args .d) 0 (formed-gram (c .before)) (given a) (c .unit-table .result) (c .unit-table .result)
+begun c = let a = c .before .before .before .before in begins (untargeted (a .before .before .before .before .before)) (first (a .before .before)) (formed-is c) (read a) (c .unit-table .ensures)
+
+outcome-of : (c : tie.After-reduce-first) → let a = c .before .before .before .before .before in let i = untargeted (a .before .before .before .before .before) in Outcome whole (i .d) 0 (Begin.first i (first (a .before .before))) (c .reduce-first .result)
 unfolding begun
 outcome-of c = c .reduce-first .ensures (begun (c .before))
 
 -- what is searched
 abbrev start : tie.After-vector → tie.Start
-start c = c .before .before .before .before .before .before .before .before .before .before .before .before .before .before
+start c = c .before .before .before .before .before .before .before .before .before .before .before .before .before .before .before
 
 one : (c : tie.After-vector) → firstOf vectorChecks (input (start c)) ≡ 0
-one c = first (c .before .before .before .before .before .before .before .before .before .before .before)
+one c = first (c .before .before .before .before .before .before .before .before .before .before .before .before)
 
 two : (c : tie.After-vector) → firstOf targetChecks (input (start c)) ≡ 0
-two c = second (c .before .before .before .before .before .before .before .before .before)
+two c = second (c .before .before .before .before .before .before .before .before .before .before)
 
 vectors-are : (c : tie.After-vector) → c .before .before .vectors-of .result ≡ array (input (start c)) (one c) (two c)
 unfolding one
@@ -109,16 +112,16 @@ returns-2 c =
 
 formed-requires : tie.Need-formed-requires
 formed-requires c κs =
-    let a = c .before in
+    let a = c .before .before in
     let i = untargeted (a .before .before .before .before .before) in
     let e = first (a .before .before) in
-    (accepted i e .most, (ap length (read a) ∙ length-table mostVectors mostCoordinates (basis i), λ j k. rw (read a) (begun-small i e j k)))
+    (accepted i e .most, (ap length (read a) ∙ length-table mostVectors mostCoordinates (basis i), (λ j k. rw (read a) (begun-small i e j k), refl)))
 
 unit-table-requires : tie.Need-unit-table-requires
-unit-table-requires c κs = let a = c .before .before in accepted (untargeted (a .before .before .before .before .before)) (first (a .before .before)) .most
+unit-table-requires c κs = let a = c .before .before .before in accepted (untargeted (a .before .before .before .before .before)) (first (a .before .before)) .most
 
 reduce-first-requires : tie.Need-reduce-first-requires
-reduce-first-requires c κs = let a = c .before .before .before in (accepted (untargeted (a .before .before .before .before .before)) (first (a .before .before)) .most, begun c)
+reduce-first-requires c κs = let a = c .before .before .before .before in (accepted (untargeted (a .before .before .before .before .before)) (first (a .before .before)) .most, begun c)
 
 vectors-of-requires : tie.Need-vectors-of-requires
 vectors-of-requires c κs = search needs
@@ -128,7 +131,7 @@ tables-of-requires c κs = search needs
 
 vector-requires : tie.Need-vector-requires
 vector-requires c κs =
-    let e = c .before .before .before .before .before .before .before .before in
+    let e = c .before .before .before .before .before .before .before .before .before in
     let s = e .before .before .before .before .before in
     (accepted (input s) (first (e .before .before)) .few, omega (arith, targeted (input s) (second e) .count))
 

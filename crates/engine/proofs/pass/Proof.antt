@@ -8,7 +8,7 @@ use Rattle.lattices.specs.Answer.{padded}
 use Rattle.lattices.specs.Laws.Answer.{length-padded}
 use Rattle.gram_matrix.specs.Cross.{entered, crossed, length-entered}
 use Rattle.engine.specs.Laws.Passing.{coefficients}
-use Rattle.engine.specs.Laws.Tables.{Passable, row-four, known, found, left-room, square-room, vectors-lose, us-lose, vs-gain, tied-after}
+use Rattle.engine.specs.Laws.Tables.{Passable, row-four, known, found, left-room, square-room, zero-behind, vectors-lose, us-lose, vs-gain, tied-after}
 use borrow.Author.Needs.{needs}
 use Rattle.engine.proofs.pass.Statement.{statement}
 use Rattle.engine.proofs.pass.Tie as tie
@@ -57,7 +57,7 @@ cross-requires c κs = let a = c .before .before .before .before .before .before
     let t = given s .tied in
     let r = given s .ready in
     let f = s .pre .1 .0 .us in
-    rw (a .among .ensures .0) (rw (x-here a) (s .pre .0, (s .pre .1 .0 .gram, (left-room t r (s .pre .0) f, square-room t r (s .pre .0) f))))
+    rw (a .among .ensures .0) (rw (x-here a) (s .pre .0, (s .pre .1 .0 .gram, (left-room t r (s .pre .0) f, (square-room t r (s .pre .0) f, zero-behind t r (s .pre .0) f)))))
 
 returns : tie.Need-returns
 returns c = let a = c .before .before .before .before .before .before .before .before .before in

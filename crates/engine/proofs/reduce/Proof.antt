@@ -33,13 +33,16 @@ read : (c : tie.Else1) → array c ≡ table mostVectors mostCoordinates (basis 
 read c = c .before .checked .ensures .1 (c .if1 .left)
 
 -- the tables are those with which the definition begins
-gram-is : (c : tie.After-unit-table) → let a = c .before .before .before in c .before .formed .result ≡ formed (take (a .before .before .before .args .d) (table mostVectors mostCoordinates (basis (input (a .before .before .before)))))
-gram-is c = let a = c .before .before .before in c .before .formed .ensures ∙ ap (λ t. formed (take (a .before .before .before .args .d) t)) (read a)
+abbrev gram : tie.After-formed → List (List ℤ)
+gram c = c .formed .last .1 .1 .0
 
-start : (c : tie.After-unit-table) → let a = c .before .before .before in Reducible (a .before .before .before .args .d) 0 (c .before .formed .result) (array a) (c .unit-table .result) (c .unit-table .result)
-start c = let a = c .before .before .before in begins (input (a .before .before .before)) (ok a) (gram-is c) (read a) (c .unit-table .ensures)
+gram-is : (c : tie.After-unit-table) → let a = c .before .before .before .before in gram (c .before) ≡ formed (take (a .before .before .before .args .d) (table mostVectors mostCoordinates (basis (input (a .before .before .before)))))
+gram-is c = let a = c .before .before .before .before in c .before .formed .ensures ∙ ap (λ t. formed (take (a .before .before .before .args .d) t)) (read a)
 
-outcome-of : (c : tie.After-reduce-first) → let a = c .before .before .before .before in let i = input (a .before .before .before) in Outcome whole (i .d) 0 (first i (ok a)) (c .reduce-first .result)
+start : (c : tie.After-unit-table) → let a = c .before .before .before .before in Reducible (a .before .before .before .args .d) 0 (gram (c .before)) (array a) (c .unit-table .result) (c .unit-table .result)
+start c = let a = c .before .before .before .before in begins (input (a .before .before .before)) (ok a) (gram-is c) (read a) (c .unit-table .ensures)
+
+outcome-of : (c : tie.After-reduce-first) → let a = c .before .before .before .before .before in let i = input (a .before .before .before) in Outcome whole (i .d) 0 (first i (ok a)) (c .reduce-first .result)
 unfolding start
 outcome-of c = c .reduce-first .ensures (start (c .before))
 
@@ -54,22 +57,22 @@ returns c = c .refused .ensures ∙ refused-with (input (c .before .before .befo
 
 formed-requires : tie.Need-formed-requires
 formed-requires c κs =
-    let a = c .before in
+    let a = c .before .before in
     let i = input (a .before .before .before) in
-    (facts a .most, (ap length (read a) ∙ length-table mostVectors mostCoordinates (basis i), λ j k. rw (read a) (begun-small i (ok a) j k)))
+    (facts a .most, (ap length (read a) ∙ length-table mostVectors mostCoordinates (basis i), (λ j k. rw (read a) (begun-small i (ok a) j k), refl)))
 
 unit-table-requires : tie.Need-unit-table-requires
-unit-table-requires c κs = facts (c .before .before) .most
+unit-table-requires c κs = facts (c .before .before .before) .most
 
 reduce-first-requires : tie.Need-reduce-first-requires
-reduce-first-requires c κs = (facts (c .before .before .before) .most, start c)
+reduce-first-requires c κs = (facts (c .before .before .before .before) .most, start c)
 
 finished-requires : tie.Need-finished-requires
 finished-requires c κs = search needs
 
 returns-2 : tie.Need-returns-2
 returns-2 c =
-    let a = c .before .before .before .before .before in
+    let a = c .before .before .before .before .before .before in
     c .finished .ensures ∙ accepted-answer (input (a .before .before .before)) (ok a) (c .before .reduce-first .result) (outcome-of (c .before))
 
 pub reduce-spec : {M : Type 1} → statement M

@@ -18,6 +18,7 @@ use Rattle.lattices.specs.Refusal.{mostVectors}
 use Rattle.lattices.specs.Greedy as Greedy
 use Rattle.lattices.specs.Greedy.{Row}
 use Rattle.lattices.specs.Answer.{padded}
+use Rattle.lattices.specs.Laws.Answer.{nth-padded}
 use Rattle.successive_minima.specs.Reduced.{Reduced}
 use Rattle.greedy_reduction.specs.Start.{Coordinates, sized-vectors, sized-us}
 use Rattle.row_operations.specs.Minus.{room}
@@ -133,6 +134,11 @@ module _ {K : Kind} {k : ℕ} {g b u v : List (List ℤ)} {rows : List Row} (t :
 
   pub square-room : Within 1000000000000000000 (nth (getD g k [] ⊖ comb (take k x) (take k g)) k)
   square-room = rw x-is (Passing.square-room (t .positive) k rows r three t)
+
+  pub zero-behind : (j : ℕ) → k ≤ j → nth x j ≡ pos 0
+  zero-behind j h =
+      let count = Passing.x-count (t .positive) k rows r three in
+      nth-padded 3 (coefficients k rows) (omega (arith, count, three)) j ∙ List·getD-eq-default (coefficients k rows) (pos 0) (omega (arith, count, h))
 
   vectors-fit : (s : Bool) → K .vectors ≡ s → (i : ℕ) → natAbs (nth (getD (scaled (bit s) (Greedy.vectors rows)) k []) i) + load (take k x) (take k (scaled (bit s) (Greedy.vectors rows))) i ≤ room
   unfolding Room.x

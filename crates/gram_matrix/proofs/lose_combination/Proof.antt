@@ -1,16 +1,18 @@
 -- `lose_combination`: after j turns the first j multiples are taken away.
 use mathlib.Core.Path.{_≡_, sym, ap, _∙_}
-use mathlib.Core.List.{map}
+use mathlib.Core.List.{List, [], map}
 use Prim.Native.Nat.{_≤_, _<_, _-_}
 use native.Mathlib.Numerals.{add-one}
 use native.Mathlib.Omega.{arith}
-use lib.ListN.{length, set, take, length-set, length-map}
+use lib.IntN.{ℤ}
+use lib.ListN.{length, getD, set, take, length-set, length-map}
+use lib.Seq.{set-getD}
 use mir.Syntax.{w64}
 use mir.Val.{SFits}
 use mir.Facts.{toZ-ofZ}
 use denote.Ref.{now}
 use Rattle.lattices.specs.Vector.{nth}
-use Rattle.row_operations.specs.Loss.{left, left-zero}
+use Rattle.row_operations.specs.Loss.{left, left-none}
 use Rattle.gram_matrix.specs.Columns.{gainedAt, gainedColumns, columns-none}
 use Rattle.gram_matrix.specs.Lose.{lost, losable, lost-next, gainable, gained-next}
 use borrow.Author.Needs.{needs}
@@ -21,7 +23,7 @@ use Rattle.gram_matrix.proofs.lose_combination.Lts as lts
 use Rattle.gram_matrix.proofs.lose_multiple.Reads as lose-multiple-reads
 
 abbrev Inv-loop : tie.InvT-loop
-Inv-loop b₀ u₀ v₀ k x j₀ b u v j = (j ≤ k) × ((b ≡ set b₀ k (left x b₀ k j)) × ((u ≡ set u₀ k (left x u₀ k j)) × (v ≡ gainedColumns (take j x) k v₀)))
+Inv-loop b₀ u₀ v₀ k x j₀ b u v j = (j ≤ k) × ((b ≡ set b₀ k (left x b₀ (getD b₀ k []) j)) × ((u ≡ set u₀ k (left x u₀ (getD u₀ k []) j)) × (v ≡ gainedColumns (take j x) k v₀)))
 
 abbrev μ-loop : tie.MeasureT-loop
 μ-loop b₀ u₀ v₀ k x j₀ b u v j = k - j
@@ -30,7 +32,8 @@ loop-holds : tie.Need-loop-holds Inv-loop μ-loop
 loop-holds c =
     let x = now (c .args .x) in
     let k = c .args .k in
-    (search needs, (sym (left-zero x (now (c .args .b)) k), (sym (left-zero x (now (c .args .u)) k), sym (columns-none k x (now (c .args .v))))))
+    let none : (t : List (List ℤ)) → set t k (left x t (getD t k []) 0) ≡ t = λ t. ap (set t k) (left-none x t (getD t k [])) ∙ set-getD t k [] in
+    (search needs, (sym (none (now (c .args .b))), (sym (none (now (c .args .u))), sym (columns-none k x (now (c .args .v))))))
 
 mul-lose-multiple : tie.Need-mul-lose-multiple Inv-loop μ-loop
 mul-lose-multiple c = search needs
@@ -109,9 +112,9 @@ returns c =
     let x = now (s .args .x) in
     let k = s .args .k in
     let e : l .loop .j ≡ k = search needs in (
-      l .loop .inv .1 .0 ∙ ap (λ j. set (now (s .args .b)) k (left x (now (s .args .b)) k j)) e,
+      l .loop .inv .1 .0 ∙ ap (λ j. set (now (s .args .b)) k (left x (now (s .args .b)) (getD (now (s .args .b)) k []) j)) e,
       (
-        l .loop .inv .1 .1 .0 ∙ ap (λ j. set (now (s .args .u)) k (left x (now (s .args .u)) k j)) e,
+        l .loop .inv .1 .1 .0 ∙ ap (λ j. set (now (s .args .u)) k (left x (now (s .args .u)) (getD (now (s .args .u)) k []) j)) e,
         l .loop .inv .1 .1 .1 ∙ ap (λ j. gainedColumns (take j x) k (now (s .args .v))) e,
       ),
     )

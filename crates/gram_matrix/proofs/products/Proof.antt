@@ -36,7 +36,7 @@ element-copy-out-dot c = search needs
 dot-requires : tie.Need-dot-requires Inv-loop μ-loop
 dot-requires c κs = let l = c .before .before in
     let s = l .before in
-    (s .pre .1 .1 .0 (l .loop .j), s .pre .1 .1 .1 .0)
+    (λ i. s .pre .1 .1 .0 (l .loop .j) i (search needs), s .pre .1 .1 .1 .0)
 
 mul-t12 : tie.Need-mul-t12 Inv-loop μ-loop
 mul-t12 c = search needs
