@@ -127,7 +127,7 @@ fn dependent(e: Entry) -> bool
     let coordinates = e.coordinates;
     let n = e.d * e.m;
     let b = input_checks::basis(&coordinates[..n], e.d, e.m);
-    input_checks::dependent(b, e.d)
+    input_checks::dependent(&b, e.d)
 }
 
 // Row "after reading", 5: at the head of the first dependent entry.

@@ -119,6 +119,11 @@ behind (p ∷ q ∷ r ∷ s ∷ []) h w =
     (λ n o t u. all e f g i j k l m n o t u a b c d) s (w 3 (omega arith))) r (w 2 (omega arith))) q (w 1 (omega arith))) p (w 0 (omega arith))
 behind (p ∷ q ∷ r ∷ s ∷ t ∷ rows) h w = absurd (omega arith)
 
+-- with unit rows behind two rows one term is left
+pub pair-behind : (p q : Vec) → determinantOf (p ∷ q ∷ drop 2 unitRows) ≡ pairOf p q 0 1
+pair-behind p q =
+    by-ring (nth p 0 ∷ nth p 1 ∷ nth p 2 ∷ nth p 3 ∷ nth q 0 ∷ nth q 1 ∷ nth q 2 ∷ nth q 3 ∷ []) (search reads depth 30 fits 5000) (search reads depth 30 fits 5000) tt
+
 -- ---- expansion at a row
 
 -- of three rows: the determinant of their coordinates i, j and k

@@ -9,7 +9,7 @@ use native.Mathlib.Numerals.{add-one}
 use native.Mathlib.Omega.{arith}
 use lib.IntN.{ℤ, pos}
 use lib.ListN.{length, getD, set, take, drop, replicate, length-take, length-map, length-set, length-append, length-drop}
-use lib.Seq.{getD-drop}
+use lib.Seq.{getD-take, getD-drop}
 use lib.Signed.{_≤ℤ_}
 use Rattle.integers.specs.AllLaws.{getD-map, take-map}
 use Rattle.integers.specs.Filled.{filled}
@@ -26,7 +26,7 @@ use Rattle.exterior_algebra.specs.Minors.{marks, pick, full, volume-off, minor-
 use Rattle.input_checks.specs.declared.minors.Minor.{Minor}
 use Rattle.input_checks.specs.Choice.{choice, places, firsts, fourAt}
 use Rattle.input_checks.specs.Choices.{number, number-<, choice-number, marks-≤, length-places, places-<, pick-from, marks-firsts}
-use Rattle.input_checks.specs.Determinant.{determinantOf, unitRows, behind, cofactorsOf, expands, Small}
+use Rattle.input_checks.specs.Determinant.{pairOf, determinantOf, unitRows, behind, pair-behind, cofactorsOf, expands, Small}
 use Rattle.input_checks.specs.Any.{within-limit}
 use Rattle.input_checks.specs.Lengths.{short-within, short-from}
 
@@ -96,6 +96,12 @@ set-map f [] j x = refl
 set-map f (y ∷ l) zero x = refl
 set-map f (y ∷ l) (suc j) x = ap (λ k. f y ∷ k) (set-map f l j x)
 
+two-rows : (at : List ℕ) (cs : List Vec) → length cs ≡ 2 → determinantOf (map (fourAt at) cs ++ drop 2 unitRows) ≡ pairOf (fourAt at (getD cs 0 [])) (fourAt at (getD cs 1 [])) 0 1
+two-rows at [] e = absurd (omega arith)
+two-rows at (p ∷ []) e = absurd (omega arith)
+two-rows at (p ∷ q ∷ []) e = pair-behind (fourAt at p) (fourAt at q)
+two-rows at (p ∷ q ∷ r ∷ cs) e = absurd (omega arith)
+
 module _ (at : List ℕ) (d : ℕ) (few : d ≤ mostVectors) (long : mostVectors ≤ length at) (s : Index) (count : marks s ≡ d) (taken : take d at ≡ places 0 s) where
   picked : (v : Vec) → pick (firsts mostVectors d) (fourAt at v) ≡ pick s v
   picked v =
@@ -119,6 +125,13 @@ module _ (at : List ℕ) (d : ℕ) (few : d ≤ mostVectors) (long : mostVectors
       ap (λ k. determinantOf (rows ++ drop k unitRows)) (sym n)
       ∙ behind rows (omega (arith, n, few)) (λ i h. ap length (getD-map (fourAt at) cs [] [] i (omega (arith, n, e))) ∙ length-padded mostVectors (map (nth (getD cs i [])) (take mostVectors at)))
       ∙ ap (λ k. volume rows (firsts mostVectors k)) n ∙ minor-four cs
+
+  -- of two vectors it is a pair
+  pub pair-is : d ≡ 2 → (b : List Vec) → length b ≡ 4 → pairOf (fourAt at (getD b 0 [])) (fourAt at (getD b 1 [])) 0 1 ≡ volume (take d b) s
+  pair-is two b e =
+      let n : length (take d b) ≡ d = omega (arith, length-take d b, few, e) in
+      ap₂ (λ p q. pairOf (fourAt at p) (fourAt at q) 0 1) (sym (getD-take d b 0 [] (omega (arith, two)))) (sym (getD-take d b 1 [] (omega (arith, two))))
+      ∙ sym (two-rows at (take d b) (n ∙ two)) ∙ ap (λ k. determinantOf (map (fourAt at) (take d b) ++ drop k unitRows)) (sym two) ∙ minor-is (take d b) n
 
   -- and with another vector in the place of vector j it is an inner product with cofactors
   pub cofactors-give : (cs : List Vec) → length cs ≡ d → (j : ℕ) → j < d → (v : Vec) → dot (cofactorsOf (map (fourAt at) cs ++ drop d unitRows) j) (fourAt at v) ≡ volume (set cs j v) s
@@ -150,6 +163,9 @@ picked-small v h (suc n) [] zero = zero-small
 picked-small v h (suc n) [] (suc c) = picked-small v h n [] c
 picked-small v h (suc n) (k ∷ l) zero = h k
 picked-small v h (suc n) (k ∷ l) (suc c) = picked-small v h n l c
+
+pub four-small : (at : List ℕ) (v : Vec) → N v ≤ℤ pos 400000000 → Small (fourAt at v)
+four-small at v h = picked-small v (short-within v h) mostVectors (take mostVectors at)
 
 rows-small : (at : List ℕ) (cs : List Vec) → ((r : ℕ) → Small (getD cs r [])) → (r : ℕ) → Small (getD (map (fourAt at) cs) r [])
 rows-small at [] f r = λ c. zero-small

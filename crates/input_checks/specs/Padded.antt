@@ -9,10 +9,11 @@ use native.Mathlib.Nat.{le-of-suc-le-suc, not-suc-le-zero, le-trans}
 use native.Mathlib.Omega.{arith}
 use native.Mathlib.Numerals.{add-one}
 use lib.IntN.{ℤ, pos, natAbs}
-use lib.ListN.{length, set, take, drop, length-take, length-drop, length-map}
+use lib.ListN.{length, getD, set, take, drop, length-take, length-drop, length-map}
 use lib.Seq.{take-all, drop-drop, getD-drop}
 use lib.Dec.{ltb}
 use lib.Signed.{ltZ}
+use Rattle.row_operations.specs.Front.{front, front-suc}
 use Rattle.lattices.specs.Vector.{Vec, nth, comb, Dependent}
 use Rattle.lattices.specs.Laws.Vector.{_≈_, ≈-refl, ≈-⊕, ≈-⊙, ≈-N, ≈-nth}
 use Rattle.lattices.specs.Volume.{isDependent}
@@ -24,18 +25,25 @@ use Rattle.exterior_algebra.specs.Dependence.{Fit, dependent-exactly}
 
 -- ---- one coordinate more, one row more, as code stores them
 
-set-next : (n j : ℕ) (l : List ℤ) → j < n → j < length l → set (padded n (take j l)) j (nth l j) ≡ padded n (take (suc j) l)
-set-next zero j l h k = absurd (not-suc-le-zero h)
-set-next (suc n) j [] h k = absurd (not-suc-le-zero k)
-set-next (suc n) zero (x ∷ l) h k = refl
-set-next (suc n) (suc j) (x ∷ l) h k = ap (λ r. x ∷ r) (set-next n j l (le-of-suc-le-suc h) (le-of-suc-le-suc k))
-
-pub padded-more : (n at j : ℕ) (l : List ℤ) {v : List ℤ} {x : ℤ} → j < n → at + j < length l → v ≡ padded n (take j (drop at l)) → x ≡ nth l (at + j)
-    → set v j x ≡ padded n (take (j + 1) (drop at l))
-padded-more n at j l h k e f =
+pub front-more : (at j : ℕ) (l old : List ℤ) {v : List ℤ} {x : ℤ} → at + j < length l → j < length old → v ≡ front j (drop at l) old → x ≡ nth l (at + j)
+    → set v j x ≡ front (j + 1) (drop at l) old
+front-more at j l old h k e f =
     ap₂ (λ v x. set v j x) e (f ∙ sym (getD-drop at l j (pos 0)))
-    ∙ set-next n j (drop at l) h (omega (arith, length-drop at l))
-    ∙ ap (λ i. padded n (take i (drop at l))) (sym (add-one j))
+    ∙ front-suc j (drop at l) old (pos 0) (omega (arith, length-drop at l)) k
+    ∙ ap (λ i. front i (drop at l) old) (sym (add-one j))
+
+-- numbers in front of zeros
+pub front-zeros : (n m : ℕ) (l : List ℤ) → m ≤ n → m ≤ length l → front m l (padded n []) ≡ padded n (take m l)
+front-zeros n zero l h k = refl
+front-zeros zero (suc m) l h k = absurd (not-suc-le-zero h)
+front-zeros (suc n) (suc m) [] h k = absurd (not-suc-le-zero k)
+front-zeros (suc n) (suc m) (x ∷ l) h k = ap {B = List ℤ} (λ r. x ∷ r) (front-zeros n m l (le-of-suc-le-suc h) (le-of-suc-le-suc k))
+
+-- the next row is zeros still
+next-zeros : (h w i m : ℕ) (l : List ℤ) → i < h → getD (table h w (vectorsOf i m l)) i [] ≡ padded w []
+next-zeros zero w i m l k = absurd (not-suc-le-zero k)
+next-zeros (suc h) w zero m l k = refl
+next-zeros (suc h) w (suc i) m l k = next-zeros h w i m (drop m l) (le-of-suc-le-suc k)
 
 set-row : (h w i m : ℕ) (l : List ℤ) → i < h
     → set (table h w (vectorsOf i m l)) i (padded w (take m (drop (i * m) l))) ≡ table h w (vectorsOf (suc i) m l)
@@ -48,10 +56,17 @@ set-row (suc h) w (suc i) m l k =
     ap (λ r. padded w (take m l) ∷ set (table h w (vectorsOf i m (drop m l))) i (padded w (take m r))) (ap (λ n. drop n l) next ∙ sym (drop-drop (i * m) m l))
     ∙ ap (λ t. padded w (take m l) ∷ t) (set-row h w i m (drop m l) (le-of-suc-le-suc k))
 
-pub table-more : (h w i m : ℕ) (l : List ℤ) {t : List (List ℤ)} {r : List ℤ} → i < h → t ≡ table h w (vectorsOf i m l) → r ≡ padded w (take m (drop (i * m) l))
-    → set t i r ≡ table h w (vectorsOf (i + 1) m l)
-table-more h w i m l k e f =
-    ap₂ (λ t r. set t i r) e f ∙ set-row h w i m l k ∙ ap (λ n. table h w (vectorsOf n m l)) (sym (add-one i))
+module _ (h w i m : ℕ) (l : List ℤ) {t : List (List ℤ)} (k : i < h) (e : t ≡ table h w (vectorsOf i m l)) where
+  next-row : getD t i [] ≡ padded w []
+  next-row = ap (λ t. getD t i []) e ∙ next-zeros h w i m l k
+
+  pub next-wide : length (getD t i []) ≡ w
+  next-wide = ap length next-row ∙ length-padded w []
+
+  pub table-more : {r : List ℤ} → m ≤ w → i * m + m ≤ length l → r ≡ front m (drop (i * m) l) (getD t i []) → set t i r ≡ table h w (vectorsOf (i + 1) m l)
+  table-more n f g =
+      ap₂ (λ t r. set t i r) e (g ∙ ap (front m (drop (i * m) l)) next-row ∙ front-zeros w m (drop (i * m) l) n (omega (arith, length-drop (i * m) l)))
+      ∙ set-row h w i m l k ∙ ap (λ n. table h w (vectorsOf n m l)) (sym (add-one i))
 
 -- ---- zeros change no inner product
 

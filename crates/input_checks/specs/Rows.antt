@@ -1,11 +1,11 @@
 -- The rows of the array against the vectors of the input: the same are too long, and the same lists are dependent.
 use mathlib.Core.Path.{_≡_, refl, sym, ap, _∙_, subst}
 use mathlib.Core.Bool.{false}
-use mathlib.Core.List.{List, [], map}
-use Prim.Native.Nat.{ℕ, _≤_, _<_}
+use mathlib.Core.List.{List, [], _∷_, map}
+use Prim.Native.Nat.{ℕ, zero, suc, _≤_, _<_}
 use native.Mathlib.Nat.{le-trans}
 use lib.IntN.{ℤ, pos}
-use lib.ListN.{getD, take}
+use lib.ListN.{length, getD, take}
 use lib.Seq.{getD-take}
 use lib.Signed.{_≤ℤ_}
 use Rattle.integers.specs.Order.{ltZ-false}
@@ -29,6 +29,11 @@ short d b e i h =
     subst (λ v. N v ≤ℤ pos 400000000) (getD-take d b i [] h)
     (ltZ-false (neither (any beyond (getD (take d b) i [])) _ (any-none tooLong [] nil-short (take d b) e i) .1))
 
+length-table : (h w : ℕ) (rows : List Vec) → length (table h w rows) ≡ h
+length-table zero w rows = refl
+length-table (suc h) w [] = ap suc (length-table h w [])
+length-table (suc h) w (r ∷ rows) = ap suc (length-table h w rows)
+
 module _ (d m : ℕ) (l : List ℤ) {b : List Vec} (few : d ≤ 4) (narrow : m ≤ 4) (is : b ≡ table 4 4 (vectorsOf d m l)) where
   rows : take d b ≡ map (padded 4) (vectorsOf d m l)
   rows =
@@ -36,6 +41,9 @@ module _ (d m : ℕ) (l : List ℤ) {b : List Vec} (few : d ≤ 4) (narrow : m �
       ap (take d) is
       ∙ ap (λ k. take k (table 4 4 (vectorsOf d m l))) (sym n)
       ∙ table-rows 4 4 (vectorsOf d m l) (subst (λ k. k ≤ 4) (sym n) few)
+
+  pub four-rows : length b ≡ 4
+  four-rows = ap length is ∙ length-table 4 4 (vectorsOf d m l)
 
   pub long-rows : any tooLong (take d b) ≡ any tooLong (vectorsOf d m l)
   long-rows =

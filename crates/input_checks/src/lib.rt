@@ -5,6 +5,7 @@ ghost use Prim.Native.Nat.{ℕ, _+_, _*_, _<_, _≤_};
 ghost use lib.IntN.{pos};
 ghost use lib.ListN.{length, take, drop, getD};
 ghost use lib.Signed.{_≤ℤ_};
+ghost use Rattle.row_operations.specs.Front.{front};
 ghost use Rattle.lattices.specs.Vector.{N};
 ghost use Rattle.lattices.specs.Volume.{isDependent};
 ghost use Rattle.lattices.specs.Refusal.{mostVectors, mostCoordinates, vectorsOf, tooLong, oneTo, firstOf, vectorChecks, targetChecks};
@@ -31,6 +32,17 @@ const MOST_SIZE: i64 = 20000;
 
 pub const MOST_SQUARE: i64 = 400000000;
 
+// The first m places of a row become the m numbers from `at` on.
+fn take_numbers(numbers: &[i64], at: usize, row: &mut [i64], m: usize)
+    requires { ⌜ at + m ≤ length (now numbers) ⌝ }
+    requires { ⌜ m ≤ length (now row) ⌝ }
+    ensures { λ _. ⌜ now (row .exit) ≡ front m (drop at (now (numbers .entry))) (now (row .entry)) ⌝ }
+{
+    for j in 0..m {
+        row[j] = numbers[at + j];
+    }
+}
+
 // The m numbers from `at` on as a vector of the array: zeros follow.
 pub fn vector(numbers: &[i64], at: usize, m: usize) -> Vector
     requires { ⌜ m ≤ mostCoordinates ⌝ }
@@ -38,9 +50,7 @@ pub fn vector(numbers: &[i64], at: usize, m: usize) -> Vector
     ensures { λ r. ⌜ r ≡ padded mostCoordinates (take m (drop at (now (numbers .entry)))) ⌝ }
 {
     let mut v = [0; WIDTH];
-    for j in 0..m {
-        v[j] = numbers[at + j];
-    }
+    take_numbers(numbers, at, &mut v, m);
     v
 }
 
@@ -53,7 +63,7 @@ fn fill(numbers: &[i64], d: usize, m: usize, b: &mut Basis)
     ensures { λ _. ⌜ now (b .exit) ≡ table mostVectors mostCoordinates (vectorsOf d m (now (numbers .entry))) ⌝ }
 {
     for i in 0..d {
-        b[i] = vector(numbers, i * m, m);
+        take_numbers(numbers, i * m, &mut b[i], m);
     }
 }
 
@@ -96,9 +106,10 @@ pub fn long(v: Vector) -> bool
 }
 
 // Whether one of the first d vectors is too long.
-fn any_long(b: Basis, d: usize) -> bool
+fn any_long(b: &Basis, d: usize) -> bool
     requires { ⌜ d ≤ mostVectors ⌝ }
-    ensures { λ r. ⌜ r ≡ any tooLong (take d b) ⌝ }
+    requires { ⌜ length (now b) ≡ 4 ⌝ }
+    ensures { λ r. ⌜ r ≡ any tooLong (take d (now (b .entry))) ⌝ }
 {
     for i in 0..d {
         if long(b[i]) {
@@ -109,10 +120,11 @@ fn any_long(b: Basis, d: usize) -> bool
 }
 
 // Whether the first d vectors, within the length limit, are dependent: no minor is other than zero.
-pub fn dependent(b: Basis, d: usize) -> bool
+pub fn dependent(b: &Basis, d: usize) -> bool
     requires { ⌜ d ≤ mostVectors ⌝ }
-    requires { ⌜ ((i : ℕ) → i < d → N (getD b i []) ≤ℤ pos 400000000) ⌝ }
-    ensures { λ r. ⌜ r ≡ isDependent mostCoordinates (take d b) ⌝ }
+    requires { ⌜ length (now b) ≡ 4 ⌝ }
+    requires { ⌜ ((i : ℕ) → i < d → N (getD (now b) i []) ≤ℤ pos 400000000) ⌝ }
+    ensures { λ r. ⌜ r ≡ isDependent mostCoordinates (take d (now (b .entry))) ⌝ }
 {
     let m = first_minor(b, d);
     m.minor == 0
@@ -142,10 +154,10 @@ pub fn checked(numbers: &[i64], d: usize, m: usize, b: &mut Basis) -> u64
         return 3;
     }
     fill(numbers, d, m, b);
-    if any_long(*b, d) {
+    if any_long(b, d) {
         return 4;
     }
-    if dependent(*b, d) {
+    if dependent(b, d) {
         return 5;
     }
     ACCEPTED

@@ -3,7 +3,7 @@ ghost use mathlib.Core.Path.{_≡_};
 ghost use mathlib.Core.List.{[], _++_, map};
 ghost use Prim.Native.Nat.{ℕ, _≤_, _<_};
 ghost use lib.IntN.{pos};
-ghost use lib.ListN.{getD, take, drop};
+ghost use lib.ListN.{length, getD, take, drop};
 ghost use lib.Signed.{_≤ℤ_};
 ghost use Rattle.integers.specs.Filled.{filled};
 ghost use Rattle.integers.specs.Size.{Within};
@@ -68,10 +68,11 @@ pub fn pick(v: Vector, at: [usize; WIDTH]) -> [i64; 4]
 }
 
 // A row of those of each of d vectors, unit rows behind them.
-pub fn square(b: Basis, at: [usize; WIDTH], d: usize) -> [[i64; 4]; 4]
+pub fn square(b: &Basis, at: [usize; WIDTH], d: usize) -> [[i64; 4]; 4]
     requires { ⌜ d ≤ mostVectors ⌝ }
+    requires { ⌜ length (now b) ≡ 4 ⌝ }
     requires { ⌜ ((i : ℕ) → i < mostVectors → getD at i 0 < mostCoordinates) ⌝ }
-    ensures { λ r. ⌜ r ≡ map (fourAt at) (take d b) ++ drop d unitRows ⌝ }
+    ensures { λ r. ⌜ r ≡ map (fourAt at) (take d (now (b .entry))) ++ drop d unitRows ⌝ }
 {
     let mut t = [[1, 0, 0, 0], [0, 1, 0, 0], [0, 0, 1, 0], [0, 0, 0, 1]];
     for i in 0..d {
@@ -110,12 +111,16 @@ fn determinant(t: [[i64; 4]; 4]) -> i64
 }
 
 // The minor of d vectors at the coordinates in the first d places of a list.
-fn minor_of(b: Basis, at: [usize; WIDTH], d: usize) -> i64
+fn minor_of(b: &Basis, at: [usize; WIDTH], d: usize) -> i64
     requires { ⌜ d ≤ mostVectors ⌝ }
-    requires { ⌜ ((i : ℕ) → i < d → N (getD b i []) ≤ℤ pos 400000000) ⌝ }
+    requires { ⌜ length (now b) ≡ 4 ⌝ }
+    requires { ⌜ ((i : ℕ) → i < d → N (getD (now b) i []) ≤ℤ pos 400000000) ⌝ }
     requires { ⌜ ((i : ℕ) → i < mostVectors → getD at i 0 < mostCoordinates) ⌝ }
-    ensures { λ r. ⌜ ((s : Index) → marks s ≡ d → take d at ≡ places 0 s → r ≡ volume (take d b) s) ⌝ }
+    ensures { λ r. ⌜ ((s : Index) → marks s ≡ d → take d at ≡ places 0 s → r ≡ volume (take d (now (b .entry))) s) ⌝ }
 {
+    if d == 2 {
+        return pair(pick(b[0], at), pick(b[1], at), 0, 1);
+    }
     determinant(square(b, at, d))
 }
 
@@ -126,10 +131,11 @@ pub struct Minor {
 }
 
 // The minor of d vectors at the choice with that number: 0 where the choice takes more or fewer coordinates than there are vectors.
-fn minor_at(b: Basis, d: usize, number: usize) -> Minor
+fn minor_at(b: &Basis, d: usize, number: usize) -> Minor
     requires { ⌜ d ≤ mostVectors ⌝ }
-    requires { ⌜ ((i : ℕ) → i < d → N (getD b i []) ≤ℤ pos 400000000) ⌝ }
-    ensures { λ r. ⌜ (r .minor ≡ volume (take d b) (choice mostCoordinates number)) × (r .at ≡ filled 0 mostCoordinates (places 0 (choice mostCoordinates number))) ⌝ }
+    requires { ⌜ length (now b) ≡ 4 ⌝ }
+    requires { ⌜ ((i : ℕ) → i < d → N (getD (now b) i []) ≤ℤ pos 400000000) ⌝ }
+    ensures { λ r. ⌜ (r .minor ≡ volume (take d (now (b .entry))) (choice mostCoordinates number)) × (r .at ≡ filled 0 mostCoordinates (places 0 (choice mostCoordinates number))) ⌝ }
 {
     let c = choice_of(number);
     let at = c.at;
@@ -143,10 +149,11 @@ fn minor_at(b: Basis, d: usize, number: usize) -> Minor
 }
 
 // The first minor by number that is not zero.
-fn other_minor(b: Basis, d: usize) -> Minor
+fn other_minor(b: &Basis, d: usize) -> Minor
     requires { ⌜ d ≤ mostVectors ⌝ }
-    requires { ⌜ ((i : ℕ) → i < d → N (getD b i []) ≤ℤ pos 400000000) ⌝ }
-    ensures { λ r. ⌜ FirstMinor (take d b) r ⌝ }
+    requires { ⌜ length (now b) ≡ 4 ⌝ }
+    requires { ⌜ ((i : ℕ) → i < d → N (getD (now b) i []) ≤ℤ pos 400000000) ⌝ }
+    ensures { λ r. ⌜ FirstMinor (take d (now (b .entry))) r ⌝ }
 {
     for number in 0..CHOICES {
         let m = minor_at(b, d, number);
@@ -161,10 +168,11 @@ fn other_minor(b: Basis, d: usize) -> Minor
 }
 
 // A minor of d vectors that is not zero, and zero where there is none. The first d coordinates are tried first.
-pub fn first_minor(b: Basis, d: usize) -> Minor
+pub fn first_minor(b: &Basis, d: usize) -> Minor
     requires { ⌜ d ≤ mostVectors ⌝ }
-    requires { ⌜ ((i : ℕ) → i < d → N (getD b i []) ≤ℤ pos 400000000) ⌝ }
-    ensures { λ r. ⌜ FirstMinor (take d b) r ⌝ }
+    requires { ⌜ length (now b) ≡ 4 ⌝ }
+    requires { ⌜ ((i : ℕ) → i < d → N (getD (now b) i []) ≤ℤ pos 400000000) ⌝ }
+    ensures { λ r. ⌜ FirstMinor (take d (now (b .entry))) r ⌝ }
 {
     let at = in_order();
     let minor = minor_of(b, at, d);

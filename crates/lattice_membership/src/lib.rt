@@ -110,14 +110,14 @@ pub fn lattice_of(b: [Vector; 4], d: usize) -> Lattice
     ensures { λ r. ⌜ Known r ⌝ }
     ensures { λ r. ⌜ (r .d ≡ d) × (vectorsIn r ≡ take d b) ⌝ }
 {
-    let m = first_minor(b, d);
+    let m = first_minor(&b, d);
     let at = m.at;
     Lattice {
         d,
         vectors: vector_rows(b),
         choice: at,
         minor: m.minor,
-        cofactors: cofactor_rows(square(b, at, d), d),
+        cofactors: cofactor_rows(square(&b, at, d), d),
     }
 }
 

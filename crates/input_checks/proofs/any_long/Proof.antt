@@ -5,6 +5,7 @@ use Prim.Native.Nat.{_-_, _<_}
 use native.Mathlib.Omega.{arith}
 use lib.Seq.{getD-take}
 use lib.ListN.{take, drop, getD, length, length-take}
+use denote.Ref.{now}
 use borrow.Author.Needs.{needs}
 use Rattle.lattices.specs.Vector.{Vec}
 use Rattle.integers.specs.Every.{any}
@@ -14,10 +15,10 @@ use Rattle.input_checks.proofs.any_long.Statement.{statement}
 use Rattle.input_checks.proofs.any_long.Tie as tie
 
 abbrev Inv-loop : tie.InvT-loop
-Inv-loop d b i₀ i = any tooLong (take d b) ≡ any tooLong (drop i (take d b))
+Inv-loop b d i₀ i = any tooLong (take d b) ≡ any tooLong (drop i (take d b))
 
 abbrev μ-loop : tie.MeasureT-loop
-μ-loop d b i₀ i = d - i
+μ-loop b d i₀ i = d - i
 
 loop-holds : tie.Need-loop-holds Inv-loop μ-loop
 loop-holds c = search needs
@@ -25,25 +26,25 @@ loop-holds c = search needs
 mul-long : tie.Need-mul-long Inv-loop μ-loop
 mul-long c = search needs
 
-array-copy-out-long : tie.Need-array-copy-out-long Inv-loop μ-loop
-array-copy-out-long c = search needs
+element-copy-out-long : tie.Need-element-copy-out-long Inv-loop μ-loop
+element-copy-out-long c = search needs
 
 long-requires : tie.Need-long-requires Inv-loop μ-loop
 long-requires c κs = search needs
 
 -- the vectors in use, of which i passed
 abbrev first : (c : tie.At-loop Inv-loop μ-loop) → List Vec
-first c = take (c .before .args .d) (c .before .args .t1)
+first c = take (c .before .args .d) (now (c .before .args .b))
 
 tested : (c : tie.After-long Inv-loop μ-loop) → c .long .result ≡ tooLong (getD (first (c .before .before .before)) (c .before .before .before .loop .i) [])
 tested c =
     let l = c .before .before .before in
-    c .long .ensures ∙ ap tooLong (sym (getD-take (l .before .args .d) (l .before .args .t1) (l .loop .i) [] (omega arith)))
+    c .long .ensures ∙ ap tooLong (sym (getD-take (l .before .args .d) (now (l .before .args .b)) (l .loop .i) [] (omega arith)))
 
 within : (c : tie.In-loop Inv-loop μ-loop) → c .before .loop .i < length (first (c .before))
 within c =
-    let h : length (c .before .before .args .t1) ≡ 4 = search needs in
-    omega (arith, length-take (c .before .before .args .d) (c .before .before .args .t1))
+    let s = c .before .before in
+    omega (arith, s .pre .0, s .pre .1, length-take (s .args .d) (now (s .args .b)))
 
 returns : tie.Need-returns Inv-loop μ-loop
 returns c =
@@ -64,7 +65,7 @@ loop-again c =
 returns-2 : tie.Need-returns-2 Inv-loop μ-loop
 returns-2 c =
     let a = c .before .before .args in
-    sym (c .before .loop .inv ∙ any-end tooLong (first (c .before)) (c .before .loop .i) (omega (arith, length-take (a .d) (a .t1))))
+    sym (c .before .loop .inv ∙ any-end tooLong (first (c .before)) (c .before .loop .i) (omega (arith, length-take (a .d) (now (a .b)))))
 
 pub any-long-spec : {M : Type 1} → statement M
 any-long-spec =
@@ -74,7 +75,7 @@ any-long-spec =
     μ-loop
     loop-holds
     mul-long
-    array-copy-out-long
+    element-copy-out-long
     long-requires
     returns
     add-i

@@ -5,7 +5,7 @@ use mathlib.Core.Path.{_≡_, sym, ap, _∙_}
 use Prim.Native.Nat.{ℕ, _≤_}
 use native.Mathlib.Nat.{mul-le-mul}
 use native.Mathlib.Omega.{arith}
-use lib.ListN.{drop}
+use lib.ListN.{length, drop}
 use borrow.Author.Needs.{needs}
 use borrow.Author.Tests.{not-false, eq-eqb, ne-eqb}
 use Rattle.lattices.specs.Laws.Refusal.{one-to}
@@ -13,7 +13,7 @@ use Rattle.lattices.specs.Refusal.{Input, basis, vectorChecks, tooLong, oneTo, 
 use Rattle.integers.specs.Every.{any}
 use Rattle.lattices.specs.Volume.{isDependent}
 use Rattle.input_checks.specs.First.{First, found, none, here, later}
-use Rattle.input_checks.specs.Rows.{short, long-rows, dependent-rows}
+use Rattle.input_checks.specs.Rows.{short, four-rows, long-rows, dependent-rows}
 use Rattle.input_checks.proofs.checked.Statement.{statement}
 use Rattle.input_checks.proofs.checked.Tie as tie
 
@@ -41,6 +41,12 @@ narrow c = one-to mostCoordinates _ (not-false _ (wide c)) .1
 
 full : (c : tie.Else3) {n : ℕ} → First (given (c .before .before .before .before .before)) (drop 3 vectorChecks) n → First (given (c .before .before .before .before .before)) vectorChecks n
 full c p = later (counted (c .before .before .before)) (later (wide (c .before)) (later (ap not (eq-eqb _ _ (c .if3 .left))) p))
+
+four : (c : tie.After-fill) → length (c .fill .last .1 .1 .1 .0) ≡ 4
+four c =
+    let e = c .before .before .before in
+    let a = e .before .before .before .before .args in
+    four-rows (a .d) (a .m) (a .numbers .now) (few e) (narrow e) (c .fill .ensures)
 
 long : (c : tie.After-any-long) → any tooLong (basis (given (c .before .before .before .before .before .before .before .before .before))) ≡ c .any-long .result
 long c =
@@ -74,7 +80,7 @@ fill-requires : tie.Need-fill-requires
 fill-requires c κs = let f = c .before in (few (f .before), (narrow (f .before), (f .if3 .left, f .before .before .before .before .before .pre)))
 
 any-long-requires : tie.Need-any-long-requires
-any-long-requires c κs = few (c .before .before .before .before)
+any-long-requires c κs = (few (c .before .before .before .before), four (c .before))
 
 returns-4 : tie.Need-returns-4
 returns-4 c =
@@ -82,7 +88,7 @@ returns-4 c =
     (found (given (f .before .before .before .before .before)) vectorChecks (full f (here (long (c .before) ∙ c .if4 .taken))), λ z. absurd (omega arith))
 
 dependent-requires : tie.Need-dependent-requires
-dependent-requires c κs = let l = c .before in (few (l .before .before .before .before .before .before), short _ _ (sym (l .before .any-long .ensures) ∙ l .if4 .left))
+dependent-requires c κs = let l = c .before in (few (l .before .before .before .before .before .before), (four (l .before .before .before), short _ _ (sym (l .before .any-long .ensures) ∙ l .if4 .left)))
 
 returns-5 : tie.Need-returns-5
 returns-5 c =

@@ -8,6 +8,7 @@ use lib.ListN.{take}
 use mir.Syntax.{w64}
 use mir.Val.{toZ, ofZ}
 use mir.Facts.{toZ-ofZ}
+use denote.Ref.{now}
 use borrow.Author.Needs.{needs}
 use borrow.Author.Tests.{eqb-true, eqb-false}
 use Rattle.lattices.specs.Volume.{isDependent}
@@ -19,7 +20,7 @@ use Rattle.input_checks.proofs.dependent.Tie as tie
 first-minor-requires : tie.Need-first-minor-requires
 first-minor-requires c κs = search needs
 
-decided : (c : tie.After-first-minor) (t : Bool) → eqb (ofZ w64 (c .first-minor .result .minor)) 0 ≡ t → t ≡ isDependent mostCoordinates (take (c .before .args .d) (c .before .args .b))
+decided : (c : tie.After-first-minor) (t : Bool) → eqb (ofZ w64 (c .first-minor .result .minor)) 0 ≡ t → t ≡ isDependent mostCoordinates (take (c .before .args .d) (now (c .before .args .b)))
 decided c true e =
     let m = c .first-minor in
     let held = toZ-ofZ {w = w64} {z = m .result .minor} (record { sfits = m .ok .1 .1 .1 .0 .1 }) in

@@ -6,7 +6,7 @@ use native.Mathlib.Omega.{arith}
 use borrow.Author.Needs.{needs}
 use Rattle.lattices.specs.Refusal.{vectorsOf, mostVectors, mostCoordinates}
 use Rattle.lattices.specs.Answer.{table}
-use Rattle.input_checks.specs.Padded.{table-more}
+use Rattle.input_checks.specs.Padded.{next-wide, table-more}
 use Rattle.input_checks.proofs.fill.Statement.{statement}
 use Rattle.input_checks.proofs.fill.Tie as tie
 
@@ -23,17 +23,20 @@ loop-holds c = (search needs, c .pre .1 .1 .1)
 ends : (c : tie.In-loop Inv-loop μ-loop) → (c .before .loop .i + 1) * c .before .before .args .m ≤ c .before .before .args .d * c .before .before .args .m
 ends c = mul-le-mul-right (c .before .before .args .m) (omega arith)
 
-mul-vector : tie.Need-mul-vector Inv-loop μ-loop
-mul-vector c = omega (arith, ends c)
+mul-take-numbers : tie.Need-mul-take-numbers Inv-loop μ-loop
+mul-take-numbers c = omega (arith, ends c)
 
-vector-requires : tie.Need-vector-requires Inv-loop μ-loop
-vector-requires c κs = (search needs, omega (arith, ends c))
+mul-take-numbers-2 : tie.Need-mul-take-numbers-2 Inv-loop μ-loop
+mul-take-numbers-2 c = search needs
 
-mul-t9 : tie.Need-mul-t9 Inv-loop μ-loop
-mul-t9 c = search needs
+index-1-take-numbers : tie.Need-index-1-take-numbers Inv-loop μ-loop
+index-1-take-numbers c = search needs
 
-element-set-from-b : tie.Need-element-set-from-b Inv-loop μ-loop
-element-set-from-b c = search needs
+take-numbers-requires : tie.Need-take-numbers-requires Inv-loop μ-loop
+take-numbers-requires c κs =
+    let l = c .before .before in
+    let a = l .before .args in
+    (omega (arith, ends (c .before)), omega (arith, next-wide 4 4 (l .loop .i) (a .m) (a .numbers .now) (omega arith) (l .loop .inv .1)))
 
 add-i : tie.Need-add-i Inv-loop μ-loop
 add-i c = search needs
@@ -43,9 +46,11 @@ loop-less c = search needs
 
 loop-again : tie.Need-loop-again Inv-loop μ-loop
 loop-again c =
-    let a = c .before .before .before .args in
-    let l = c .before .before .loop in
-    (search needs, table-more 4 4 (l .i) (a .m) (a .numbers .now) (omega arith) (l .inv .1) (c .vector .ensures))
+    let i = c .before .before in
+    let l = i .before .loop in
+    let s = i .before .before in
+    let a = s .args in
+    (search needs, table-more 4 4 (l .i) (a .m) (a .numbers .now) (omega arith) (l .inv .1) (s .pre .1 .0) (omega (arith, ends i)) (c .take-numbers .ensures))
 
 returns : tie.Need-returns Inv-loop μ-loop
 returns c =
@@ -60,10 +65,10 @@ fill-spec =
     Inv-loop
     μ-loop
     loop-holds
-    mul-vector
-    vector-requires
-    mul-t9
-    element-set-from-b
+    mul-take-numbers
+    mul-take-numbers-2
+    index-1-take-numbers
+    take-numbers-requires
     add-i
     loop-less
     loop-again

@@ -6,6 +6,7 @@ use lib.ListN.{length, getD, take, length-take}
 use mir.Syntax.{w64}
 use mir.Val.{ofZ}
 use mir.Facts.{toZ-ofZ}
+use denote.Ref.{now}
 use borrow.Author.Needs.{needs}
 use Rattle.lattices.specs.Refusal.{mostVectors, mostCoordinates}
 use Rattle.input_checks.specs.Choice.{places, firsts}
@@ -22,10 +23,7 @@ ordered c i h = subst (λ l. getD l i 0 < mostCoordinates) (sym (c .in-order .en
 minor-of-requires : tie.Need-minor-of-requires
 minor-of-requires c κs =
     let s = c .before in
-    (s .pre .0, (s .pre .1, ordered c))
-
-rows : (s : tie.Start) → length (s .args .b) ≡ 4
-rows s = search needs
+    (s .pre .0, (s .pre .1 .0, (s .pre .1 .1, ordered c)))
 
 returns : tie.Need-returns
 returns c =
@@ -34,8 +32,8 @@ returns c =
     let s = o .before in
     let a = s .args in
     let few = s .pre .0 in
-    let bs = take (a .d) (a .b) in
-    let n : length bs ≡ a .d = omega (arith, length-take (a .d) (a .b), rows s, few) in
+    let bs = take (a .d) (now (a .b)) in
+    let n : length bs ≡ a .d = omega (arith, length-take (a .d) (now (a .b)), s .pre .1 .0, few) in
     let index = firsts mostCoordinates (a .d) in
     let taken : take (a .d) (o .in-order .result) ≡ places 0 index = ap (take (a .d)) (o .in-order .ensures) ∙ sym (places-firsts 0 mostCoordinates (a .d) few) in
     let held = toZ-ofZ {w = w64} (record { sfits = f .minor-of .ok }) in

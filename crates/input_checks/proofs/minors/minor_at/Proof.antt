@@ -5,6 +5,7 @@ use native.Mathlib.Omega.{arith}
 use lib.ListN.{length, getD, take, length-take}
 use mir.Syntax.{w64}
 use mir.Facts.{toZ-ofZ}
+use denote.Ref.{now}
 use borrow.Author.Needs.{needs}
 use Rattle.lattices.specs.Refusal.{mostCoordinates}
 use Rattle.exterior_algebra.specs.Minors.{marks, volume-off}
@@ -17,16 +18,13 @@ use Rattle.input_checks.proofs.minors.minor_at.Tie as tie
 choice-of-requires : tie.Need-choice-of-requires
 choice-of-requires c κs = search needs
 
-rows : (s : tie.Start) → length (s .args .b) ≡ 4
-rows s = search needs
-
 returns : tie.Need-returns
 returns c =
     let f = c .before .before .before in
     let s = f .before in
     let a = s .args in
-    let k : length (take (a .d) (a .b)) ≡ a .d = omega (arith, length-take (a .d) (a .b), s .pre .0, rows s) in
-    (sym (volume-off (take (a .d) (a .b)) (choice mostCoordinates (a .number)) (λ e. c .if1 .taken (f .choice-of .ensures .0 ∙ e ∙ k))), f .choice-of .ensures .1)
+    let k : length (take (a .d) (now (a .b))) ≡ a .d = omega (arith, length-take (a .d) (now (a .b)), s .pre .0, s .pre .1 .0) in
+    (sym (volume-off (take (a .d) (now (a .b))) (choice mostCoordinates (a .number)) (λ e. c .if1 .taken (f .choice-of .ensures .0 ∙ e ∙ k))), f .choice-of .ensures .1)
 
 -- as many coordinates as vectors
 count : (c : tie.Else1) → marks (choice mostCoordinates (c .before .before .before .before .args .number)) ≡ c .before .before .before .before .args .d
@@ -37,7 +35,7 @@ minor-of-requires c κs =
     let f = c .before .before .before in
     let s = f .before in
     let n = s .args .number in
-    (s .pre .0, (s .pre .1, λ i h. subst (λ l. getD l i 0 < mostCoordinates) (sym (f .choice-of .ensures .1)) (places-below (choice mostCoordinates n) (length-choice mostCoordinates n) i)))
+    (s .pre .0, (s .pre .1 .0, (s .pre .1 .1, λ i h. subst (λ l. getD l i 0 < mostCoordinates) (sym (f .choice-of .ensures .1)) (places-below (choice mostCoordinates n) (length-choice mostCoordinates n) i))))
 
 returns-2 : tie.Need-returns-2
 returns-2 c =

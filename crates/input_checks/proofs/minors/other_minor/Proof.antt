@@ -8,6 +8,7 @@ use lib.ListN.{length, getD, take}
 use mir.Syntax.{w64}
 use mir.Val.{toZ, ofZ}
 use mir.Facts.{toZ-ofZ}
+use denote.Ref.{now}
 use borrow.Author.Needs.{needs}
 use Rattle.lattices.specs.Volume.{volume}
 use Rattle.lattices.specs.Refusal.{mostCoordinates}
@@ -38,7 +39,7 @@ returns c =
     let f = c .before .before .before in
     let l = f .before .before in
     let a = l .before .args in
-    let bs = take (a .d) (a .b) in
+    let bs = take (a .d) (now (a .b)) in
     let s = choice mostCoordinates (l .loop .number) in
     let wide = length-choice mostCoordinates (l .loop .number) in
     let not-zero : f .minor-at .result .minor ≢ pos 0 = λ e. c .if1 .taken (ap (ofZ w64) e) in
@@ -58,7 +59,7 @@ loop-again : tie.Need-loop-again Inv-loop μ-loop
 loop-again c =
     let f = c .before .before .before in
     let l = f .before .before in
-    let bs = take (l .before .args .d) (l .before .args .b) in
+    let bs = take (l .before .args .d) (now (l .before .args .b)) in
     (search needs, one-more (λ k. volume bs (choice mostCoordinates k) ≡ pos 0) (l .loop .number) (l .loop .inv .1) (sym (f .minor-at .ensures .0) ∙ sym (plain f) ∙ ap (toZ w64) (c .if1 .left)))
 
 returns-2 : tie.Need-returns-2 Inv-loop μ-loop
@@ -66,7 +67,7 @@ returns-2 c =
     let l = c .before in
     let end : l .loop .number ≡ 2 ^ mostCoordinates = omega arith in
     record {
-      none = λ e. every-choice (take (l .before .args .d) (l .before .args .b)) (λ k h. l .loop .inv .1 k (omega (arith, end, h)));
+      none = λ e. every-choice (take (l .before .args .d) (now (l .before .args .b))) (λ k h. l .loop .inv .1 k (omega (arith, end, h)));
       some = λ h. absurd (h refl);
     }
 

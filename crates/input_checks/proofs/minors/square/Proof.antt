@@ -7,15 +7,16 @@ use lib.ListN.{set, take, drop}
 use Rattle.input_checks.specs.Choice.{fourAt}
 use Rattle.input_checks.specs.Determinant.{unitRows}
 use Rattle.input_checks.specs.FirstMinor.{put-next}
+use denote.Ref.{now}
 use borrow.Author.Needs.{needs}
 use Rattle.input_checks.proofs.minors.square.Statement.{statement}
 use Rattle.input_checks.proofs.minors.square.Tie as tie
 
 abbrev Inv-loop : tie.InvT-loop
-Inv-loop at d b t₀ i₀ t i = (i ≤ d) × (t ≡ map (fourAt at) (take i b) ++ drop i unitRows)
+Inv-loop b at d t₀ i₀ t i = (i ≤ d) × (t ≡ map (fourAt at) (take i b) ++ drop i unitRows)
 
 abbrev μ-loop : tie.MeasureT-loop
-μ-loop at d b t₀ i₀ t i = d - i
+μ-loop b at d t₀ i₀ t i = d - i
 
 loop-holds : tie.Need-loop-holds Inv-loop μ-loop
 loop-holds c = (search needs, refl)
@@ -23,8 +24,8 @@ loop-holds c = (search needs, refl)
 mul-pick : tie.Need-mul-pick Inv-loop μ-loop
 mul-pick c = search needs
 
-array-copy-out-pick : tie.Need-array-copy-out-pick Inv-loop μ-loop
-array-copy-out-pick c = search needs
+element-copy-out-pick : tie.Need-element-copy-out-pick Inv-loop μ-loop
+element-copy-out-pick c = search needs
 
 pick-requires : tie.Need-pick-requires Inv-loop μ-loop
 pick-requires c κs = search needs
@@ -47,7 +48,7 @@ loop-again c =
     let a = l .before .args in
     let f = fourAt (a .at) in (
       search needs,
-      ap₂ (λ t x. set t (l .loop .i) x) (l .loop .inv .1) (c .pick .ensures) ∙ put-next f [] (a .t1) unitRows (l .loop .i) (search needs) (omega (arith, c .before .before .loop-test .taken, l .before .pre .0)),
+      ap₂ (λ t x. set t (l .loop .i) x) (l .loop .inv .1) (c .pick .ensures) ∙ put-next f [] (now (a .b)) unitRows (l .loop .i) (omega (arith, c .before .before .loop-test .taken, l .before .pre)) (omega (arith, c .before .before .loop-test .taken, l .before .pre .0)),
     )
 
 returns : tie.Need-returns Inv-loop μ-loop
@@ -55,7 +56,7 @@ returns c =
     let l = c .before in
     let a = l .before .args in
     let end : l .loop .i ≡ a .d = omega arith in
-    l .loop .inv .1 ∙ ap (λ i. map (fourAt (a .at)) (take i (a .t1)) ++ drop i unitRows) end
+    l .loop .inv .1 ∙ ap (λ i. map (fourAt (a .at)) (take i (now (a .b))) ++ drop i unitRows) end
 
 pub square-spec : {M : Type 1} → statement M
 square-spec =
@@ -65,7 +66,7 @@ square-spec =
     μ-loop
     loop-holds
     mul-pick
-    array-copy-out-pick
+    element-copy-out-pick
     pick-requires
     mul-t
     array-set-from-t
