@@ -25,6 +25,7 @@ use Rattle.exterior_algebra.specs.Dependence.{Fit, dependent-exactly}
 
 -- ---- one coordinate more, one row more, as code stores them
 
+-- of the numbers from place `at` on one more stands in the row
 pub front-more : (at j : ℕ) (l old : List ℤ) {v : List ℤ} {x : ℤ} → at + j < length l → j < length old → v ≡ front j (drop at l) old → x ≡ nth l (at + j)
     → set v j x ≡ front (j + 1) (drop at l) old
 front-more at j l old h k e f =
@@ -38,6 +39,12 @@ front-zeros n zero l h k = refl
 front-zeros zero (suc m) l h k = absurd (not-suc-le-zero h)
 front-zeros (suc n) (suc m) [] h k = absurd (not-suc-le-zero k)
 front-zeros (suc n) (suc m) (x ∷ l) h k = ap {B = List ℤ} (λ r. x ∷ r) (front-zeros n m l (le-of-suc-le-suc h) (le-of-suc-le-suc k))
+
+pub padded-more : (n at j : ℕ) (l : List ℤ) {v : List ℤ} {x : ℤ} → j < n → at + j < length l → v ≡ padded n (take j (drop at l)) → x ≡ nth l (at + j)
+    → set v j x ≡ padded n (take (j + 1) (drop at l))
+padded-more n at j l h k e f =
+    front-more at j l (padded n []) k (omega (arith, length-padded n [])) (e ∙ sym (front-zeros n j (drop at l) (omega arith) (omega (arith, length-drop at l)))) f
+    ∙ front-zeros n (j + 1) (drop at l) (omega arith) (omega (arith, length-drop at l))
 
 -- the next row is zeros still
 next-zeros : (h w i m : ℕ) (l : List ℤ) → i < h → getD (table h w (vectorsOf i m l)) i [] ≡ padded w []

@@ -8,7 +8,7 @@ use Rattle.integers.specs.Every.{any}
 use Rattle.lattices.specs.Refusal.{tooLong}
 use Rattle.lattices.specs.Laws.Refusal.{one-to}
 use Rattle.catalogue_rules.specs.Laws.EntriesAccepted.{all-short}
-use Rattle.input_checks.specs.Rows.{short, long-rows, dependent-rows}
+use Rattle.input_checks.specs.Rows.{short, four-rows, long-rows, dependent-rows}
 use Rattle.catalogue_records.specs.EntriesIn.{entryIn}
 use Rattle.catalogue_records.specs.Coordinates.{most, cut}
 use Rattle.catalogue_rules.specs.Catalogue.{mostNumbers}
@@ -51,12 +51,16 @@ basis-requires c κs =
     (few s, (narrow s, cut (s .args .e) (s .pre) (long s)))
 
 dependent-requires : tie.Need-dependent-requires
-dependent-requires c κs = (few (c .before .before .before .before), short _ _ (near c))
+dependent-requires c κs =
+    let s = c .before .before .before .before .before in
+    let e = s .args .e in
+    (few s, (four-rows (e .d) (e .m) _ (few s) (narrow s) (c .before .basis .ensures), short _ _ (near (c .before))))
 
 returns : tie.Need-returns
 returns c =
-    let s = c .before .before .before .before .before in
-    c .dependent .ensures ∙ dependent-rows (s .args .e .d) (s .args .e .m) _ (few s) (narrow s) (c .before .basis .ensures)
+    let b = c .before .before in
+    let s = b .before .before .before .before in
+    c .dependent .ensures ∙ dependent-rows (s .args .e .d) (s .args .e .m) _ (few s) (narrow s) (b .basis .ensures)
 
 pub dependent-spec : {M : Type 1} → statement M
 dependent-spec =

@@ -16,43 +16,43 @@ use borrow.Author.Needs.{needs}
 use Rattle.lattice_membership.proofs.lattice_of.Statement.{statement}
 use Rattle.lattice_membership.proofs.lattice_of.Tie as tie
 
-four-rows : (c : tie.Start) → length (c .args .b) ≡ 4
+four-rows : (c : tie.Start) → length (c .args .t1) ≡ 4
 four-rows c = search needs
 
 choice-long : (c : tie.After-first-minor) → mostVectors ≤ length (c .first-minor .result .at)
 choice-long c = let n : length (c .first-minor .result .at) ≡ 4 = search needs in omega (arith, n)
 
 first-minor-requires : tie.Need-first-minor-requires
-first-minor-requires c κs = (c .pre .few, c .pre .short)
+first-minor-requires c κs = let s = c .before in (s .pre .few, (four-rows s, s .pre .short))
 
 vector-rows-requires : tie.Need-vector-rows-requires
 vector-rows-requires c κs = search needs
 
 square-requires : tie.Need-square-requires
 square-requires c κs =
-    let f = c .before .before in
-    let s = f .before in
-    (s .pre .few, first-below (s .args .d) (s .args .b) (s .pre) (four-rows s) (f .first-minor .result) (f .first-minor .ensures))
+    let f = c .before .before .before in
+    let s = f .before .before in
+    (s .pre .few, (four-rows s, first-below (s .args .d) (s .args .t1) (s .pre) (four-rows s) (f .first-minor .result) (f .first-minor .ensures)))
 
 cofactor-rows-requires : tie.Need-cofactor-rows-requires
 cofactor-rows-requires c κs =
-    let f = c .before .before .before in
-    let s = f .before in (
+    let f = c .before .before .before .before in
+    let s = f .before .before in (
       s .pre .few,
-      λ i. subst (λ t. (c : ℕ) → Within 20000 (nth (getD t i []) c)) (sym (c .square .ensures)) (table-small (f .first-minor .result .at) (s .args .d) (s .args .b) (s .pre .short) i),
+      λ i. subst (λ t. (c : ℕ) → Within 20000 (nth (getD t i []) c)) (sym (c .square .ensures)) (table-small (f .first-minor .result .at) (s .args .d) (s .args .t1) (s .pre .short) i),
     )
 
 returns : tie.Need-returns
 returns c =
     let k = c .before in
-    let v = k .before .before in
+    let v = k .before .before .before in
     let f = v .before .before in
-    let s = f .before in
+    let s = f .before .before in
     let m = f .first-minor in (
-      made (s .args .d) (s .args .b) (s .pre) (four-rows s) (m .result) (m .ensures) _ refl (v .vector-rows .ensures) refl
+      made (s .args .d) (s .args .t1) (s .pre) (four-rows s) (m .result) (m .ensures) _ refl (v .vector-rows .ensures) refl
           (toZ-ofZ {w = w64} {z = m .result .minor} (record { sfits = m .ok .1 .1 .1 .0 .1 }))
           (k .cofactor-rows .ensures ∙ ap (λ t. cofactorRows t (s .args .d)) (k .before .square .ensures)) (choice-long f),
-      (refl, ap (λ rows. take (s .args .d) (map (λ row. row .at) rows)) (v .vector-rows .ensures) ∙ ap (take (s .args .d)) (rows-back (s .args .b))),
+      (refl, ap (λ rows. take (s .args .d) (map (λ row. row .at) rows)) (v .vector-rows .ensures) ∙ ap (take (s .args .d)) (rows-back (s .args .t1))),
     )
 
 pub lattice-of-spec : {M : Type 1} → statement M
