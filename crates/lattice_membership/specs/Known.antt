@@ -17,6 +17,7 @@ use Rattle.exterior_algebra.specs.Dependence.{Fit}
 use Rattle.exterior_algebra.specs.Sizes.{Short}
 use Rattle.successive_minima.specs.Reduced.{Reduced}
 use Rattle.lattice_membership.specs.Nonzero.{nonzero}
+use Rattle.row_operations.specs.declared.VectorRow.{VectorRow}
 use Rattle.row_operations.specs.RowStructs.{tableRow}
 use Rattle.lattice_membership.specs.declared.Lattice.{Lattice}
 use Rattle.input_checks.specs.Choice.{fourAt}
@@ -29,6 +30,17 @@ pub record ReducedBasis (d : ℕ) (b : List Vec) : Type 0 where
   pub fit : Fit mostCoordinates (take d b)
 
 -- ---- a lattice
+
+-- what a reduction leaves: counts, vectors, squared lengths, passes
+pub record Left : Type 0 where
+  pub d : ℕ
+  pub m : ℕ
+  pub vectors : List VectorRow
+  pub squares : List ℤ
+  pub passes : ℕ
+
+abbrev pub leftIn : Lattice → Left
+leftIn l = record { d = l .d; m = l .m; vectors = l .vectors; squares = l .squares; passes = l .passes }
 
 -- its vectors
 abbrev pub vectorsIn : Lattice → List Vec

@@ -19,7 +19,7 @@ ghost use Rattle.successive_minima.specs.Member.{isMember};
 ghost use Rattle.row_operations.specs.RowStructs.{vectorRow};
 ghost use Rattle.input_checks.specs.Determinant.{Small, without, threeOf, cofactorsOf};
 ghost use Rattle.lattice_membership.specs.Cofactor.{cofactorRows};
-ghost use Rattle.lattice_membership.specs.Known.{ReducedBasis, Known, vectorsIn, isWhole};
+ghost use Rattle.lattice_membership.specs.Known.{ReducedBasis, Known, leftIn, vectorsIn, isWhole};
 use input_checks::minors::first_minor;
 use input_checks::minors::pair;
 use input_checks::minors::pick;
@@ -82,11 +82,15 @@ fn cofactor_rows(t: [[i64; 4]; 4], d: usize) -> [row_operations::TableRow; 4]
     rows
 }
 
-// What membership in the lattice of d reduced vectors needs: the choice of d coordinates, the minor there, which is not zero, and for
-// each vector the numbers that the chosen coordinates of another one count in the minor with it in that vector's place.
+// A lattice of d vectors with m coordinates: what a reduction leaves, its vectors, their squared lengths and how many passes it took; and what
+// membership needs: the choice of d coordinates, the minor there, which is not zero, and for each vector the numbers that the chosen
+// coordinates of another one count in the minor with it in that vector's place.
 pub struct Lattice {
     pub d: usize,
+    pub m: usize,
     pub vectors: [row_operations::VectorRow; 4],
+    pub squares: [i64; 4],
+    pub passes: u64,
     pub choice: [usize; WIDTH],
     pub minor: i64,
     pub cofactors: [row_operations::TableRow; 4],
@@ -104,19 +108,22 @@ fn vector_rows(b: [Vector; 4]) -> [row_operations::VectorRow; 4]
     ]
 }
 
-// The lattice of the first d vectors, which are reduced.
-pub fn lattice_of(b: [Vector; 4], d: usize) -> Lattice
+// The lattice of the first d vectors, which are reduced, with their m, their squared lengths and their passes.
+pub fn lattice_of(b: [Vector; 4], d: usize, m: usize, squares: [i64; 4], passes: u64) -> Lattice
     requires { ⌜ ReducedBasis d b ⌝ }
     ensures { λ r. ⌜ Known r ⌝ }
-    ensures { λ r. ⌜ (r .d ≡ d) × (vectorsIn r ≡ take d b) ⌝ }
+    ensures { λ r. ⌜ leftIn r ≡ record { d = d; m = m; vectors = map vectorRow b; squares = squares; passes = passes } ⌝ }
 {
-    let m = first_minor(&b, d);
-    let at = m.at;
+    let first = first_minor(&b, d);
+    let at = first.at;
     Lattice {
         d,
+        m,
         vectors: vector_rows(b),
+        squares,
+        passes,
         choice: at,
-        minor: m.minor,
+        minor: first.minor,
         cofactors: cofactor_rows(square(&b, at, d), d),
     }
 }

@@ -52,7 +52,7 @@ returns c =
       made (s .args .d) (s .args .t1) (s .pre) (four-rows s) (m .result) (m .ensures) _ refl (v .vector-rows .ensures) refl
           (toZ-ofZ {w = w64} {z = m .result .minor} (record { sfits = m .ok .1 .1 .1 .0 .1 }))
           (k .cofactor-rows .ensures ∙ ap (λ t. cofactorRows t (s .args .d)) (k .before .square .ensures)) (choice-long f),
-      (refl, ap (λ rows. take (s .args .d) (map (λ row. row .at) rows)) (v .vector-rows .ensures) ∙ ap (take (s .args .d)) (rows-back (s .args .t1))),
+      ap (λ rows. record { d = s .args .d; m = s .args .m; vectors = rows; squares = s .args .squares; passes = s .args .passes }) (v .vector-rows .ensures),
     )
 
 pub lattice-of-spec : {M : Type 1} → statement M
