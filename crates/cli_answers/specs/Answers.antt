@@ -11,7 +11,7 @@ use Rattle.fold_rules.specs.Listing.{refusedWord}
 use Rattle.text_output.specs.Joined.{joined}
 use Rattle.engine.specs.declared.Reduction.{Reduction}
 use Rattle.engine.specs.declared.NearestVector.{NearestVector}
-use Rattle.engine.specs.declared.lattice.MemberAnswer.{MemberAnswer}
+use Rattle.engine.specs.declared.members.MemberAnswer.{MemberAnswer}
 use Rattle.cli_output.specs.Rows.{rowLine}
 
 -- "refused", the number and the place

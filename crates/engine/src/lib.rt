@@ -1,26 +1,28 @@
 // The lattice engine: greedy reduction with its tables, proved equal to the definition.
 ghost use mathlib.Core.Path.{_≡_};
-ghost use Prim.Native.Nat.{ℕ, _+_, _-_, _≤_, _<_};
 ghost use mathlib.Core.List.{[]};
+ghost use Prim.Native.Nat.{_≤_};
 ghost use lib.ListN.{length, take};
-ghost use Rattle.gram_matrix.specs.Tied.{Held, Tied};
-ghost use Rattle.engine.specs.Laws.Tables.{Passable};
-ghost use Rattle.engine.specs.Laws.Repeat.{Reducible, Outcome};
-ghost use Rattle.engine.specs.Laws.Answer.{diagonalOf, finished};
-ghost use Rattle.gram_matrix.specs.Work.{tableIn};
-ghost use Rattle.engine.specs.Laws.State.{passRows};
-ghost use Rattle.engine.specs.Laws.Fine.{Fine};
-ghost use Rattle.engine.specs.Laws.Room.{PassReady};
-ghost use Rattle.engine.specs.Packed.{packed, packedNearest};
-ghost use Rattle.successive_minima.specs.Laws.Digits.{Bounded};
-ghost use Rattle.nearest_of_four.specs.Near.{Near};
+ghost use Rattle.lattices.specs.Refusal.{Input, firstOf, vectorChecks};
 ghost use Rattle.lattices.specs.Answer.{noReduction, reductionOf, noNearest, nearestOf};
-ghost use Rattle.engine.specs.Laws.Named.{named, Answered};
+ghost use Rattle.successive_minima.specs.Laws.Digits.{Bounded};
+ghost use Rattle.gram_matrix.specs.Tied.{whole};
+ghost use Rattle.gram_matrix.specs.Work.{tableIn};
+ghost use Rattle.greedy_steps.specs.Repeat.{Outcome};
 ghost use Rattle.nearest_of_three.specs.Formed.{GramOf};
-pub use lattice::MemberAnswer;
-pub use lattice::membership;
+ghost use Rattle.nearest_of_four.specs.Near.{Near};
+ghost use Rattle.engine.specs.Packed.{packed, packedNearest};
+ghost use Rattle.engine.specs.Laws.Begin.{first};
+ghost use Rattle.engine.specs.Laws.Answer.{Array, Begun, diagonalOf, finished};
+ghost use Rattle.engine.specs.Laws.Named.{named, Answered};
+pub use members::MemberAnswer;
+pub use members::lattice;
+pub use members::membership;
+pub use lattice_membership::Lattice;
+pub use lattice_membership::holds_lattice;
+pub use lattice_membership::holds_numbers;
 
-pub mod lattice;
+pub mod members;
 
 use gram_matrix::Table;
 use gram_matrix::Work;
@@ -30,57 +32,15 @@ use row_operations::Vector;
 use row_operations::VectorRow;
 use row_operations::WIDTH;
 
-// Steps 4 and 5 for row k, the rows before it being reduced: the vector nearest to it in their lattice is subtracted from it.
-// The search leaves the inner products of what is left, which are the new row of the Gram matrix.
-fn pass(g: &mut Table, b: &mut Basis, u: &mut Table, v: &mut Table, k: usize)
-    requires { ⌜ k ≤ 3 ⌝ }
-    requires { ⌜ Held (now g) (now b) (now u) (now v) ⌝ }
-    requires { ⌜ Passable k (now g) (now b) (now u) (now v) ⌝ }
-    ensures { λ _. ⌜ Held (now (g .exit)) (now (b .exit)) (now (u .exit)) (now (v .exit)) ⌝ }
-    ensures { λ _. ⌜ ((p : Passable k (now (g .entry)) (now (b .entry)) (now (u .entry)) (now (v .entry))) → Tied (p .kind) (passRows k (p .rows)) (now (g .exit)) (now (b .exit)) (now (u .exit)) (now (v .exit))) ⌝ }
+// The greedy steps on accepted vectors: their Gram matrix is formed once, U and V begin as unit tables.
+pub(crate) fn greedy(b: Basis, d: usize) -> Work
+    requires { ⌜ Begun d b ⌝ }
+    ensures { λ r. ⌜ ((i : Input) (e : firstOf vectorChecks i ≡ 0) → Array i d b → Outcome whole (i .d) 0 (first i e) r) ⌝ }
 {
-    let mut r = g[k];
-    let mut x = [0; 3];
-    nearest_of_three::among(g, k, &mut r, &mut x);
-    gram_matrix::lose_combination(b, u, v, k, &x);
-    gram_matrix::cross(g, k, &r, &x);
-}
-
-// Steps 1 to 6 for the first n rows, on one vector fewer at each call of itself. `before` counts the passes made so far.
-fn reduce_first(gram: Table, vectors: Basis, us: Table, vs: Table, n: usize, before: u64) -> Work
-    requires { ⌜ n ≤ 4 ⌝ }
-    requires { ⌜ Reducible n before gram vectors us vs ⌝ }
-    ensures { λ r. ⌜ ((p : Reducible n before gram vectors us vs) → Outcome (p .kind) n before (p .rows) r) ⌝ }
-{
-    let mut g = gram;
-    let mut b = vectors;
-    let mut u = us;
-    let mut v = vs;
-    let mut passes = before;
-    if n < 2 {
-        return gram_matrix::packed(&g, &b, &u, &v, passes);
-    }
-    loop {
-        gram_matrix::order(&mut g, &mut b, &mut u, &mut v, n);
-        // one vector is given back
-        if 2 < n {
-            let f = reduce_first(g, b, u, v, n - 1, passes);
-            let first_g = f.gram;
-            let first_b = f.vectors;
-            let first_u = f.u;
-            let first_v = f.v;
-            row_operations::take_table(&mut g, first_g);
-            row_operations::take_vectors(&mut b, first_b);
-            row_operations::take_table(&mut u, first_u);
-            row_operations::take_table(&mut v, first_v);
-            passes = f.passes;
-        }
-        pass(&mut g, &mut b, &mut u, &mut v, n - 1);
-        passes += 1;
-        if !gram_matrix::shorter(&g, n - 1) {
-            break gram_matrix::packed(&g, &b, &u, &v, passes);
-        }
-    }
+    let mut g = [[0; 4]; 4];
+    gram_matrix::formed(&b, d, &mut g);
+    let e = row_operations::unit_table(d);
+    greedy_steps::reduce_first(g, b, e, e, d, 0)
 }
 
 // The answer of a reduction. Where the refusal is not 0, all else is 0; unused places hold 0.
@@ -125,7 +85,7 @@ fn diagonal(rows: [TableRow; 4]) -> [i64; 4]
 }
 
 // The answer from the finished work: the squared lengths are the diagonal of the Gram matrix.
-fn finished(w: Work) -> Reduction
+pub(crate) fn finished(w: Work) -> Reduction
     ensures { λ r. ⌜ r ≡ finished w ⌝ }
 {
     let vectors = w.vectors;
@@ -143,7 +103,7 @@ fn finished(w: Work) -> Reduction
     }
 }
 
-// Reduction: d vectors of m coordinates each, vector by vector. The Gram matrix is formed once.
+// Reduction: d vectors of m coordinates each, vector by vector.
 pub fn reduce(numbers: &[i64], d: usize, m: usize) -> Reduction
     ensures { λ r. ⌜ r ≡ packed (reductionOf (record { numbers = now (numbers .entry); d = d; m = m; target = [] })) ⌝ }
 {
@@ -152,10 +112,7 @@ pub fn reduce(numbers: &[i64], d: usize, m: usize) -> Reduction
     if number != 0 {
         return refused(number);
     }
-    let mut g = [[0; 4]; 4];
-    gram_matrix::formed(&b, d, &mut g);
-    let e = row_operations::unit_table(d);
-    finished(reduce_first(g, b, e, e, d, 0))
+    finished(greedy(b, d))
 }
 
 // The answer of a search for the nearest vector: the vector, its coefficients on the reduced basis, its squared distance from the target.
@@ -228,10 +185,7 @@ pub fn nearest(numbers: &[i64], d: usize, m: usize, target: &[i64]) -> NearestVe
     if n != 0 {
         return refused_nearest(n);
     }
-    let mut h = [[0; 4]; 4];
-    gram_matrix::formed(&a, d, &mut h);
-    let e = row_operations::unit_table(d);
-    let w = reduce_first(h, a, e, e, d, 0);
+    let w = greedy(a, d);
     let vectors = w.vectors;
     let gram = w.gram;
     let b = row_operations::vectors_of(vectors);

@@ -18,11 +18,10 @@ use Rattle.nearest_of_three.specs.Formed.{GramOf}
 use Rattle.lattices.specs.Greedy.{vectors}
 use Rattle.engine.specs.Laws.Finish.{R}
 use Rattle.engine.specs.Laws.Named.{named, array, target, target-read, near, nearest-answer, refused-nearest-with}
-use Rattle.engine.specs.Laws.Answer.{begins, begun-small, vectors-given, gram-given, length-table}
+use Rattle.engine.specs.Laws.Answer.{Array, vectors-given, gram-given, length-table}
 use Rattle.engine.specs.Laws.Begin as Begin
-use Rattle.engine.specs.Laws.Repeat.{Reducible, Outcome}
+use Rattle.greedy_steps.specs.Repeat.{Outcome}
 use Rattle.gram_matrix.specs.Tied.{whole}
-use Rattle.gram_matrix.specs.Formed.{formed}
 use Rattle.engine.proofs.nearest.Statement.{statement}
 use Rattle.engine.proofs.nearest.Tie as tie
 
@@ -40,43 +39,36 @@ first c = sym (c .before .checked .ensures .0) ∙ c .if1 .left
 second : (c : tie.Else2) → firstOf targetChecks (input (c .before .before .before .before .before)) ≡ 0
 second c = sym (c .before .target-refusal .ensures) ∙ c .if2 .left
 
--- the tables are those with which the definition begins
+-- the vectors stand in the array
 abbrev given : tie.Else2 → List (List ℤ)
 given c = c .before .before .before .checked .last .1 .1 .1 .0
 
 read : (c : tie.Else2) → given c ≡ table mostVectors mostCoordinates (basis (untargeted (c .before .before .before .before .before)))
 read c = c .before .before .before .checked .ensures .1 (c .before .before .if1 .left)
 
-abbrev formed-gram : tie.After-formed → List (List ℤ)
-formed-gram c = c .formed .last .1 .1 .0
+array-is : (c : tie.Else2) → let s = c .before .before .before .before .before in Array (untargeted s) (s .args .d) (given c)
+array-is c = record { count = refl; rows = read c }
 
-formed-is : (c : tie.After-unit-table) → let a = c .before .before .before .before in formed-gram (c .before) ≡ formed (take (a .before .before .before .before .before .args .d) (table mostVectors mostCoordinates (basis (untargeted (a .before .before .before .before .before)))))
-formed-is c = let a = c .before .before .before .before in c .before .formed .ensures ∙ ap (λ t. formed (take (a .before .before .before .before .before .args .d) t)) (read a)
-
-begun : (c : tie.After-unit-table) → let a = c .before .before .before .before in Reducible (a .before .before .before .before .before .args .d) 0 (formed-gram (c .before)) (given a) (c .unit-table .result) (c .unit-table .result)
-begun c = let a = c .before .before .before .before in begins (untargeted (a .before .before .before .before .before)) (first (a .before .before)) (formed-is c) (read a) (c .unit-table .ensures)
-
-outcome-of : (c : tie.After-reduce-first) → let a = c .before .before .before .before .before in let i = untargeted (a .before .before .before .before .before) in Outcome whole (i .d) 0 (Begin.first i (first (a .before .before))) (c .reduce-first .result)
-unfolding begun
-outcome-of c = c .reduce-first .ensures (begun (c .before))
+outcome-of : (c : tie.After-greedy) → let i = untargeted (c .before .before .before .before .before .before) in Outcome whole (i .d) 0 (Begin.first i (first (c .before .before .before))) (c .greedy .result)
+outcome-of c = c .greedy .ensures (untargeted (c .before .before .before .before .before .before)) (first (c .before .before .before)) (array-is (c .before))
 
 -- what is searched
 abbrev start : tie.After-vector → tie.Start
-start c = c .before .before .before .before .before .before .before .before .before .before .before .before .before .before .before
+start c = c .before .before .before .before .before .before .before .before .before .before .before
 
 one : (c : tie.After-vector) → firstOf vectorChecks (input (start c)) ≡ 0
-one c = first (c .before .before .before .before .before .before .before .before .before .before .before .before)
+one c = first (c .before .before .before .before .before .before .before .before)
 
 two : (c : tie.After-vector) → firstOf targetChecks (input (start c)) ≡ 0
-two c = second (c .before .before .before .before .before .before .before .before .before .before)
+two c = second (c .before .before .before .before .before .before)
 
 vectors-are : (c : tie.After-vector) → c .before .before .vectors-of .result ≡ array (input (start c)) (one c) (two c)
 unfolding one
-vectors-are c = let r = c .before .before .before .before .before in c .before .before .vectors-of .ensures ∙ vectors-given (untargeted (start c)) (one c) (r .reduce-first .result) (outcome-of r)
+vectors-are c = let r = c .before .before .before .before .before in c .before .before .vectors-of .ensures ∙ vectors-given (untargeted (start c)) (one c) (r .greedy .result) (outcome-of r)
 
 gram-is : (c : tie.After-vector) → GramOf (take (start c .args .d) (array (input (start c)) (one c) (two c))) (c .before .tables-of .result)
 unfolding one
-gram-is c = let r = c .before .before .before .before .before in subst (GramOf _) (sym (c .before .tables-of .ensures)) (gram-given (untargeted (start c)) (one c) (r .reduce-first .result) (outcome-of r))
+gram-is c = let r = c .before .before .before .before .before in subst (GramOf _) (sym (c .before .tables-of .ensures)) (gram-given (untargeted (start c)) (one c) (r .greedy .result) (outcome-of r))
 
 target-is : (c : tie.After-vector) → c .vector .result ≡ target (input (start c)) (one c) (two c)
 target-is c = c .vector .ensures ∙ target-read (input (start c)) (one c) (two c)
@@ -110,18 +102,8 @@ returns-2 c =
     let i = input (t .before .before .before .before) in
     c .refused-nearest2 .ensures ∙ refused-nearest-with i _ (t .target-refusal .ensures ∙ sym (first-passed vectorChecks targetChecks i (omega arith) (first (t .before)))) (c .before .if2 .taken)
 
-formed-requires : tie.Need-formed-requires
-formed-requires c κs =
-    let a = c .before .before in
-    let i = untargeted (a .before .before .before .before .before) in
-    let e = first (a .before .before) in
-    (accepted i e .most, (ap length (read a) ∙ length-table mostVectors mostCoordinates (basis i), (λ j k. rw (read a) (begun-small i e j k), refl)))
-
-unit-table-requires : tie.Need-unit-table-requires
-unit-table-requires c κs = let a = c .before .before .before in accepted (untargeted (a .before .before .before .before .before)) (first (a .before .before)) .most
-
-reduce-first-requires : tie.Need-reduce-first-requires
-reduce-first-requires c κs = let a = c .before .before .before .before in (accepted (untargeted (a .before .before .before .before .before)) (first (a .before .before)) .most, begun c)
+greedy-requires : tie.Need-greedy-requires
+greedy-requires c κs = record { input = untargeted (c .before .before .before .before .before); accepted = first (c .before .before); array = array-is c }
 
 vectors-of-requires : tie.Need-vectors-of-requires
 vectors-of-requires c κs = search needs
@@ -131,7 +113,7 @@ tables-of-requires c κs = search needs
 
 vector-requires : tie.Need-vector-requires
 vector-requires c κs =
-    let e = c .before .before .before .before .before .before .before .before .before in
+    let e = c .before .before .before .before .before in
     let s = e .before .before .before .before .before in
     (accepted (input s) (first (e .before .before)) .few, omega (arith, targeted (input s) (second e) .count))
 
@@ -163,9 +145,7 @@ nearest-spec =
     target-refusal-requires
     refused-nearest-requires-2
     returns-2
-    formed-requires
-    unit-table-requires
-    reduce-first-requires
+    greedy-requires
     vectors-of-requires
     tables-of-requires
     vector-requires

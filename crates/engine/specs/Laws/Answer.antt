@@ -36,13 +36,24 @@ use Rattle.gram_matrix.specs.Work as Work
 use Rattle.gram_matrix.specs.Work.{vectorsIn, tableIn}
 use Rattle.engine.specs.declared.Reduction.{Reduction}
 use Rattle.engine.specs.Packed.{packed}
-use Rattle.engine.specs.Laws.State.{blank, greedyRows, greedyPasses}
+use Rattle.greedy_steps.specs.State.{blank, greedyRows, greedyPasses}
 use Rattle.engine.specs.Laws.Few.{few-passes}
-use Rattle.engine.specs.Laws.Room.{small-rows}
+use Rattle.greedy_steps.specs.Room.{small-rows}
 use Rattle.engine.specs.Laws.Begin.{first, first-is, first-fine, table-is, bs-count, four-rows, unused}
 use Rattle.engine.specs.Laws.Finish.{R, outs-count, last-vectors, last-u, last-v, last-squares, last-passes}
-use Rattle.engine.specs.Laws.Tables.{ones}
-use Rattle.engine.specs.Laws.Repeat.{Reducible, Outcome}
+use Rattle.greedy_steps.specs.Tables.{ones}
+use Rattle.greedy_steps.specs.Repeat.{Reducible, Outcome}
+
+-- the d vectors of an input stand in the array b
+pub record Array (i : Input) (d : ℕ) (b : List (List ℤ)) : Type 0 where
+  pub count : d ≡ i .d
+  pub rows : b ≡ table mostVectors mostCoordinates (basis i)
+
+-- and no refusal applies to it
+pub record Begun (d : ℕ) (b : List (List ℤ)) : Type 0 where
+  pub input : Input
+  pub accepted : firstOf vectorChecks input ≡ 0
+  pub array : Array input d b
 
 -- the numbers on the diagonal
 abbrev pub diagonalOf : List (List ℤ) → List ℤ
@@ -126,7 +137,7 @@ module _ (i : Input) (e : firstOf vectorChecks i ≡ 0) where
       ∙ formed-is ins (unused i e) (omega (arith, ins-count, four-rows i e, bs-count i e)) ∙ ap formed (sym ins-taken)
 
   -- they belong to the rows with which the definition begins, which may be reduced
-  begun-tied : Tied whole (first i e) (formed (take (i .d) b)) b units-table units-table
+  pub begun-tied : Tied whole (first i e) (formed (take (i .d) b)) b units-table units-table
   begun-tied = record {
     positive = ltZ-yes tt;
     gram = gram-formed ∙ sym (ones (formed (take (i .d) b)));
@@ -138,11 +149,17 @@ module _ (i : Input) (e : firstOf vectorChecks i ≡ 0) where
   pub begun-few : 0 + greedyPasses (i .d) (first i e) ≤ 1000000000000
   begun-few = omega (arith, few-passes (accepted i e .most) (first-fine i e))
 
-  pub begun : {g c u : List (List ℤ)} → g ≡ formed (take (i .d) b) → c ≡ b → u ≡ units-table → Tied whole (first i e) g c u u
-  begun p q r = rw (p, q, r) begun-tied
+  abbrev pub begins : {d : ℕ} {c g u : List (List ℤ)} → Array i d c → g ≡ formed (take d c) → u ≡ table mostVectors mostVectors (units d) → Reducible d 0 g c u u
+  begins {d} {c} a p q = record {
+    kind = whole;
+    rows = first i e;
+    tied = rw (p, q, a .count, a .rows) begun-tied;
+    fine = rw (a .count) (first-fine i e);
+    few = rw (a .count) begun-few;
+  }
 
-  abbrev pub begins : {g c u : List (List ℤ)} → g ≡ formed (take (i .d) b) → c ≡ b → u ≡ units-table → Reducible (i .d) 0 g c u u
-  begins p q r = record { kind = whole; rows = first i e; tied = begun p q r; fine = first-fine i e; few = begun-few }
+  pub begun-outcome : {d : ℕ} {r : Work} → d ≡ i .d → Outcome whole d 0 (first i e) r → Outcome whole (i .d) 0 (first i e) r
+  begun-outcome {r = r} q o = subst (λ n. Outcome whole n 0 (first i e) r) q o
 
   -- ---- the engine's answer for an accepted input
   abbrev G : List Row

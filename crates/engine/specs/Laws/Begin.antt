@@ -26,9 +26,9 @@ use Rattle.greedy_reduction.specs.Promise.{basis-of}
 use Rattle.greedy_reduction.specs.Sizes.{Basis, first-rows}
 use Rattle.row_operations.specs.Rows.{rowsOf}
 use Rattle.gram_matrix.specs.Tied.{whole}
-use Rattle.engine.specs.Laws.Limits.{vector-limits}
-use Rattle.engine.specs.Laws.Fine.{Fine}
-use Rattle.engine.specs.Laws.Pass.{rowsOf-append}
+use Rattle.greedy_steps.specs.Limits.{vector-limits}
+use Rattle.greedy_steps.specs.Fine.{Fine}
+use Rattle.greedy_steps.specs.Pass.{rowsOf-append}
 
 -- ---- a table is its padded rows and n rows of zeros
 pub table-is : (h w n : ℕ) (rows : List (List ℤ)) → length rows + n ≡ h → table h w rows ≡ map (padded w) rows ++ replicate n (padded w [])

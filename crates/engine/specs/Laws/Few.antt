@@ -12,8 +12,8 @@ use Rattle.integers.specs.AllLaws.{all-left}
 use Rattle.greedy_reduction.specs.Lengths.{NoLonger}
 use Rattle.greedy_reduction.specs.Passes.{passes-most}
 use Rattle.gram_matrix.specs.Tied.{whole}
-use Rattle.engine.specs.Laws.State.{greedyPasses}
-use Rattle.engine.specs.Laws.Fine.{Fine, fine-length, fine-short}
+use Rattle.greedy_steps.specs.State.{greedyPasses}
+use Rattle.greedy_steps.specs.Fine.{Fine, fine-length, fine-short}
 
 pub few-passes : {n : ℕ} {rows : List Row} → n ≤ 4 → Fine whole n rows → greedyPasses n rows ≤ 1000000000000
 few-passes {n} {rows} h f = omega (arith, passes-most n (take n rows) h (fine-length f) short)

@@ -22,8 +22,8 @@ use Rattle.greedy_reduction.specs.Padding.{pad, pad-counted, greedy-padded, pad
 use Rattle.greedy_reduction.specs.Accepted.{Accepted, accepted}
 use Rattle.successive_minima.specs.Reduced.{Reduced}
 use Rattle.row_operations.specs.Rows.{transposed}
-use Rattle.engine.specs.Laws.State.{greedyRows, greedyPasses}
-use Rattle.engine.specs.Laws.Fine.{fine-reduced}
+use Rattle.greedy_steps.specs.State.{greedyRows, greedyPasses}
+use Rattle.greedy_steps.specs.Fine.{fine-reduced}
 use Rattle.engine.specs.Laws.Begin.{table-is, zeroRow, length-start, first, first-is, first-fine, unused, four-rows, bs-count, wide-count, ins-count}
 
 -- padded rows begin as the padded start

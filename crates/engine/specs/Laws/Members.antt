@@ -22,7 +22,7 @@ use Rattle.greedy_reduction.specs.Demand.{first-passed}
 use Rattle.greedy_reduction.specs.Membership.{member-padded, accepted-membership}
 use Rattle.greedy_reduction.specs.Promise.{basis-of}
 use Rattle.lattice_membership.specs.Laws.Accepted.{outs-rows}
-use Rattle.engine.specs.declared.lattice.MemberAnswer.{MemberAnswer}
+use Rattle.engine.specs.declared.members.MemberAnswer.{MemberAnswer}
 use Rattle.engine.specs.Packed.{packedMembership}
 
 -- a refusal, and the answer of an accepted target

@@ -33,8 +33,8 @@ use Rattle.nearest_of_three.specs.Formed.{ProductsOf}
 use Rattle.nearest_of_four.specs.Near.{Near}
 use Rattle.engine.specs.declared.NearestVector.{NearestVector}
 use Rattle.engine.specs.Packed.{packedNearest}
-use Rattle.engine.specs.Laws.Fine.{fine-greedy}
-use Rattle.engine.specs.Laws.Room.{short-rows}
+use Rattle.greedy_steps.specs.Fine.{fine-greedy}
+use Rattle.greedy_steps.specs.Room.{short-rows}
 use Rattle.engine.specs.Laws.Begin.{first-fine}
 use Rattle.engine.specs.Laws.Finish.{R, accept, some, outs-count, outs-full, outs-rows, last-vectors, last-reduced}
 

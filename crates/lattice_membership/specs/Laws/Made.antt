@@ -5,7 +5,7 @@ use mathlib.Core.Bool.{true≢false}
 use mathlib.Core.List.{List, [], _∷_, _++_, map}
 use Prim.Native.Nat.{ℕ, zero, suc, _≤_, _<_}
 use native.Mathlib.Omega.{arith}
-use lib.IntN.{pos}
+use lib.IntN.{ℤ, pos}
 use lib.ListN.{length, getD, take, drop, length-take, length-map}
 use lib.Seq.{getD-take}
 use lib.Signed.{_≤ℤ_}
@@ -32,12 +32,16 @@ use Rattle.input_checks.specs.Determinant.{unitRows, cofactorsOf}
 use Rattle.input_checks.specs.FirstMinor.{Chosen, FirstMinor, all-zero, cofactors-give, table-small}
 use Rattle.lattice_membership.specs.declared.Lattice.{Lattice}
 use Rattle.lattice_membership.specs.Cofactor.{cofactorRows}
-use Rattle.lattice_membership.specs.Known.{ReducedBasis, Known, Cofactors, vectorsIn, rowIn}
+use Rattle.lattice_membership.specs.Known.{ReducedBasis, Known, Cofactors, leftIn, vectorsIn, rowIn}
 use Rattle.lattice_membership.specs.Laws.Cofactors.{cofactors-small, first-four}
 
 pub rows-back : (l : List Vec) → map (λ row. row .at) (map vectorRow l) ≡ l
 rows-back [] = refl
 rows-back (v ∷ l) = ap (λ k. v ∷ k) (rows-back l)
+
+-- the vectors of a lattice that was made of b
+pub vectors-left : (l : Lattice) {d m passes : ℕ} (b : List Vec) {squares : List ℤ} → leftIn l ≡ record { d = d; m = m; vectors = map vectorRow b; squares = squares; passes = passes } → vectorsIn l ≡ take d b
+vectors-left l {d} b e = ap (λ k. take (k .d) (map (λ row. row .at) (k .vectors))) e ∙ ap (take d) (rows-back b)
 
 filled-row : (n : ℕ) (z : TableRow) (l : List TableRow) (i : ℕ) (x : TableRow) → i < length l → i < n → getD (filled z n l) i x ≡ getD l i x
 filled-row zero z l i x h k = absurd (omega arith)

@@ -30,12 +30,12 @@ use Rattle.gram_matrix.specs.Lose.{Loses, Gains, row-wide}
 use Rattle.gram_matrix.specs.Cross.{crossed}
 use Rattle.gram_matrix.specs.Passed.{tied-passed, tied-entry}
 use Rattle.nearest_of_three.specs.Meant.{Meant, Known}
-use Rattle.engine.specs.Laws.State.{blank, passRows}
-use Rattle.engine.specs.Laws.Room as Room
-use Rattle.engine.specs.Laws.Room.{PassReady}
-use Rattle.engine.specs.Laws.Pass.{gaining, length-gained, pass-rows}
-use Rattle.engine.specs.Laws.Passing as Passing
-use Rattle.engine.specs.Laws.Passing.{coefficients}
+use Rattle.greedy_steps.specs.State.{blank, passRows}
+use Rattle.greedy_steps.specs.Room as Room
+use Rattle.greedy_steps.specs.Room.{PassReady}
+use Rattle.greedy_steps.specs.Pass.{gaining, length-gained, pass-rows}
+use Rattle.greedy_steps.specs.Passing as Passing
+use Rattle.greedy_steps.specs.Passing.{coefficients}
 
 -- some rows whose tables these are, ready for a pass
 pub record Passable (k : ℕ) (g b u v : List (List ℤ)) : Type 0 where

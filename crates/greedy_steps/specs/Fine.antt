@@ -21,7 +21,7 @@ use Rattle.greedy_reduction.specs.Start.{Sized, moves-sized}
 use Rattle.greedy_reduction.specs.Kept.{positive-left, moves-keep}
 use Rattle.greedy_reduction.specs.Output.{greedy-reduced}
 use Rattle.gram_matrix.specs.Tied.{Kind}
-use Rattle.engine.specs.Laws.Limits.{Limits, longest}
+use Rattle.greedy_steps.specs.Limits.{Limits, longest}
 
 -- n of the rows may be reduced
 pub record Fine (K : Kind) (n : ℕ) (rows : List Row) : Type 0 where

@@ -16,10 +16,10 @@ use Rattle.lattices.specs.Greedy.{Row, shorter, total, greedyBy}
 use Rattle.gram_matrix.specs.Tied.{Kind, Tied, tied-diagonal, tied-length, tied-shorter, shorterIn}
 use Rattle.gram_matrix.specs.Work.{workOf, vectorsIn, tableIn, vectors-back, table-back}
 use Rattle.gram_matrix.specs.declared.work.Work.{Work}
-use Rattle.engine.specs.Laws.State.{blank, orderRows, passRows, greedyRows, greedyPasses}
-use Rattle.engine.specs.Laws.Fine.{Fine, fine-fewer, fine-order}
-use Rattle.engine.specs.Laws.Room.{PassReady}
-use Rattle.engine.specs.Laws.Turn.{roundOf, turnRows, turn-ready, turn-stops, turn-repeats, turn-fine, turn-falls, test-is}
+use Rattle.greedy_steps.specs.State.{blank, orderRows, passRows, greedyRows, greedyPasses}
+use Rattle.greedy_steps.specs.Fine.{Fine, fine-fewer, fine-order}
+use Rattle.greedy_steps.specs.Room.{PassReady}
+use Rattle.greedy_steps.specs.Turn.{roundOf, turnRows, turn-ready, turn-stops, turn-repeats, turn-fine, turn-falls, test-is}
 
 -- the most passes that are counted
 abbrev pub mostPasses : ℕ

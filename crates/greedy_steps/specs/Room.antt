@@ -23,9 +23,9 @@ use Rattle.greedy_reduction.specs.Moves.{Moves, length-vectors}
 use Rattle.greedy_reduction.specs.Sizes.{coordinate, short-of}
 use Rattle.row_operations.specs.Minus.{room}
 use Rattle.gram_matrix.specs.Tied.{Kind, whole}
-use Rattle.engine.specs.Laws.State.{blank}
-use Rattle.engine.specs.Laws.Limits.{longest}
-use Rattle.engine.specs.Laws.Fine.{Fine, fine-length, fine-short, fine-fewer}
+use Rattle.greedy_steps.specs.State.{blank}
+use Rattle.greedy_steps.specs.Limits.{longest}
+use Rattle.greedy_steps.specs.Fine.{Fine, fine-length, fine-short, fine-fewer}
 
 module _ {K : Kind} (k : ℕ) (rows : List Row) (f : Fine K (suc k) rows) (three : k ≤ 3) (red : Reduced (vectors (take k rows))) where
   fewer : Fine K k rows

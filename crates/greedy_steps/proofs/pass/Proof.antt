@@ -7,13 +7,13 @@ use denote.Ref.{now}
 use Rattle.lattices.specs.Answer.{padded}
 use Rattle.lattices.specs.Laws.Answer.{length-padded}
 use Rattle.gram_matrix.specs.Cross.{entered, crossed, length-entered}
-use Rattle.engine.specs.Laws.Passing.{coefficients}
-use Rattle.engine.specs.Laws.Tables.{Passable, row-four, known, found, left-room, square-room, zero-behind, vectors-lose, us-lose, vs-gain, tied-after}
+use Rattle.greedy_steps.specs.Passing.{coefficients}
+use Rattle.greedy_steps.specs.Tables.{Passable, row-four, known, found, left-room, square-room, zero-behind, vectors-lose, us-lose, vs-gain, tied-after}
 use borrow.Author.Needs.{needs}
-use Rattle.engine.proofs.pass.Statement.{statement}
-use Rattle.engine.proofs.pass.Tie as tie
-use Rattle.engine.proofs.pass.Reads as reads
-use Rattle.engine.proofs.pass.Lts as lts
+use Rattle.greedy_steps.proofs.pass.Statement.{statement}
+use Rattle.greedy_steps.proofs.pass.Tie as tie
+use Rattle.greedy_steps.proofs.pass.Reads as reads
+use Rattle.greedy_steps.proofs.pass.Lts as lts
 use Rattle.gram_matrix.proofs.cross.Reads as cross-reads
 use Rattle.gram_matrix.proofs.lose_combination.Reads as lose-combination-reads
 use Rattle.nearest_of_three.proofs.among.Reads as among-reads

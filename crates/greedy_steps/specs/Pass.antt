@@ -11,7 +11,7 @@ use Rattle.lattices.specs.Vector.{_⊕_, _⊙_, _⊖_, comb}
 use Rattle.lattices.specs.Greedy.{Row, less, credited, pass}
 use Rattle.row_operations.specs.Rows.{rowsOf, gained, rowsOf-parts, credited-columns}
 use Rattle.gram_matrix.specs.Gram.{losing}
-use Rattle.engine.specs.Laws.State.{blank}
+use Rattle.greedy_steps.specs.State.{blank}
 
 pub rowsOf-append : (bs us vs cs ws xs : List (List ℤ)) → length us ≡ length bs → length vs ≡ length bs → rowsOf (bs ++ cs) (us ++ ws) (vs ++ xs) ≡ rowsOf bs us vs ++ rowsOf cs ws xs
 unfolding rowsOf

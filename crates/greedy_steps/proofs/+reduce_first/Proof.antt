@@ -13,20 +13,20 @@ use lib.ListN.{length}
 use Rattle.lattices.specs.Greedy.{Row}
 use Rattle.gram_matrix.specs.Tied.{Held, Tied, tied-length}
 use Rattle.gram_matrix.specs.Work.{vectorsIn, tableIn, work-held}
-use Rattle.engine.specs.Laws.State.{orderRows, greedyRows, greedyPasses}
-use Rattle.engine.specs.Laws.Tables.{Passable}
-use Rattle.engine.specs.Laws.Repeat.{Reducible, Going, Round, nextRows, shorterAt, mostPasses, trace, begin, round-now, few-rows, tested, trace-falls, repeated, outcome, ended}
-use Rattle.engine.proofs.reduce_first.Reads as reads
-use Rattle.engine.proofs.reduce_first.Kinds as kinds
-use Rattle.engine.proofs.+reduce_first.Lts-reduce_first as lts
-use Rattle.engine.proofs.pass.Reads as pass-reads
+use Rattle.greedy_steps.specs.State.{orderRows, greedyRows, greedyPasses}
+use Rattle.greedy_steps.specs.Tables.{Passable}
+use Rattle.greedy_steps.specs.Repeat.{Reducible, Going, Round, nextRows, shorterAt, mostPasses, trace, begin, round-now, few-rows, tested, trace-falls, repeated, outcome, ended}
+use Rattle.greedy_steps.proofs.reduce_first.Reads as reads
+use Rattle.greedy_steps.proofs.reduce_first.Kinds as kinds
+use Rattle.greedy_steps.proofs.+reduce_first.Lts-reduce_first as lts
+use Rattle.greedy_steps.proofs.pass.Reads as pass-reads
 use Rattle.gram_matrix.proofs.order.Reads as order-reads
 use Rattle.gram_matrix.proofs.work.packed.Reads as packed-reads
 use Rattle.gram_matrix.proofs.shorter.Reads as shorter-reads
 use Rattle.row_operations.proofs.take_table.Reads as take-table-reads
 use Rattle.row_operations.proofs.take_vectors.Reads as take-vectors-reads
-use Rattle.engine.proofs.+reduce_first.{statement}
-use Rattle.engine.proofs.+reduce_first.Tie.{close}
+use Rattle.greedy_steps.proofs.+reduce_first.{statement}
+use Rattle.greedy_steps.proofs.+reduce_first.Tie.{close}
 
 -- the number of vectors falls at each call
 abbrev μ : Measures 0 kinds.ps ℕ

@@ -31,7 +31,7 @@ use Rattle.row_operations.specs.Minus.{room}
 use Rattle.gram_matrix.specs.Gram.{nth-against}
 use Rattle.gram_matrix.specs.Tied.{Kind, whole}
 use Rattle.gram_matrix.specs.Passed.{gram-row}
-use Rattle.engine.specs.Laws.Products.{product-size}
+use Rattle.greedy_steps.specs.Products.{product-size}
 
 -- the limit of a squared length
 abbrev pub longest : Kind → ℤ

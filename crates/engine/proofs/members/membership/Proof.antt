@@ -14,12 +14,13 @@ use Rattle.successive_minima.specs.Member.{isMember}
 use Rattle.greedy_reduction.specs.Accepted.{accepted, targeted}
 use Rattle.greedy_reduction.specs.Demand.{accepted-reduction, first-refused, first-passed}
 use Rattle.lattice_membership.specs.Known.{ReducedBasis}
+use Rattle.lattice_membership.specs.Laws.Made.{vectors-left}
 use Rattle.lattice_membership.specs.Laws.Accepted.{accepted-basis}
 use Rattle.engine.specs.Laws.Answer.{vectors-back}
 use Rattle.engine.specs.Laws.Named.{refusal-is}
 use Rattle.engine.specs.Laws.Members.{memberGiven, refused-member, target-padded, target-short, member-answer}
-use Rattle.engine.proofs.lattice.membership.Statement.{statement}
-use Rattle.engine.proofs.lattice.membership.Tie as tie
+use Rattle.engine.proofs.members.membership.Statement.{statement}
+use Rattle.engine.proofs.members.membership.Tie as tie
 
 abbrev input : tie.Start → Input
 input s = record { numbers = now (s .args .numbers); d = s .args .d; m = s .args .m; target = now (s .args .target) }
@@ -40,17 +41,17 @@ second c = sym (c .before .target-refusal .ensures) ∙ c .if2 .left
 
 -- what is tested
 abbrev start : tie.After-vector → tie.Start
-start c = c .before .before .before .before .before .before .before .before
+start c = c .before .before .before .before .before .before .before .before .before
 
 one : (c : tie.After-vector) → firstOf vectorChecks (input (start c)) ≡ 0
-one c = first (c .before .before .before .before .before)
+one c = first (c .before .before .before .before .before .before)
 
 two : (c : tie.After-vector) → firstOf targetChecks (input (start c)) ≡ 0
-two c = second (c .before .before .before)
+two c = second (c .before .before .before .before)
 
 vectors-are : (c : tie.After-vector) → c .before .vectors-of .result ≡ reductionOf (input (start c)) .basis
 vectors-are c =
-    c .before .vectors-of .ensures ∙ ap (λ r. map (λ row. row .at) (r .vectors)) (c .before .before .before .before .before .before .before .reduce .ensures)
+    c .before .vectors-of .ensures ∙ ap (λ r. map (λ row. row .at) (r .vectors)) (c .before .before .before .before .before .before .before .before .reduce .ensures)
     ∙ vectors-back _ ∙ ap (λ a. a .basis) (accepted-reduction (untargeted (start c)) (one c) ∙ sym (accepted-reduction (input (start c)) (one c)))
 
 target-is : (c : tie.After-vector) → c .vector .result ≡ padded mostCoordinates (now (start c .args .target))
@@ -86,7 +87,7 @@ vectors-of-requires c κs = search needs
 
 vector-requires : tie.Need-vector-requires
 vector-requires c κs =
-    let e = c .before .before in
+    let e = c .before .before .before in
     let s = e .before .before .before .before .before in
     (accepted (input s) (first (e .before .before)) .few, omega (arith, targeted (input s) (second e) .count))
 
@@ -103,7 +104,7 @@ returns-3 c =
     let l = c .before in
     let v = l .before in
     let s = start v in
-    ap memberGiven (c .member .ensures ∙ ap₂ isMember (l .lattice-of .ensures .1 .1 ∙ ap (take (s .args .d)) (vectors-are v)) (target-is v))
+    ap memberGiven (c .member .ensures ∙ ap₂ isMember (vectors-left (l .lattice-of .result) (v .before .vectors-of .result) (l .lattice-of .ensures .1) ∙ ap (take (s .args .d)) (vectors-are v)) (target-is v))
     ∙ member-answer (input s) (one v) (two v)
 
 pub membership-spec : {M : Type 1} → statement M

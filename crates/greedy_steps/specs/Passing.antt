@@ -24,11 +24,11 @@ use Rattle.successive_minima.specs.Laws.NearestLaws.{nearest-shorter}
 use Rattle.exterior_algebra.specs.Hadamard.{*ℤ-mono-both}
 use Rattle.gram_matrix.specs.Tied.{Kind, Tied}
 use Rattle.gram_matrix.specs.Passed.{tied-left}
-use Rattle.engine.specs.Laws.State.{blank}
-use Rattle.engine.specs.Laws.Limits.{longest}
-use Rattle.engine.specs.Laws.Room as Room
-use Rattle.engine.specs.Laws.Room.{PassReady, rows-short}
-use Rattle.engine.specs.Laws.Products.{schwarz}
+use Rattle.greedy_steps.specs.State.{blank}
+use Rattle.greedy_steps.specs.Limits.{longest}
+use Rattle.greedy_steps.specs.Room as Room
+use Rattle.greedy_steps.specs.Room.{PassReady, rows-short}
+use Rattle.greedy_steps.specs.Products.{schwarz}
 
 -- the coefficients of the vector nearest to row k
 abbrev pub coefficients : ℕ → List Row → List ℤ

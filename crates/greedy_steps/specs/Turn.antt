@@ -18,9 +18,9 @@ use Rattle.greedy_reduction.specs.Moves.{Moves, order-perm, before-last, length
 use Rattle.greedy_reduction.specs.Lengths.{total-nonneg}
 use Rattle.greedy_reduction.specs.Fuel.{stop, again, greedy-steps, falls, size-falls}
 use Rattle.gram_matrix.specs.Tied.{Kind}
-use Rattle.engine.specs.Laws.State.{blank, orderRows, passRows, greedyRows, greedyPasses}
-use Rattle.engine.specs.Laws.Fine.{Fine, fine-length, fine-moves, fine-order, fine-greedy, fine-fewer, fine-reduced}
-use Rattle.engine.specs.Laws.Room.{PassReady}
+use Rattle.greedy_steps.specs.State.{blank, orderRows, passRows, greedyRows, greedyPasses}
+use Rattle.greedy_steps.specs.Fine.{Fine, fine-length, fine-moves, fine-order, fine-greedy, fine-fewer, fine-reduced}
+use Rattle.greedy_steps.specs.Room.{PassReady}
 
 -- a list of suc k rows: all but the last, and the last
 module _ (k : ℕ) (r : Row) (rows tail : List Row) (e : length (r ∷ rows) ≡ suc k) where
