@@ -25,7 +25,7 @@ use Rattle.integers.specs.Filled.{filled}
 use Rattle.integers.specs.FilledLaws.{filled-next, map-snoc}
 use Rattle.catalogue_records.specs.Catalogues.{stored, holding}
 use Rattle.catalogue_records.specs.EntriesIn.{entryIn, entriesIn}
-use Rattle.catalogue_standing.specs.declared.reduced_entry.ReducedEntry.{ReducedEntry}
+use Rattle.lattice_membership.specs.Known.{Left}
 use Rattle.catalogue_fold.specs.declared.printing.Way.{Way}
 use Rattle.catalogue_standing.specs.ReducedEntry.{reducedEntry}
 use Rattle.catalogue_fold.specs.Spread.{kept-vectors}
@@ -67,7 +67,7 @@ module _ (es : List definition.Entry) where
   pub prints-all : (k : ℕ) → length es ≤ k → prints k ≡ printedIn ss
   prints-all k h = ap (λ l. map (printed ss) (standingIn (map (stoodOf es) l))) (take-all k es h)
 
-  module _ (o : definition.Entry) (w : WellFormed es) {list : List ReducedEntry} {places : List ℕ} (held : Held es o list places) (k : ℕ) (here : k < length es) where
+  module _ (o : definition.Entry) (w : WellFormed es) {list : List Left} {places : List ℕ} (held : Held es o list places) (k : ℕ) (here : k < length es) where
     abbrev s : Stood
     s = stoodOf es (getD es k o)
 
@@ -95,7 +95,7 @@ pub record Folds (es : List definition.Entry) (k n : ℕ) (entries : List Entry)
 pub folds-none : (es : List definition.Entry) → Folds es 0 0 (replicate mostEntries noEntry)
 folds-none es = record { few = omega arith; count = refl; array = refl }
 
-module _ (es : List definition.Entry) (o : definition.Entry) (w : WellFormed es) {list : List ReducedEntry} {places : List ℕ} (held : Held es o list places) {k n : ℕ} {entries : List Entry}
+module _ (es : List definition.Entry) (o : definition.Entry) (w : WellFormed es) {list : List Left} {places : List ℕ} (held : Held es o list places) {k n : ℕ} {entries : List Entry}
     (p : Folds es k n entries) (here : k < length es) where
   pub folds-no : getD places k 0 ≢ k → Folds es (k + 1) n entries
   folds-no h =
@@ -121,7 +121,7 @@ module _ (es : List definition.Entry) (e : Entry) (s : Sound (entryIn e)) (own :
   made : List ℤ → Option See → Entry
   made l o = record { number = e .number; d = e .d; m = e .m; place = e .place; sees = sees o; see = seeNumber o; at = seePlace o; coordinates = filled (pos 0) mostNumbers l }
 
-  pub printed-is : {k : ReducedEntry} {w : Way} → k ≡ reducedEntry (entryIn e) → w ≡ wayOf (followed (closedList es) (e .number) (entryIn e .see))
+  pub printed-is : {k : Left} {w : Way} → k ≡ reducedEntry (entryIn e) → w ≡ wayOf (followed (closedList es) (e .number) (entryIn e .see))
       → printedAs e k w ≡ entryOf (printed (closedList es) (stoodOf es (entryIn e)))
   unfolding made
   printed-is q r =

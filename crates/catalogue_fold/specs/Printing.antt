@@ -17,7 +17,7 @@ use Rattle.catalogue_records.specs.declared.Entry.{Entry}
 use Rattle.integers.specs.Filled.{filled}
 use Rattle.catalogue_records.specs.Stored.{sees, seePlace}
 use Rattle.catalogue_records.specs.EntriesIn.{seeIn, entryIn}
-use Rattle.catalogue_standing.specs.declared.reduced_entry.ReducedEntry.{ReducedEntry}
+use Rattle.lattice_membership.specs.Known.{Left}
 use Rattle.catalogue_fold.specs.declared.printing.Way.{Way}
 use Rattle.catalogue_standing.specs.ReducedEntry.{basisIn}
 use Rattle.catalogue_standing.specs.Places.{First}
@@ -29,7 +29,7 @@ abbrev pub wayOf : Option See → Way
 wayOf o = record { sees = sees o; number = seeNumber o; at = seePlace o }
 
 -- what is printed of an entry, of what is kept and of the way
-abbrev pub printedAs : Entry → ReducedEntry → Way → Entry
+abbrev pub printedAs : Entry → Left → Way → Entry
 printedAs e k w = record {
   number = e .number;
   d = e .d;
@@ -43,7 +43,7 @@ printedAs e k w = record {
 
 -- r is the way of e's see word in every list of entries that the numbers and places are of
 pub record Led (e : Entry) (own : ℕ) (numbers places : List ℕ) (count : ℕ) (r : Way) : Type 0 where
-  pub leads : (es : List definition.Entry) (o : definition.Entry) (list : List ReducedEntry) → WellFormed es → Held es o list places → Numbers es o numbers → length es ≡ count
+  pub leads : (es : List definition.Entry) (o : definition.Entry) (list : List Left) → WellFormed es → Held es o list places → Numbers es o numbers → length es ≡ count
       → r ≡ wayOf (followed (closedList es) own (entryIn e .see))
 
 module _ (e : Entry) (own : ℕ) (numbers places : List ℕ) (count : ℕ) where

@@ -18,7 +18,7 @@ use Rattle.fold_rules.specs.Fold.{reducedOf}
 use Rattle.fold_rules.specs.Laws.SameLattice.{Sound, entry-full}
 use Rattle.integers.specs.Filled.{filled}
 use Rattle.integers.specs.FilledLaws.{filled-next, map-snoc}
-use Rattle.catalogue_standing.specs.declared.reduced_entry.ReducedEntry.{ReducedEntry}
+use Rattle.lattice_membership.specs.Known.{Left}
 use Rattle.catalogue_standing.specs.ReducedEntry.{reducedEntry, rowsIn, basisIn, basis-are, rows-table, length-table}
 use Rattle.lattices.specs.Refusal.{mostVectors, mostCoordinates}
 
@@ -45,7 +45,7 @@ put-filled z n l (x ∷ v) h =
 
 -- ---- what is kept: rows of four numbers
 
-pub record Full (k : ReducedEntry) : Type 0 where
+pub record Full (k : Left) : Type 0 where
   pub few : k .d ≤ mostVectors
   pub narrow : k .m ≤ mostCoordinates
   pub rows : (i : ℕ) → i < k .d → length (getD (rowsIn k) i []) ≡ mostCoordinates

@@ -14,7 +14,7 @@ use Rattle.catalogue_records.specs.Stored.{entryOf}
 use Rattle.catalogue_records.specs.Catalogues.{stored, holding}
 use Rattle.catalogue_records.specs.EntriesIn.{entryIn, entriesIn}
 use Rattle.catalogue_records.specs.Entries.{beyond, entryAt, at-place, entry-has}
-use Rattle.catalogue_standing.specs.declared.reduced_entry.ReducedEntry.{ReducedEntry}
+use Rattle.lattice_membership.specs.Known.{Left}
 use Rattle.catalogue_fold.specs.declared.printing.Way.{Way}
 use Rattle.catalogue_standing.specs.ReducedEntry.{noReduced}
 use Rattle.catalogue_fold.specs.Spread.{Full, kept-full}
@@ -24,7 +24,7 @@ use Rattle.catalogue_standing.specs.ReducedEntries.{WasRead, HoldReduced, ready
 use Rattle.catalogue_fold.specs.Printing.{Led, printedAs}
 use Rattle.catalogue_fold.specs.Folding.{foldedOf, prints-all, Folds, folds-no, folds-yes, printed-is}
 
-module _ (c : Catalogue) (r : WasRead c) {list : List ReducedEntry} {places numbers : List ℕ} (kept : HoldReduced c (c .count) list) (closed : Closed list (c .count) places)
+module _ (c : Catalogue) (r : WasRead c) {list : List Left} {places numbers : List ℕ} (kept : HoldReduced c (c .count) list) (closed : Closed list (c .count) places)
     (named : numbers ≡ map (λ e. e .number) (c .entries)) (k : ℕ) where
   abbrev es : List definition.Entry
   es = entriesIn c

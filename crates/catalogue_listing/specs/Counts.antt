@@ -16,7 +16,7 @@ use Rattle.text_layout.specs.Fields.{line}
 use Rattle.catalogue_records.specs.declared.Catalogue.{Catalogue}
 use Rattle.catalogue_records.specs.EntriesIn.{entryIn, entriesIn}
 use Rattle.catalogue_records.specs.Entries.{beyond}
-use Rattle.catalogue_standing.specs.declared.reduced_entry.ReducedEntry.{ReducedEntry}
+use Rattle.lattice_membership.specs.Known.{Left}
 use Rattle.catalogue_standing.specs.Places.{Closed}
 use Rattle.catalogue_standing.specs.Standing.{Held}
 use Rattle.catalogue_standing.specs.ReducedEntries.{WasRead, HoldReduced, ready-length, keeps-held}
@@ -38,7 +38,7 @@ pub own-most : (places : List ℕ) (k : ℕ) → ownPlaces places k ≤ k
 own-most places zero = omega arith
 own-most places (suc k) = omega (arith, own-most places k, one-most (eqb (getD places k 0) k))
 
-module _ (es : List definition.Entry) (o : definition.Entry) (w : WellFormed es) {list : List ReducedEntry} {places : List ℕ} (held : Held es o list places) where
+module _ (es : List definition.Entry) (o : definition.Entry) (w : WellFormed es) {list : List Left} {places : List ℕ} (held : Held es o list places) where
   counted : (k : ℕ) → k ≤ length es → ownPlaces places k ≡ length (prints es k)
   counted zero h = refl
   counted (suc k) h = go (ℕ-discrete (getD places k 0) k) (counted k (omega arith))
@@ -64,7 +64,7 @@ module _ (es : List definition.Entry) (o : definition.Entry) (w : WellFormed es)
 abbrev pub countsLine : ℕ → ℕ → List ℕ
 countsLine entries standing = line (decimal entries) (decimal standing ∷ [])
 
-pub counts-text : (c : Catalogue) (r : WasRead c) {list : List ReducedEntry} {places : List ℕ} → HoldReduced c (c .count) list → Closed list (c .count) places → {n : ℕ} → n ≡ ownPlaces places (c .count)
+pub counts-text : (c : Catalogue) (r : WasRead c) {list : List Left} {places : List ℕ} → HoldReduced c (c .count) list → Closed list (c .count) places → {n : ℕ} → n ≡ ownPlaces places (c .count)
     → countsLine (c .count) n ≡ countsLine (length (closedList (entriesIn c))) (length (standingIn (closedList (entriesIn c))))
 counts-text c r {places = places} kept closed is =
     let es = entriesIn c in

@@ -24,7 +24,7 @@ use Rattle.catalogue_records.specs.declared.Catalogue.{Catalogue}
 use Rattle.catalogue_records.specs.declared.Entry.{Entry}
 use Rattle.catalogue_records.specs.EntriesIn.{entryIn, entriesIn}
 use Rattle.catalogue_records.specs.Entries.{beyond, entryAt, at-place, entry-has}
-use Rattle.catalogue_standing.specs.declared.reduced_entry.ReducedEntry.{ReducedEntry}
+use Rattle.lattice_membership.specs.Known.{Left}
 use Rattle.catalogue_standing.specs.ReducedEntry.{noReduced, basisIn}
 use Rattle.catalogue_standing.specs.Places.{Closed}
 use Rattle.catalogue_standing.specs.Standing.{Held, place-standing, place-below}
@@ -35,7 +35,7 @@ use Rattle.catalogue_fold.specs.Printing.{Led}
 use Rattle.text_output.specs.Joined.{joined}
 
 -- the reduced vectors of what is kept
-abbrev pub vectorsOf : ReducedEntry → List Vec
+abbrev pub vectorsOf : Left → List Vec
 vectorsOf k = map (take (k .m)) (basisIn k)
 
 -- an entry's line, and the vectors of one whose standing number is its own
@@ -67,7 +67,7 @@ entries-joined ss (s ∷ more) =
     append-assoc (entryLine ss s) (vectorsShown s) (joined (shown ss) more) ∙ ap (λ t. entryLine ss s ++ (vectorsShown s ++ t)) (entries-joined ss more)
 
 -- ---- the entry at place k
-module _ (c : Catalogue) (r : WasRead c) {list : List ReducedEntry} {places numbers : List ℕ} (kept : HoldReduced c (c .count) list) (closed : Closed list (c .count) places)
+module _ (c : Catalogue) (r : WasRead c) {list : List Left} {places numbers : List ℕ} (kept : HoldReduced c (c .count) list) (closed : Closed list (c .count) places)
     (named : numbers ≡ map (λ e. e .number) (c .entries)) (k : ℕ) (here : k < c .count) where
   abbrev es : List definition.Entry
   es = entriesIn c

@@ -1,7 +1,7 @@
 -- What is kept of the entries, and the closed list: which two are of one lattice, and the places of standing entries.
 pub mod ReducedEntry
-pub mod SameLattice
 pub mod Places
+pub mod SameLattice
 pub mod Standing
 pub mod OneEntry
 pub mod ReducedEntries

@@ -15,7 +15,7 @@ use Rattle.catalogue_rules.specs.Form.{WellFormed}
 use Rattle.fold_rules.specs.Fold.{sameLattice, standing, closedList, lookup}
 use Rattle.fold_rules.specs.Laws.Lookup.{lookup-finds, lookup-misses}
 use Rattle.fold_rules.specs.Laws.Searching.{among-at}
-use Rattle.catalogue_standing.specs.declared.reduced_entry.ReducedEntry.{ReducedEntry}
+use Rattle.lattice_membership.specs.Known.{Left}
 use Rattle.catalogue_standing.specs.Places.{First}
 use Rattle.catalogue_standing.specs.Standing.{Held, Numbers, place-below, place-standing}
 use Rattle.catalogue_standing.specs.OneEntry.{first-standing}
@@ -36,7 +36,7 @@ module _ (es : List Entry) (o : Entry) (w : WellFormed es) {numbers : List ℕ} 
       ∙ ap some (sym (named .number r (omega (arith, l, h))))
 
   -- as the closed list has it
-  pub lookup-found : k < length es → {list : List ReducedEntry} {places : List ℕ} → Held es o list places → lookup (closedList es) n ≡ some (getD numbers (getD places k 0) 0)
+  pub lookup-found : k < length es → {list : List Left} {places : List ℕ} → Held es o list places → lookup (closedList es) n ≡ some (getD numbers (getD places k 0) 0)
   lookup-found h held = lookup-at h (place-below es o w held k h) (place-standing es o w held k h)
 
   -- as it is found for one entry

@@ -23,7 +23,7 @@ use Rattle.fold_rules.specs.Laws.SameLattice.{Sound, sound-entries, entry-basis
 use Rattle.fold_rules.specs.Laws.Adding.{standing-new}
 use Rattle.fold_rules.specs.Laws.Searching.{first-found, first-none}
 use Rattle.catalogue_standing.specs.ReducedEntry.{reducedEntry, held-vectors, held-is}
-use Rattle.catalogue_standing.specs.SameLattice.{LatticeOf, held-by}
+use Rattle.catalogue_standing.specs.SameLattice.{LatticeOf, lattice-vectors, held-by}
 use Rattle.catalogue_standing.specs.Places.{First}
 
 -- ---- both tests
@@ -31,7 +31,7 @@ use Rattle.catalogue_standing.specs.Places.{First}
 module _ (f e : Entry) (t : Sound f) (s : Sound e) (m : f .head .m ≡ e .head .m) {l : Lattice} (p : LatticeOf (reducedEntry e) l) where
   -- the vectors of f as they were entered
   entered : every (isMember (vectorsIn l)) (map (padded mostCoordinates) (f .vectors)) ≡ holds e f
-  entered = ap (λ vs. every (isMember vs) (map (padded mostCoordinates) (f .vectors))) (p .vectors) ∙ held-vectors e s (f .head .m) m (f .vectors) (entry-basis f t .full)
+  entered = ap (λ vs. every (isMember vs) (map (padded mostCoordinates) (f .vectors))) (lattice-vectors p) ∙ held-vectors e s (f .head .m) m (f .vectors) (entry-basis f t .full)
 
   tests : (a b : Bool) → holds f e ≡ a → holds e f ≡ b → (a && b) ≡ sameLattice f e
   unfolding sameLattice

@@ -10,7 +10,7 @@ use lib.Dec.{eqb}
 use lib.ListN.{length, getD, set, length-set}
 use lib.Seq.{getD-set-same, getD-set-other}
 use borrow.Author.Tests.{eq-eqb, ne-eqb}
-use Rattle.catalogue_standing.specs.declared.reduced_entry.ReducedEntry.{ReducedEntry}
+use Rattle.lattice_membership.specs.Known.{Left}
 use Rattle.catalogue_standing.specs.ReducedEntry.{noReduced, sameReduced}
 use Rattle.catalogue_rules.specs.Catalogue.{mostEntries}
 
@@ -21,10 +21,10 @@ pub record First (f : ℕ → Bool) (n r : ℕ) : Type 0 where
   pub here : r < n → f r ≡ true
 
 -- entry j stands, and is of the lattice of entry k
-abbrev pub stander : List ReducedEntry → List ℕ → ℕ → ℕ → Bool
+abbrev pub stander : List Left → List ℕ → ℕ → ℕ → Bool
 stander list places k j = eqb (getD places j 0) j && sameReduced (getD list j noReduced) (getD list k noReduced)
 
-module _ (list : List ReducedEntry) (places : List ℕ) (k j : ℕ) where
+module _ (list : List Left) (places : List ℕ) (k j : ℕ) where
   pub not-standing : getD places j 0 ≢ j → stander list places k j ≡ false
   not-standing h = ap (λ b. b && sameReduced (getD list j noReduced) (getD list k noReduced)) (ne-eqb _ _ h)
 
@@ -32,7 +32,7 @@ module _ (list : List ReducedEntry) (places : List ℕ) (k j : ℕ) where
   standing-here e = ap (λ b. b && sameReduced (getD list j noReduced) (getD list k noReduced)) (eq-eqb _ _ e)
 
 -- the place of the standing entry of each of the first n entries
-pub record Closed (list : List ReducedEntry) (n : ℕ) (places : List ℕ) : Type 0 where
+pub record Closed (list : List Left) (n : ℕ) (places : List ℕ) : Type 0 where
   pub long : length places ≡ mostEntries
   pub first : (k : ℕ) → k < n → First (stander list places k) k (getD places k 0)
 
@@ -49,11 +49,11 @@ before-more f j h e i l = go (decLt i j)
     go (yes m) = h i m
     go (no m) = let same : i ≡ j = omega arith in ap f same ∙ e
 
-pub closed-none : (list : List ReducedEntry) (places : List ℕ) → length places ≡ mostEntries → Closed list 0 places
+pub closed-none : (list : List Left) (places : List ℕ) → length places ≡ mostEntries → Closed list 0 places
 closed-none list places long = record { long = long; first = λ k h. absurd (omega arith) }
 
 -- one entry more
-module _ {list : List ReducedEntry} {k : ℕ} {places : List ℕ} (c : Closed list k places) (few : k < mostEntries) {r : ℕ} (found : First (stander list places k) k r) where
+module _ {list : List Left} {k : ℕ} {places : List ℕ} (c : Closed list k places) (few : k < mostEntries) {r : ℕ} (found : First (stander list places k) k r) where
   abbrev after : List ℕ
   after = set places k r
 

@@ -1,4 +1,4 @@
--- What is kept of all entries of a catalogue, and that the places found among it are those of the definition.
+-- The lattices of all entries of a catalogue, and that the places found among them are those of the definition.
 use mathlib.Core.Path.{_≡_, sym, ap, _∙_, subst}
 use mathlib.Core.List.{List, map}
 use Prim.Native.Nat.{ℕ, _+_, _≤_, _<_}
@@ -18,27 +18,29 @@ use Rattle.catalogue_records.specs.Catalogues.{catalogueOf}
 use Rattle.catalogue_records.specs.Again.{few-read, formed}
 use Rattle.catalogue_records.specs.EntriesIn.{entryIn, entriesIn}
 use Rattle.catalogue_records.specs.Entries.{beyond, entryAt, length-entries, at-place, entry-has}
-use Rattle.catalogue_standing.specs.declared.reduced_entry.ReducedEntry.{ReducedEntry}
-use Rattle.catalogue_standing.specs.ReducedEntry.{reducedEntry, noReduced, Fair}
+use Rattle.lattice_membership.specs.declared.Lattice.{Lattice}
+use Rattle.catalogue_standing.specs.ReducedEntry.{reducedEntry}
+use Rattle.catalogue_standing.specs.SameLattice.{LatticeOf, FairLattice, noLattice, leftsIn, left-at}
 use Rattle.catalogue_standing.specs.Places.{Closed}
 use Rattle.catalogue_standing.specs.Standing.{Held, Numbers}
 
--- the first n entries are kept
-pub record HoldReduced (c : Catalogue) (n : ℕ) (list : List ReducedEntry) : Type 0 where
+-- the lattices of the first n entries
+pub record HoldReduced (c : Catalogue) (n : ℕ) (list : List Lattice) : Type 0 where
   pub long : length list ≡ mostEntries
-  pub at : (k : ℕ) → k < n → getD list k noReduced ≡ reducedEntry (entryIn (entryAt c k))
+  pub at : (k : ℕ) → k < n → LatticeOf (reducedEntry (entryIn (entryAt c k))) (getD list k noLattice)
 
-pub keeps-none : (c : Catalogue) (list : List ReducedEntry) → length list ≡ mostEntries → HoldReduced c 0 list
+pub keeps-none : (c : Catalogue) (list : List Lattice) → length list ≡ mostEntries → HoldReduced c 0 list
 keeps-none c list long = record { long = long; at = λ k h. absurd (omega arith) }
 
-pub keeps-more : {c : Catalogue} {n : ℕ} {list : List ReducedEntry} {e : ReducedEntry} → HoldReduced c n list → n < mostEntries → e ≡ reducedEntry (entryIn (entryAt c n)) → HoldReduced c (n + 1) (set list n e)
-keeps-more {c} {n} {list} {e} p h q = record { long = length-set list n e ∙ p .long; at = λ k l. go k l (decLt k n) }
+pub keeps-more : {c : Catalogue} {n : ℕ} {list : List Lattice} {l : Lattice} → HoldReduced c n list → n < mostEntries → LatticeOf (reducedEntry (entryIn (entryAt c n))) l → HoldReduced c (n + 1) (set list n l)
+keeps-more {c} {n} {list} {l} p h q = record { long = length-set list n l ∙ p .long; at = λ k m. go k m (decLt k n) }
   where
-    go : (k : ℕ) → k < n + 1 → Dec (k < n) → getD (set list n e) k noReduced ≡ reducedEntry (entryIn (entryAt c k))
-    go k l (yes m) = getD-set-other list n k e noReduced (λ e. absurd (omega arith)) ∙ p .at k m
-    go k l (no m) =
+    go : (k : ℕ) → k < n + 1 → Dec (k < n) → LatticeOf (reducedEntry (entryIn (entryAt c k))) (getD (set list n l) k noLattice)
+    go k m (yes i) = subst (LatticeOf (reducedEntry (entryIn (entryAt c k)))) (sym (getD-set-other list n k l noLattice (λ e. absurd (omega arith)))) (p .at k i)
+    go k m (no i) =
         let same : k ≡ n = omega arith in
-        subst (λ k. getD (set list n e) k noReduced ≡ reducedEntry (entryIn (entryAt c k))) (sym same) (getD-set-same list n e noReduced (omega (arith, p .long)) ∙ q)
+        subst (λ k. LatticeOf (reducedEntry (entryIn (entryAt c k))) (getD (set list n l) k noLattice)) (sym same)
+        (subst (LatticeOf (reducedEntry (entryIn (entryAt c n)))) (sym (getD-set-same list n l noLattice (omega (arith, p .long)))) q)
 
 -- ---- a catalogue that was read
 
@@ -58,14 +60,17 @@ module _ (c : Catalogue) (r : WasRead c) where
   pub ready-length : length (entriesIn c) ≡ c .count
   ready-length = length-entries c (r .long) (r .few)
 
-  module _ {list : List ReducedEntry} (kept : HoldReduced c (c .count) list) where
-    pub keeps-fair : (k : ℕ) → k < c .count → Fair (getD list k noReduced)
-    keeps-fair k h = record { entry = entryIn (entryAt c k); sound = entry-has c (r .long) (r .few) k h Sound (sound-entries (entriesIn c) (r .formed)); is = kept .at k h }
+  pub ready-sound : (k : ℕ) → k < c .count → Sound (entryIn (entryAt c k))
+  ready-sound k h = entry-has c (r .long) (r .few) k h Sound (sound-entries (entriesIn c) (r .formed))
 
-    pub keeps-held : {places : List ℕ} → Closed list (c .count) places → Held (entriesIn c) (entryIn beyond) list places
+  module _ {list : List Lattice} (kept : HoldReduced c (c .count) list) where
+    pub keeps-fair : (k : ℕ) → k < c .count → FairLattice (getD list k noLattice)
+    keeps-fair k h = record { known = kept .at k h .known; fair = record { entry = entryIn (entryAt c k); sound = ready-sound k h; is = kept .at k h .left } }
+
+    pub keeps-held : {places : List ℕ} → Closed (leftsIn list) (c .count) places → Held (entriesIn c) (entryIn beyond) (leftsIn list) places
     keeps-held {places} p = record {
-      kept = λ k h. kept .at k (omega (arith, ready-length)) ∙ ap reducedEntry (sym (at-place c (r .long) (r .few) k (omega (arith, ready-length))));
-      closed = subst (λ n. Closed list n places) (sym ready-length) p;
+      kept = λ k h. left-at list k ∙ kept .at k (omega (arith, ready-length)) .left ∙ ap reducedEntry (sym (at-place c (r .long) (r .few) k (omega (arith, ready-length))));
+      closed = subst (λ n. Closed (leftsIn list) n places) (sym ready-length) p;
     }
 
   pub ready-numbers : {numbers : List ℕ} → numbers ≡ map (λ e. e .number) (c .entries) → Numbers (entriesIn c) (entryIn beyond) numbers

@@ -1,4 +1,4 @@
--- What the code keeps of an entry, and that its tests on it decide whether two entries generate one lattice.
+-- What is left of an entry, reduced, and that the tests on it decide whether two entries generate one lattice.
 use mathlib.Core.Path.{_≡_, refl, sym, ap, ap₂, _∙_, subst}
 use mathlib.Core.Logic.{_≢_}
 use mathlib.Core.Bool.{Bool, true, false, _&&_, true≢false}
@@ -13,41 +13,38 @@ use Rattle.lattices.specs.Answer.{padded, table, reductionOf}
 use Rattle.successive_minima.specs.Member.{isMember}
 use Rattle.greedy_reduction.specs.Start.{Coordinates}
 use Rattle.row_operations.specs.RowStructs.{vectorRow}
-use Rattle.lattice_membership.specs.Known.{ReducedBasis}
 use Rattle.lattice_membership.specs.Laws.Made.{rows-back}
-use Rattle.lattice_membership.specs.Laws.Accepted.{accepted-basis}
 use Rattle.catalogue_rules.specs.Catalogue.{Entry, inputOf}
-use Rattle.catalogue_rules.specs.Laws.EntriesAccepted.{is-basis}
 use Rattle.fold_rules.specs.Fold.{reducedOf, holds, sameLattice}
 use Rattle.integers.specs.Every.{every}
 use Rattle.fold_rules.specs.Laws.SameLattice.{Sound, entry-full}
 use Rattle.fold_rules.specs.Laws.Deciding.{entry-reduction, entry-rows, entry-member, different-m, different-d, different-answers, holds-reduced}
-use Rattle.catalogue_standing.specs.declared.reduced_entry.ReducedEntry.{ReducedEntry}
+use Rattle.lattice_membership.specs.Known.{Left}
 
--- d, m, the engine's rows and its count of passes, of an entry
-abbrev pub reducedEntry : Entry → ReducedEntry
+-- d, m, the engine's rows, squared lengths and count of passes, of an entry
+abbrev pub reducedEntry : Entry → Left
 reducedEntry e = record { d = e .head .d; m = e .head .m; vectors = map vectorRow (reductionOf (inputOf e) .basis); squares = reductionOf (inputOf e) .squares; passes = reductionOf (inputOf e) .passes }
 
 -- what an array of them gives beyond its end
-abbrev pub noReduced : ReducedEntry
+abbrev pub noReduced : Left
 noReduced = record { d = 0; m = 0; vectors = []; squares = []; passes = 0 }
 
-abbrev pub rowsIn : ReducedEntry → List Vec
+abbrev pub rowsIn : Left → List Vec
 rowsIn k = map (λ r. r .at) (k .vectors)
 
 -- the reduced vectors
-abbrev pub basisIn : ReducedEntry → List Vec
+abbrev pub basisIn : Left → List Vec
 basisIn k = take (k .d) (rowsIn k)
 
 -- the lattice of a holds every reduced vector of b
-unfoldable pub heldIn : ReducedEntry → ReducedEntry → Bool
+unfoldable pub heldIn : Left → Left → Bool
 heldIn a b = every (isMember (basisIn a)) (basisIn b)
 
-unfoldable pub sameReduced : ReducedEntry → ReducedEntry → Bool
+unfoldable pub sameReduced : Left → Left → Bool
 sameReduced a b = eqb (a .m) (b .m) && (eqb (a .d) (b .d) && (heldIn a b && heldIn b a))
 
 -- as the code decides it
-module _ (a b : ReducedEntry) where
+module _ (a b : Left) where
   pub other-m : a .m ≢ b .m → false ≡ sameReduced a b
   unfolding sameReduced
   other-m h = sym (ap (λ p. p && (eqb (a .d) (b .d) && (heldIn a b && heldIn b a))) (ne-eqb _ _ h))
@@ -74,9 +71,6 @@ module _ (e : Entry) (s : Sound e) where
 
   pub rows-table : rowsIn (reducedEntry e) ≡ table mostVectors mostCoordinates (reducedOf e)
   rows-table = rows-are ∙ ap (λ r. r .basis) (entry-reduction e s)
-
-  kept-basis : ReducedBasis (e .head .d) (rowsIn (reducedEntry e))
-  kept-basis = subst (ReducedBasis (e .head .d)) (sym rows-are) (accepted-basis (inputOf e) (is-basis e (s .fits) (s .independent)))
 
   -- the test on the rows is that of the definition
   pub held-vectors : (m : ℕ) → m ≡ e .head .m → (vs : List Vec) → Coordinates m vs
@@ -108,18 +102,15 @@ module _ (e f : Entry) (s : Sound e) (t : Sound f) where
   same-is = same-by (eqb (e .head .m) (f .head .m)) refl (eqb (e .head .d) (f .head .d)) refl
 
 -- ---- what the code asks of it: it is kept of some entry of an accepted catalogue
-pub record Fair (k : ReducedEntry) : Type 0 where
+pub record Fair (k : Left) : Type 0 where
   pub entry : Entry
   pub sound : Sound entry
   pub is : k ≡ reducedEntry entry
 
-pub fair-basis : {k : ReducedEntry} → Fair k → ReducedBasis (k .d) (rowsIn k)
-fair-basis p = subst (λ k. ReducedBasis (k .d) (rowsIn k)) (sym (p .is)) (kept-basis (p .entry) (p .sound))
-
-pub fair-same : {a b : ReducedEntry} (p : Fair a) (q : Fair b) → sameReduced a b ≡ sameLattice (p .entry) (q .entry)
+pub fair-same : {a b : Left} (p : Fair a) (q : Fair b) → sameReduced a b ≡ sameLattice (p .entry) (q .entry)
 fair-same p q = ap₂ sameReduced (p .is) (q .is) ∙ same-is (p .entry) (q .entry) (p .sound) (q .sound)
 
 -- entries of one lattice have the same squared lengths
-pub other-squares : {a b : ReducedEntry} → Fair a → Fair b → a .squares ≢ b .squares → false ≡ sameReduced a b
+pub other-squares : {a b : Left} → Fair a → Fair b → a .squares ≢ b .squares → false ≡ sameReduced a b
 other-squares p q h =
     sym (fair-same p q ∙ different-answers (p .entry) (q .entry) (p .sound) (q .sound) (λ e. h (ap (λ k. k .squares) (p .is) ∙ e ∙ sym (ap (λ k. k .squares) (q .is)))))

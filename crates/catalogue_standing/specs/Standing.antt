@@ -20,7 +20,7 @@ use Rattle.fold_rules.specs.Laws.SameLattice.{Sound, sound-entries}
 use Rattle.fold_rules.specs.Laws.Standing.{not-used}
 use Rattle.fold_rules.specs.Laws.Adding.{standing-kept}
 use Rattle.fold_rules.specs.Laws.Searching.{among-at, first-found, first-none, standing-past}
-use Rattle.catalogue_standing.specs.declared.reduced_entry.ReducedEntry.{ReducedEntry}
+use Rattle.lattice_membership.specs.Known.{Left}
 use Rattle.catalogue_standing.specs.ReducedEntry.{noReduced, reducedEntry, sameReduced, same-is}
 use Rattle.catalogue_standing.specs.Places.{First, stander, Closed}
 
@@ -43,7 +43,7 @@ eqb-same a b c d f g = go (eqb a b) refl (eqb c d) refl
     go false e true h = sym e ∙ eq-eqb a b (g (eqb-true c d h))
 
 -- what is kept of each entry, and the places that were found; o stands beyond the end
-pub record Held (es : List Entry) (o : Entry) (list : List ReducedEntry) (places : List ℕ) : Type 0 where
+pub record Held (es : List Entry) (o : Entry) (list : List Left) (places : List ℕ) : Type 0 where
   pub kept : (k : ℕ) → k < length es → getD list k noReduced ≡ reducedEntry (getD es k o)
   pub closed : Closed list (length es) places
 
@@ -51,7 +51,7 @@ pub record Held (es : List Entry) (o : Entry) (list : List ReducedEntry) (places
 pub record Numbers (es : List Entry) (o : Entry) (numbers : List ℕ) : Type 0 where
   pub number : (k : ℕ) → k < length es → getD numbers k 0 ≡ getD es k o .head .number
 
-module _ (es : List Entry) (o : Entry) (w : WellFormed es) {list : List ReducedEntry} {places : List ℕ} (held : Held es o list places) where
+module _ (es : List Entry) (o : Entry) (w : WellFormed es) {list : List Left} {places : List ℕ} (held : Held es o list places) where
   abbrev at : ℕ → Entry
   at k = getD es k o
 

@@ -16,20 +16,11 @@ ghost use Rattle.catalogue_standing.specs.ReducedEntry.{reducedEntry};
 ghost use Rattle.catalogue_standing.specs.SameLattice.{LatticeOf};
 ghost use Rattle.catalogue_standing.specs.Places.{First};
 ghost use Rattle.catalogue_standing.specs.ReducedEntries.{WasRead};
-use super::reduced_entry::keep;
-use super::same_lattice::lattice_of;
+use super::entry_lattices::lattice_of;
 use catalogue_records::Catalogue;
 use catalogue_records::Entry;
-use lattice_membership::Lattice;
-use lattice_membership::holds_lattice;
-
-// The lattice of an entry as it was read.
-fn entry_lattice(e: Entry) -> Lattice
-    requires { ⌜ Sound (entryIn e) ⌝ }
-    ensures { λ r. ⌜ LatticeOf (reducedEntry (entryIn e)) r ⌝ }
-{
-    lattice_of(keep(e))
-}
+use engine::Lattice;
+use engine::holds_lattice;
 
 // Whether a lattice holds the vectors of an entry as they were read.
 fn holds_entry(l: Lattice, e: Entry) -> bool
@@ -39,7 +30,7 @@ fn holds_entry(l: Lattice, e: Entry) -> bool
 {
     let coordinates = e.coordinates;
     let n = e.d * e.m;
-    lattice_membership::holds_numbers(l, &coordinates[..n], e.d, e.m)
+    engine::holds_numbers(l, &coordinates[..n], e.d, e.m)
 }
 
 // Whether f is of the lattice of e, which is given. Only where that holds all vectors of f is f reduced.
@@ -57,7 +48,7 @@ fn same_entry(f: Entry, e: Entry, l: Lattice) -> bool
     if !holds_entry(l, f) {
         return false;
     }
-    holds_lattice(entry_lattice(f), l)
+    holds_lattice(lattice_of(f), l)
 }
 
 // The place of the standing entry of entry k.
@@ -67,7 +58,7 @@ pub fn standing_place(c: Catalogue, k: usize) -> usize
     ensures { λ r. ⌜ First (λ j. sameLattice (entryIn (entryAt c j)) (entryIn (entryAt c k))) k r ⌝ }
 {
     let e = c.entries[k];
-    let l = entry_lattice(e);
+    let l = lattice_of(e);
     for j in 0..k {
         let f = c.entries[j];
         if same_entry(f, e, l) {

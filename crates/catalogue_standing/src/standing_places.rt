@@ -2,34 +2,30 @@
 ghost use Prim.Native.Nat.{ℕ, _≤_, _<_};
 ghost use lib.Dec.{eqb};
 ghost use lib.ListN.{length, getD};
-ghost use Rattle.catalogue_standing.specs.ReducedEntry.{noReduced, Fair};
+ghost use Rattle.catalogue_standing.specs.SameLattice.{FairLattice, noLattice, leftsIn};
 ghost use Rattle.catalogue_standing.specs.Places.{First, Closed};
 ghost use Rattle.catalogue_rules.specs.Catalogue.{mostEntries};
-use super::reduced_entry::ReducedEntry;
-use super::same_lattice::lattices_of;
 use super::same_lattice::same;
 use catalogue_records::Catalogue;
+use engine::Lattice;
 
 // The places of the standing entries of the first count entries: for each the first standing entry before it of the same lattice, else its own.
 // Both loops stand here, where the arrays are: lent arrays of structs are not covered, and by value each call would copy them.
 pub fn closed(
-    list: [ReducedEntry; Catalogue::MOST_ENTRIES],
+    list: [Lattice; Catalogue::MOST_ENTRIES],
     count: usize,
 ) -> [usize; Catalogue::MOST_ENTRIES]
     requires { ⌜ count ≤ mostEntries ⌝ }
-    requires { ⌜ ((j : ℕ) → j < count → Fair (getD list j noReduced)) ⌝ }
-    ensures { λ r. ⌜ Closed list count r ⌝ }
+    requires { ⌜ ((j : ℕ) → j < count → FairLattice (getD list j noLattice)) ⌝ }
+    ensures { λ r. ⌜ Closed (leftsIn list) count r ⌝ }
 {
-    let lattices = lattices_of(list, count);
     let mut standing = [0; Catalogue::MOST_ENTRIES];
     for k in 0..count {
-        let e = list[k];
-        let l = lattices[k];
+        let l = list[k];
         let mut j = 0;
         while j < k {
-            let f = list[j];
-            let g = lattices[j];
-            if standing[j] == j && same(f, e, g, l) {
+            let g = list[j];
+            if standing[j] == j && same(g, l) {
                 break;
             }
             j += 1;

@@ -25,7 +25,7 @@ returns-3 c =
     let q = c .before in
     let d = q .before .before .before in
     let s = d .before .before .before .before .before .before in
-    other-squares (s .pre .0 .0) (s .pre .0 .1) (q .same-squares .ensures (not-true _ (c .if3 .taken)))
+    other-squares (s .pre .0 .fair) (s .pre .1 .fair) (q .same-squares .ensures (not-true _ (c .if3 .taken)))
 
 holds-lattice-requires : tie.Need-holds-lattice-requires
 holds-lattice-requires c κs = search needs
@@ -38,7 +38,7 @@ returns-4 c =
     let h = c .before .before in
     let d = h .before .before .before .before .before in
     let s = d .before .before .before .before .before .before in
-    sym (ap₂ _&&_ (sym (h .holds-lattice .ensures) ∙ c .before .if4 .taken) (sym (c .holds-lattice2 .ensures))) ∙ by-lattices (s .pre .1 .0) (s .pre .1 .1) (d .before .before .before .if1 .left) (d .if2 .left)
+    sym (ap₂ _&&_ (sym (h .holds-lattice .ensures) ∙ c .before .if4 .taken) (sym (c .holds-lattice2 .ensures))) ∙ by-lattices (s .args .left) (s .args .right) (d .before .before .before .if1 .left) (d .if2 .left)
 
 returns-5 : tie.Need-returns-5
 returns-5 c =
@@ -47,7 +47,7 @@ returns-5 c =
     let s = d .before .before .before .before .before .before in
     let e = sym (h .holds-lattice .ensures) ∙ c .if4 .left in
     c .if4 .left ∙ sym (ap (λ t. t && every (isMember (vectorsIn (s .args .right))) (vectorsIn (s .args .left))) e)
-    ∙ by-lattices (s .pre .1 .0) (s .pre .1 .1) (d .before .before .before .if1 .left) (d .if2 .left)
+    ∙ by-lattices (s .args .left) (s .args .right) (d .before .before .before .if1 .left) (d .if2 .left)
 
 pub same-spec : {M : Type 1} → statement M
 same-spec =

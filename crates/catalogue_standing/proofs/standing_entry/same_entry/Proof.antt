@@ -23,11 +23,11 @@ returns-3 c =
     let s = d .before .before .before .before .before .before in
     entered-outside (entryIn (s .args .f)) (entryIn (s .args .e)) (s .pre .0 .0) (s .pre .0 .1) (d .before .before .before .if1 .left) (s .pre .1) (sym (h .holds-entry .ensures) ∙ not-true _ (c .if3 .taken))
 
-entry-lattice-requires : tie.Need-entry-lattice-requires
-entry-lattice-requires c κs = c .before .before .before .before .before .before .before .before .pre .0 .0
+lattice-of-requires : tie.Need-lattice-of-requires
+lattice-of-requires c κs = c .before .before .before .before .before .before .before .before .pre .0 .0
 
 holds-lattice-requires : tie.Need-holds-lattice-requires
-holds-lattice-requires c κs = search (c .entry-lattice .ensures .known, c .before .before .before .before .before .before .before .before .before .pre .1 .known)
+holds-lattice-requires c κs = search (c .lattice-of .ensures .known, c .before .before .before .before .before .before .before .before .before .pre .1 .known)
 
 returns-4 : tie.Need-returns-4
 returns-4 c =
@@ -37,7 +37,7 @@ returns-4 c =
     let d = h .before in
     let s = d .before .before .before .before .before .before in
     c .holds-lattice .ensures
-    ∙ entered-inside (entryIn (s .args .f)) (entryIn (s .args .e)) (s .pre .0 .0) (s .pre .0 .1) (d .before .before .before .if1 .left) (s .pre .1) (sym (h .holds-entry .ensures) ∙ not-false _ (e .if3 .left)) (f .entry-lattice .ensures)
+    ∙ entered-inside (entryIn (s .args .f)) (entryIn (s .args .e)) (s .pre .0 .0) (s .pre .0 .1) (d .before .before .before .if1 .left) (s .pre .1) (sym (h .holds-entry .ensures) ∙ not-false _ (e .if3 .left)) (f .lattice-of .ensures)
 
 pub same-entry-spec : {M : Type 1} → statement M
 same-entry-spec =
@@ -47,6 +47,6 @@ same-entry-spec =
     returns-2
     holds-entry-requires
     returns-3
-    entry-lattice-requires
+    lattice-of-requires
     holds-lattice-requires
     returns-4)

@@ -27,8 +27,8 @@ mul-e c = omega (arith, c .pre .0 .few, c .pre .1)
 element-copy-out-e : tie.Need-element-copy-out-e Inv-loop μ-loop
 element-copy-out-e c = omega (arith, c .pre .0 .few, c .pre .0 .long, c .pre .1)
 
-entry-lattice-requires : tie.Need-entry-lattice-requires Inv-loop μ-loop
-entry-lattice-requires c κs = let s = c .before in sound s (s .args .k) (s .pre .1)
+lattice-of-requires : tie.Need-lattice-of-requires Inv-loop μ-loop
+lattice-of-requires c κs = let s = c .before in sound s (s .args .k) (s .pre .1)
 
 loop-holds : tie.Need-loop-holds Inv-loop μ-loop
 loop-holds c = (omega arith, λ i h. absurd (omega arith))
@@ -44,7 +44,7 @@ same-entry-requires c κs =
     let i = c .before in
     let l = i .before in
     let s = l .before .before .before in
-    ((sound s (l .loop .j) (omega (arith, i .loop-test .taken, s .pre .1)), sound s (s .args .k) (s .pre .1)), l .before .entry-lattice .ensures)
+    ((sound s (l .loop .j) (omega (arith, i .loop-test .taken, s .pre .1)), sound s (s .args .k) (s .pre .1)), l .before .lattice-of .ensures)
 
 returns : tie.Need-returns Inv-loop μ-loop
 returns c =
@@ -76,7 +76,7 @@ standing-place-spec =
     μ-loop
     mul-e
     element-copy-out-e
-    entry-lattice-requires
+    lattice-of-requires
     loop-holds
     mul-f
     element-copy-out-f

@@ -5,135 +5,120 @@ use mathlib.Core.Bool.{false}
 use Prim.Native.Nat.{ℕ, _-_, _≤_, _<_}
 use native.Mathlib.Omega.{arith}
 use borrow.Author.Needs.{needs}
-use Rattle.catalogue_standing.specs.Places.{First, stander, not-standing, standing-here, Closed, before-more, closed-none, closed-more}
+use Rattle.catalogue_standing.specs.Places.{First, stander, not-standing, Closed, before-more, closed-none, closed-more}
+use Rattle.catalogue_standing.specs.SameLattice.{leftsIn, standing-of}
 use Rattle.catalogue_rules.specs.Catalogue.{mostEntries}
 use Rattle.catalogue_standing.proofs.standing_places.closed.Statement.{statement}
 use Rattle.catalogue_standing.proofs.standing_places.closed.Tie as tie
 
 abbrev Inv-loop2 : tie.InvT-loop2
-Inv-loop2 count list lattices standing k e l j₀ j = (j ≤ k) × ((i : ℕ) → i < j → stander list standing k i ≡ false)
+Inv-loop2 count list standing k l j₀ j = (j ≤ k) × ((i : ℕ) → i < j → stander (leftsIn list) standing k i ≡ false)
 
 abbrev μ-loop2 : tie.MeasureT-loop2
-μ-loop2 count list lattices standing k e l j₀ j = k - j
+μ-loop2 count list standing k l j₀ j = k - j
 
 abbrev Inv-loop : tie.InvT-loop
-Inv-loop count list lattices standing₀ k₀ standing k = (k ≤ count) × Closed list k standing
+Inv-loop count list standing₀ k₀ standing k = (k ≤ count) × Closed (leftsIn list) k standing
 
 abbrev μ-loop : tie.MeasureT-loop
-μ-loop count list lattices standing₀ k₀ standing k = count - k
-
-lattices-of-requires : tie.Need-lattices-of-requires Inv-loop2 μ-loop2 Inv-loop μ-loop
-lattices-of-requires c κs = search needs
+μ-loop count list standing₀ k₀ standing k = count - k
 
 loop-holds : tie.Need-loop-holds Inv-loop2 μ-loop2 Inv-loop μ-loop
 loop-holds c = (search needs, closed-none _ _ refl)
 
 -- entry k is one of the 256
 below : (c : tie.In-loop Inv-loop2 μ-loop2 Inv-loop μ-loop) → c .before .loop .k < mostEntries
-below c = omega (arith, c .before .before .before .pre .0, c .loop-test .taken)
-
-mul-e : tie.Need-mul-e Inv-loop2 μ-loop2 Inv-loop μ-loop
-mul-e c = omega (arith, below c)
-
-array-copy-out-e : tie.Need-array-copy-out-e Inv-loop2 μ-loop2 Inv-loop μ-loop
-array-copy-out-e c = below c
+below c = omega (arith, c .before .before .pre .0, c .loop-test .taken)
 
 mul-l : tie.Need-mul-l Inv-loop2 μ-loop2 Inv-loop μ-loop
-mul-l c = omega (arith, below (c .before))
+mul-l c = omega (arith, below c)
 
 array-copy-out-l : tie.Need-array-copy-out-l Inv-loop2 μ-loop2 Inv-loop μ-loop
-array-copy-out-l c = below (c .before)
+array-copy-out-l c = below c
 
 loop2-holds : tie.Need-loop2-holds Inv-loop2 μ-loop2 Inv-loop μ-loop
 loop2-holds c = (omega arith, λ i h. absurd (omega arith))
 
 -- entry j as well
 small : (c : tie.In-loop2 Inv-loop2 μ-loop2 Inv-loop μ-loop) → c .before .loop2 .j < mostEntries
-small c = omega (arith, below (c .before .before .before .before), c .loop2-test .taken)
-
-mul-f : tie.Need-mul-f Inv-loop2 μ-loop2 Inv-loop μ-loop
-mul-f c = omega (arith, small c)
-
-array-copy-out-f : tie.Need-array-copy-out-f Inv-loop2 μ-loop2 Inv-loop μ-loop
-array-copy-out-f c = small c
+small c = omega (arith, below (c .before .before .before), c .loop2-test .taken)
 
 mul-g : tie.Need-mul-g Inv-loop2 μ-loop2 Inv-loop μ-loop
-mul-g c = omega (arith, small (c .before))
+mul-g c = omega (arith, small c)
 
 array-copy-out-g : tie.Need-array-copy-out-g Inv-loop2 μ-loop2 Inv-loop μ-loop
-array-copy-out-g c = small (c .before)
+array-copy-out-g c = small c
 
 mul-if1 : tie.Need-mul-if1 Inv-loop2 μ-loop2 Inv-loop μ-loop
-mul-if1 c = omega (arith, small (c .before .before))
+mul-if1 c = omega (arith, small (c .before))
 
 array-read-if1 : tie.Need-array-read-if1 Inv-loop2 μ-loop2 Inv-loop μ-loop
-array-read-if1 c = omega (arith, small (c .before .before), c .before .before .before .before .before .before .before .loop .inv .1 .long)
+array-read-if1 c = omega (arith, small (c .before), c .before .before .before .before .before .loop .inv .1 .long)
 
 same-requires : tie.Need-same-requires Inv-loop2 μ-loop2 Inv-loop μ-loop
 same-requires c κs =
-    let i = c .before .before .before in
+    let i = c .before .before in
     let a = i .before in
-    let k = a .before .before .before in
-    let l = k .before .before in
-    let fair = l .before .pre .1 in
-    let made = l .lattices-of .ensures in
-    let j : a .loop2 .j < l .before .args .count = omega (arith, i .loop2-test .taken, k .loop-test .taken) in
-    ((fair _ j, fair _ (k .loop-test .taken)), (made .at _ j, made .at _ (k .loop-test .taken)))
+    let k = a .before .before in
+    let s = k .before .before in
+    let fair = s .pre .1 in
+    let j : a .loop2 .j < s .args .count = omega (arith, i .loop2-test .taken, k .loop-test .taken) in
+    (fair _ j, fair _ (k .loop-test .taken))
 
 add-j : tie.Need-add-j Inv-loop2 μ-loop2 Inv-loop μ-loop
-add-j c = omega (arith, small (c .before .before .before))
+add-j c = omega (arith, small (c .before .before))
 
 loop2-less : tie.Need-loop2-less Inv-loop2 μ-loop2 Inv-loop μ-loop
-loop2-less c = omega (arith, c .before .before .before .loop2-test .taken)
+loop2-less c = omega (arith, c .before .before .loop2-test .taken)
 
 loop2-again : tie.Need-loop2-again Inv-loop2 μ-loop2 Inv-loop μ-loop
 loop2-again c =
-    let i = c .before .before .before in
+    let i = c .before .before in
     let a = i .before in
-    let l = a .before .before .before .before in
-    let list = l .before .before .args .t1 in
+    let l = a .before .before .before in
+    let list = l .before .args .t1 in
     let places = l .loop .standing in (
       omega (arith, i .loop2-test .taken),
       before-more _ (a .loop2 .j) (a .loop2 .inv .1)
-          (⊎-elim (λ x. standing-here list places (l .loop .k) (a .loop2 .j) (x .0 .taken) ∙ sym (x .1 .ensures) ∙ x .2 .left) (λ x. not-standing list places (l .loop .k) (a .loop2 .j) (x .left)) (c .if1 .came)),
+          (⊎-elim (λ x. standing-of list places (l .loop .k) (a .loop2 .j) (x .0 .taken) ∙ sym (x .1 .ensures) ∙ x .2 .left) (λ x. not-standing (leftsIn list) places (l .loop .k) (a .loop2 .j) (x .left)) (c .if1 .came)),
     )
 
 -- the place at which the inner loop ends
 found : (c : tie.Left-loop2 Inv-loop2 μ-loop2 Inv-loop μ-loop) →
-    let l = c .before .before .before .before .before in
-    First (stander (l .before .before .args .t1) (l .loop .standing) (l .loop .k)) (l .loop .k) (c .before .loop2 .j)
+    let l = c .before .before .before .before in
+    First (stander (leftsIn (l .before .args .t1)) (l .loop .standing) (l .loop .k)) (l .loop .k) (c .before .loop2 .j)
 found c =
     let a = c .before in
-    let l = a .before .before .before .before in
-    let list = l .before .before .args .t1 in
+    let l = a .before .before .before in
+    let list = l .before .args .t1 in
     let places = l .loop .standing in
     ⊎-elim
     (λ x. record { within = a .loop2 .inv .0; before = a .loop2 .inv .1; here = λ h. absurd (omega (arith, x .left, h)) })
-    (λ x. record { within = a .loop2 .inv .0; before = a .loop2 .inv .1; here = λ h. standing-here list places (l .loop .k) (a .loop2 .j) (x .3 .taken) ∙ sym (x .4 .ensures) ∙ x .5 .taken })
+    (λ x. record { within = a .loop2 .inv .0; before = a .loop2 .inv .1; here = λ h. standing-of list places (l .loop .k) (a .loop2 .j) (x .2 .taken) ∙ sym (x .3 .ensures) ∙ x .4 .taken })
     (c .loop2-test .came)
 
 mul-standing : tie.Need-mul-standing Inv-loop2 μ-loop2 Inv-loop μ-loop
-mul-standing c = omega (arith, below (c .before .before .before .before))
+mul-standing c = omega (arith, below (c .before .before .before))
 
 array-write-standing : tie.Need-array-write-standing Inv-loop2 μ-loop2 Inv-loop μ-loop
-array-write-standing c = let k = c .before .before .before .before in omega (arith, below k, k .before .loop .inv .1 .long)
+array-write-standing c = let k = c .before .before .before in omega (arith, below k, k .before .loop .inv .1 .long)
 
 add-k : tie.Need-add-k Inv-loop2 μ-loop2 Inv-loop μ-loop
-add-k c = omega (arith, below (c .before .before .before .before))
+add-k c = omega (arith, below (c .before .before .before))
 
 loop-less : tie.Need-loop-less Inv-loop2 μ-loop2 Inv-loop μ-loop
-loop-less c = omega (arith, c .before .before .before .before .loop-test .taken)
+loop-less c = omega (arith, c .before .before .before .loop-test .taken)
 
 loop-again : tie.Need-loop-again Inv-loop2 μ-loop2 Inv-loop μ-loop
 loop-again c =
-    let k = c .before .before .before .before in
+    let k = c .before .before .before in
     (omega (arith, k .loop-test .taken), closed-more (k .before .loop .inv .1) (below k) (found c))
 
 returns : tie.Need-returns Inv-loop2 μ-loop2 Inv-loop μ-loop
 returns c =
     let l = c .before in
-    let e : l .loop .k ≡ l .before .before .args .count = omega (arith, l .loop .inv .0, c .loop-test .left) in
-    subst (λ n. Closed (l .before .before .args .t1) n (l .loop .standing)) e (l .loop .inv .1)
+    let e : l .loop .k ≡ l .before .args .count = omega (arith, l .loop .inv .0, c .loop-test .left) in
+    subst (λ n. Closed (leftsIn (l .before .args .t1)) n (l .loop .standing)) e (l .loop .inv .1)
 
 pub closed-spec : {M : Type 1} → statement M
 closed-spec =
@@ -143,15 +128,10 @@ closed-spec =
     μ-loop2
     Inv-loop
     μ-loop
-    lattices-of-requires
     loop-holds
-    mul-e
-    array-copy-out-e
     mul-l
     array-copy-out-l
     loop2-holds
-    mul-f
-    array-copy-out-f
     mul-g
     array-copy-out-g
     mul-if1

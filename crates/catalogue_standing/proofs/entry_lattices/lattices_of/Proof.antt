@@ -1,15 +1,11 @@
--- The first k entries are kept.
+-- The first k lattices are made.
 use mathlib.Core.Path.{_≡_, refl, subst}
 use Prim.Native.Nat.{_-_, _≤_}
 use native.Mathlib.Omega.{arith}
-use lib.ListN.{length}
 use borrow.Author.Needs.{needs}
-use Rattle.catalogue_rules.specs.Form.{EntryFits}
-use Rattle.catalogue_records.specs.Entries.{all-stored, entry-has}
-use Rattle.catalogue_standing.specs.ReducedEntries.{HoldReduced, keeps-none, keeps-more}
-use Rattle.catalogue_rules.specs.Catalogue.{mostEntries}
-use Rattle.catalogue_standing.proofs.reduced_entry.reduce_all.Statement.{statement}
-use Rattle.catalogue_standing.proofs.reduced_entry.reduce_all.Tie as tie
+use Rattle.catalogue_standing.specs.ReducedEntries.{HoldReduced, keeps-none, keeps-more, ready-sound}
+use Rattle.catalogue_standing.proofs.entry_lattices.lattices_of.Statement.{statement}
+use Rattle.catalogue_standing.proofs.entry_lattices.lattices_of.Tie as tie
 
 abbrev Inv-loop : tie.InvT-loop
 Inv-loop c list₀ k₀ k-end list k = (k ≤ k-end) × HoldReduced c k list
@@ -17,22 +13,17 @@ Inv-loop c list₀ k₀ k-end list k = (k ≤ k-end) × HoldReduced c k list
 abbrev μ-loop : tie.MeasureT-loop
 μ-loop c list₀ k₀ k-end list k = k-end - k
 
-long : (c : tie.Start Inv-loop μ-loop) → length (c .args .t1 .entries) ≡ mostEntries
-long c = all-stored (c .args .t1) _ (c .good .0 .1 .1 .1 .1 .1 .0 .1 .0 .1)
-
 loop-holds : tie.Need-loop-holds Inv-loop μ-loop
 loop-holds c = (search needs, keeps-none _ _ refl)
 
 mul-e : tie.Need-mul-e Inv-loop μ-loop
-mul-e c = search needs
+mul-e c = let s = c .before .before in omega (arith, s .pre .few, c .loop-test .taken)
 
 element-copy-out-e : tie.Need-element-copy-out-e Inv-loop μ-loop
-element-copy-out-e c = search needs
+element-copy-out-e c = let s = c .before .before in omega (arith, s .pre .few, s .pre .long, c .loop-test .taken)
 
-keep-requires : tie.Need-keep-requires Inv-loop μ-loop
-keep-requires c κs =
-    let s = c .before .before .before in
-    entry-has (s .args .t1) (long s) (s .pre .0) _ (search needs) EntryFits (s .pre .1)
+lattice-of-requires : tie.Need-lattice-of-requires Inv-loop μ-loop
+lattice-of-requires c κs = let s = c .before .before .before in ready-sound (s .args .t1) (s .pre) _ (search needs)
 
 mul-list : tie.Need-mul-list Inv-loop μ-loop
 mul-list c = search needs
@@ -49,7 +40,7 @@ loop-less c = search needs
 loop-again : tie.Need-loop-again Inv-loop μ-loop
 loop-again c =
     let l = c .before .before .before in
-    (search needs, keeps-more (l .loop .inv .1) (omega (arith, l .before .pre .0, c .before .before .loop-test .taken)) (c .keep .ensures))
+    (search needs, keeps-more (l .loop .inv .1) (omega (arith, l .before .pre .few, c .before .before .loop-test .taken)) (c .lattice-of .ensures))
 
 returns : tie.Need-returns Inv-loop μ-loop
 returns c =
@@ -57,8 +48,8 @@ returns c =
     let e : l .loop .k ≡ l .before .args .t1 .count = omega (arith, l .loop .inv .0, c .loop-test .left) in
     subst (λ n. HoldReduced (l .before .args .t1) n (l .loop .list)) e (l .loop .inv .1)
 
-pub reduce-all-spec : {M : Type 1} → statement M
-reduce-all-spec =
+pub lattices-of-spec : {M : Type 1} → statement M
+lattices-of-spec =
     tie.close
     (tie.spec
     Inv-loop
@@ -66,7 +57,7 @@ reduce-all-spec =
     loop-holds
     mul-e
     element-copy-out-e
-    keep-requires
+    lattice-of-requires
     mul-list
     array-set-from-list
     add-k
