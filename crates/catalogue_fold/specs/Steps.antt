@@ -14,9 +14,10 @@ use Rattle.catalogue_records.specs.Stored.{entryOf}
 use Rattle.catalogue_records.specs.Catalogues.{stored, holding}
 use Rattle.catalogue_records.specs.EntriesIn.{entryIn, entriesIn}
 use Rattle.catalogue_records.specs.Entries.{beyond, entryAt, at-place, entry-has}
-use Rattle.lattice_membership.specs.Known.{Left}
+use Rattle.lattice_membership.specs.declared.Lattice.{Lattice}
+use Rattle.lattice_membership.specs.Known.{leftIn}
 use Rattle.catalogue_fold.specs.declared.printing.Way.{Way}
-use Rattle.catalogue_standing.specs.ReducedEntry.{noReduced}
+use Rattle.catalogue_standing.specs.SameLattice.{noLattice, leftsIn}
 use Rattle.catalogue_fold.specs.Spread.{Full, kept-full}
 use Rattle.catalogue_standing.specs.Places.{Closed}
 use Rattle.catalogue_standing.specs.Standing.{Held, place-standing}
@@ -24,7 +25,7 @@ use Rattle.catalogue_standing.specs.ReducedEntries.{WasRead, HoldReduced, ready
 use Rattle.catalogue_fold.specs.Printing.{Led, printedAs}
 use Rattle.catalogue_fold.specs.Folding.{foldedOf, prints-all, Folds, folds-no, folds-yes, printed-is}
 
-module _ (c : Catalogue) (r : WasRead c) {list : List Left} {places numbers : List ℕ} (kept : HoldReduced c (c .count) list) (closed : Closed list (c .count) places)
+module _ (c : Catalogue) (r : WasRead c) {list : List Lattice} {places numbers : List ℕ} (kept : HoldReduced c (c .count) list) (closed : Closed (leftsIn list) (c .count) places)
     (named : numbers ≡ map (λ e. e .number) (c .entries)) (k : ℕ) where
   abbrev es : List definition.Entry
   es = entriesIn c
@@ -35,7 +36,7 @@ module _ (c : Catalogue) (r : WasRead c) {list : List Left} {places numbers : Li
   abbrev e : Entry
   e = entryAt c k
 
-  held : Held es o list places
+  held : Held es o (leftsIn list) places
   held = keeps-held c r kept closed
 
   module _ (here : k < c .count) where
@@ -48,8 +49,8 @@ module _ (c : Catalogue) (r : WasRead c) {list : List Left} {places numbers : Li
     sound : Sound (entryIn e)
     sound = entry-has c (r .long) (r .few) k here Sound (sound-entries es (r .formed))
 
-    pub full : Full (getD list k noReduced)
-    full = subst Full (sym (kept .at k here)) (kept-full (entryIn e) sound)
+    pub full : Full (leftIn (getD list k noLattice))
+    full = subst Full (sym (kept .at k here .left)) (kept-full (entryIn e) sound)
 
     -- an entry that stands has its own number for standing number
     own : getD places k 0 ≡ k → standing es (entryIn e) .head .number ≡ e .number
@@ -62,11 +63,11 @@ module _ (c : Catalogue) (r : WasRead c) {list : List Left} {places numbers : Li
       passed-over q a b =
           subst (λ m. Folds es (k + 1) m after) (sym b) (subst (Folds es (k + 1) n) (sym a) (folds-no es o (r .formed) held p inside q))
 
-      pub printed-next : getD places k 0 ≡ k → {w : Way} → Led e (e .number) numbers places (c .count) w → {q : Entry} → q ≡ printedAs e (getD list k noReduced) w
+      pub printed-next : getD places k 0 ≡ k → {w : Way} → Led e (e .number) numbers places (c .count) w → {q : Entry} → q ≡ printedAs e (leftIn (getD list k noLattice)) w
           → after ≡ set before n q → m ≡ n + 1 → Folds es (k + 1) m after
       printed-next s {w} way {q} is a b =
-          let led = way .leads es o list (r .formed) held (ready-numbers c r named) (ready-length c r) in
-          let shown = printed-is es e sound (own s) (kept .at k here) led ∙ ap (λ f. entryOf (printed (closedList es) (stoodOf es f))) (sym found) in
+          let led = way .leads es o (leftsIn list) (r .formed) held (ready-numbers c r named) (ready-length c r) in
+          let shown = printed-is es e sound (own s) (kept .at k here .left) led ∙ ap (λ f. entryOf (printed (closedList es) (stoodOf es f))) (sym found) in
           subst (λ m. Folds es (k + 1) m after) (sym b) (subst (Folds es (k + 1) (n + 1)) (sym a) (folds-yes es o (r .formed) held p inside s (is ∙ shown)))
 
 -- after the last entry

@@ -1,9 +1,10 @@
 // The folded catalogue: the standing entries in file order, each as it is printed.
 ghost use mathlib.Core.Path.{_≡_};
 ghost use Rattle.catalogue_standing.specs.Places.{Closed};
+ghost use Rattle.catalogue_standing.specs.SameLattice.{leftsIn};
 ghost use Rattle.catalogue_standing.specs.ReducedEntries.{WasRead, HoldReduced};
 ghost use Rattle.catalogue_fold.specs.Folding.{foldedOf};
-use catalogue_standing::reduced_entry::ReducedEntry;
+use engine::Lattice;
 use printing::printed;
 use printing::way_of;
 
@@ -12,12 +13,12 @@ pub mod printing;
 // Of a catalogue that was read; the list of standing entries is closed before any see word is led.
 pub fn folded(
     c: catalogue_records::Catalogue,
-    list: [ReducedEntry; catalogue_records::Catalogue::MOST_ENTRIES],
+    list: [Lattice; catalogue_records::Catalogue::MOST_ENTRIES],
     standing: &[usize],
 ) -> catalogue_records::Catalogue
     requires { ⌜ WasRead c ⌝ }
     requires { ⌜ HoldReduced c (c .count) list ⌝ }
-    requires { ⌜ Closed list (c .count) (now standing) ⌝ }
+    requires { ⌜ Closed (leftsIn list) (c .count) (now standing) ⌝ }
     ensures { λ r. ⌜ r ≡ foldedOf c ⌝ }
 {
     let numbers = catalogue_records::numbers(c);
@@ -27,9 +28,9 @@ pub fn folded(
     for k in 0..c.count {
         if standing[k] == k {
             let e = c.entries[k];
-            let kept = list[k];
+            let l = list[k];
             let w = way_of(e, e.number, &numbers, standing, c.count);
-            let p = printed(e, kept, w);
+            let p = printed(e, l, w);
             entries[n] = p;
             n += 1;
         }

@@ -8,13 +8,13 @@ ghost use lib.ListN.{length, getD, take};
 ghost use Rattle.catalogue_rules.specs.Catalogue.{coordinates, mostEntries, mostNumbers};
 ghost use Rattle.integers.specs.Filled.{filled};
 ghost use Rattle.lattices.specs.Refusal.{mostCoordinates};
-ghost use Rattle.catalogue_standing.specs.ReducedEntry.{basisIn};
+ghost use Rattle.lattice_membership.specs.Known.{leftIn, vectorsIn};
 ghost use lib.Seq.{sets};
 ghost use Rattle.catalogue_fold.specs.Spread.{Full};
 ghost use Rattle.catalogue_fold.specs.Printing.{Led, printedAs};
 use catalogue_records::NUMBERS;
-use catalogue_standing::reduced_entry::ReducedEntry;
 use catalogue_standing::standing_places::place_of;
+use engine::Lattice;
 
 // The first m coordinates of a vector, from place n on.
 fn put_row(out: &mut [i64], n: usize, v: row_operations::Vector, m: usize)
@@ -29,16 +29,16 @@ fn put_row(out: &mut [i64], n: usize, v: row_operations::Vector, m: usize)
 }
 
 // The coordinates of the reduced vectors, vector by vector, then zeros.
-fn spread(k: ReducedEntry) -> [i64; NUMBERS]
-    requires { ⌜ Full k ⌝ }
-    ensures { λ r. ⌜ r ≡ filled (pos 0) mostNumbers (coordinates (map (take (k .m)) (basisIn k))) ⌝ }
+fn spread(l: Lattice) -> [i64; NUMBERS]
+    requires { ⌜ Full (leftIn l) ⌝ }
+    ensures { λ r. ⌜ r ≡ filled (pos 0) mostNumbers (coordinates (map (take (l .m)) (vectorsIn l))) ⌝ }
 {
-    let of_k = k.vectors;
-    let rows = row_operations::vectors_of(of_k);
+    let vectors = l.vectors;
+    let rows = row_operations::vectors_of(vectors);
     let mut out = [0i64; NUMBERS];
-    for i in 0..k.d {
+    for i in 0..l.d {
         let v = rows[i];
-        put_row(&mut out, i * k.m, v, k.m);
+        put_row(&mut out, i * l.m, v, l.m);
     }
     out
 }
@@ -94,9 +94,9 @@ pub fn way_of(
 }
 
 // A standing entry as it is printed.
-pub fn printed(e: catalogue_records::Entry, k: ReducedEntry, w: Way) -> catalogue_records::Entry
-    requires { ⌜ Full k ⌝ }
-    ensures { λ r. ⌜ r ≡ printedAs e k w ⌝ }
+pub fn printed(e: catalogue_records::Entry, l: Lattice, w: Way) -> catalogue_records::Entry
+    requires { ⌜ Full (leftIn l) ⌝ }
+    ensures { λ r. ⌜ r ≡ printedAs e (leftIn l) w ⌝ }
 {
     catalogue_records::Entry {
         number: e.number,
@@ -106,6 +106,6 @@ pub fn printed(e: catalogue_records::Entry, k: ReducedEntry, w: Way) -> catalogu
         sees: w.sees,
         see: w.number,
         at: w.at,
-        coordinates: spread(k),
+        coordinates: spread(l),
     }
 }

@@ -16,7 +16,9 @@ use Rattle.text_layout.specs.Fields.{line}
 use Rattle.catalogue_records.specs.declared.Catalogue.{Catalogue}
 use Rattle.catalogue_records.specs.EntriesIn.{entryIn, entriesIn}
 use Rattle.catalogue_records.specs.Entries.{beyond}
+use Rattle.lattice_membership.specs.declared.Lattice.{Lattice}
 use Rattle.lattice_membership.specs.Known.{Left}
+use Rattle.catalogue_standing.specs.SameLattice.{leftsIn}
 use Rattle.catalogue_standing.specs.Places.{Closed}
 use Rattle.catalogue_standing.specs.Standing.{Held}
 use Rattle.catalogue_standing.specs.ReducedEntries.{WasRead, HoldReduced, ready-length, keeps-held}
@@ -64,7 +66,7 @@ module _ (es : List definition.Entry) (o : definition.Entry) (w : WellFormed es)
 abbrev pub countsLine : ℕ → ℕ → List ℕ
 countsLine entries standing = line (decimal entries) (decimal standing ∷ [])
 
-pub counts-text : (c : Catalogue) (r : WasRead c) {list : List Left} {places : List ℕ} → HoldReduced c (c .count) list → Closed list (c .count) places → {n : ℕ} → n ≡ ownPlaces places (c .count)
+pub counts-text : (c : Catalogue) (r : WasRead c) {list : List Lattice} {places : List ℕ} → HoldReduced c (c .count) list → Closed (leftsIn list) (c .count) places → {n : ℕ} → n ≡ ownPlaces places (c .count)
     → countsLine (c .count) n ≡ countsLine (length (closedList (entriesIn c))) (length (standingIn (closedList (entriesIn c))))
 counts-text c r {places = places} kept closed is =
     let es = entriesIn c in

@@ -24,8 +24,10 @@ use Rattle.catalogue_records.specs.declared.Catalogue.{Catalogue}
 use Rattle.catalogue_records.specs.declared.Entry.{Entry}
 use Rattle.catalogue_records.specs.EntriesIn.{entryIn, entriesIn}
 use Rattle.catalogue_records.specs.Entries.{beyond, entryAt, at-place, entry-has}
-use Rattle.lattice_membership.specs.Known.{Left}
-use Rattle.catalogue_standing.specs.ReducedEntry.{noReduced, basisIn}
+use Rattle.lattice_membership.specs.declared.Lattice.{Lattice}
+use Rattle.lattice_membership.specs.Known.{Left, leftIn}
+use Rattle.catalogue_standing.specs.ReducedEntry.{basisIn}
+use Rattle.catalogue_standing.specs.SameLattice.{noLattice, leftsIn}
 use Rattle.catalogue_standing.specs.Places.{Closed}
 use Rattle.catalogue_standing.specs.Standing.{Held, place-standing, place-below}
 use Rattle.catalogue_standing.specs.ReducedEntries.{WasRead, HoldReduced, ready-length, ready-numbers, keeps-held}
@@ -67,7 +69,7 @@ entries-joined ss (s ∷ more) =
     append-assoc (entryLine ss s) (vectorsShown s) (joined (shown ss) more) ∙ ap (λ t. entryLine ss s ++ (vectorsShown s ++ t)) (entries-joined ss more)
 
 -- ---- the entry at place k
-module _ (c : Catalogue) (r : WasRead c) {list : List Left} {places numbers : List ℕ} (kept : HoldReduced c (c .count) list) (closed : Closed list (c .count) places)
+module _ (c : Catalogue) (r : WasRead c) {list : List Lattice} {places numbers : List ℕ} (kept : HoldReduced c (c .count) list) (closed : Closed (leftsIn list) (c .count) places)
     (named : numbers ≡ map (λ e. e .number) (c .entries)) (k : ℕ) (here : k < c .count) where
   abbrev es : List definition.Entry
   es = entriesIn c
@@ -78,7 +80,7 @@ module _ (c : Catalogue) (r : WasRead c) {list : List Left} {places numbers : Li
   abbrev e : Entry
   e = entryAt c k
 
-  held : Held es o list places
+  held : Held es o (leftsIn list) places
   held = keeps-held c r kept closed
 
   inside : k < length es
@@ -90,8 +92,8 @@ module _ (c : Catalogue) (r : WasRead c) {list : List Left} {places numbers : Li
   sound : Sound (entryIn e)
   sound = entry-has c (r .long) (r .few) k here Sound (sound-entries es (r .formed))
 
-  pub kept-entry : Full (getD list k noReduced)
-  kept-entry = subst Full (sym (kept .at k here)) (kept-full (entryIn e) sound)
+  pub kept-entry : Full (leftIn (getD list k noLattice))
+  kept-entry = subst Full (sym (kept .at k here .left)) (kept-full (entryIn e) sound)
 
   own : getD numbers (getD places k 0) 0 ≡ standing es (entryIn e) .head .number
   own =
@@ -99,15 +101,15 @@ module _ (c : Catalogue) (r : WasRead c) {list : List Left} {places numbers : Li
       ∙ ap (λ f. f .head .number) (place-standing es o (r .formed) held k inside ∙ ap (standing es) found)
 
   pub entry-shown : {w : Way} → Led e (getD numbers (getD places k 0) 0) numbers places (c .count) w
-      → entryText (e .number) (getD numbers (getD places k 0) 0) (w .number) (getD list k noReduced .passes) (vectorsOf (getD list k noReduced)) ≡ shown (closedList es) (getD (closedList es) k (stoodOf es o))
+      → entryText (e .number) (getD numbers (getD places k 0) 0) (w .number) (getD list k noLattice .passes) (vectorsOf (leftIn (getD list k noLattice))) ≡ shown (closedList es) (getD (closedList es) k (stoodOf es o))
   entry-shown {w} way =
       let n = e .number in
       let ss = closedList es in
       let there = getD numbers (getD places k 0) 0 in
       let led : w .number ≡ seeNumber (followed ss there (entryIn e .see)) =
-      ap (λ w. w .number) (way .leads es o list (r .formed) held (ready-numbers c r named) (ready-length c r)) in
-      ap (λ l. entryText n there l (getD list k noReduced .passes) (vectorsOf (getD list k noReduced))) led
-      ∙ ap (λ q. entryText n there (seeNumber (followed ss there (entryIn e .see))) (q .passes) (vectorsOf q)) (kept .at k here)
+      ap (λ w. w .number) (way .leads es o (leftsIn list) (r .formed) held (ready-numbers c r named) (ready-length c r)) in
+      ap (λ l. entryText n there l (getD list k noLattice .passes) (vectorsOf (leftIn (getD list k noLattice)))) led
+      ∙ ap (λ q. entryText n there (seeNumber (followed ss there (entryIn e .see))) (q .passes) (vectorsOf q)) (kept .at k here .left)
       ∙ ap₂ (entryText n there (seeNumber (followed ss there (entryIn e .see)))) (ap (λ a. a .passes) (entry-reduction (entryIn e) sound)) (kept-vectors (entryIn e) sound)
       ∙ ap (λ m. entryText n m (seeNumber (followed ss m (entryIn e .see))) (reduction (entryIn e .vectors) .passes) (reducedOf (entryIn e))) own
       ∙ ap (λ f. shown ss (stoodOf es f)) (sym found)

@@ -5,6 +5,8 @@ ghost use lib.ListN.{length};
 ghost use Rattle.fold_rules.specs.Fold.{closedList};
 ghost use Rattle.fold_rules.specs.Listing.{vectorLines, entryLines, catalogueLines};
 ghost use Rattle.catalogue_records.specs.EntriesIn.{entriesIn};
+ghost use Rattle.lattice_membership.specs.Known.{leftIn};
+ghost use Rattle.catalogue_standing.specs.SameLattice.{leftsIn};
 ghost use Rattle.catalogue_standing.specs.Places.{Closed};
 ghost use Rattle.catalogue_standing.specs.ReducedEntries.{WasRead, HoldReduced};
 ghost use Rattle.catalogue_fold.specs.Spread.{Full};
@@ -12,20 +14,21 @@ ghost use Rattle.text_output.specs.Puts.{Puts};
 ghost use Rattle.catalogue_listing.specs.Counts.{oneIfOwn, ownPlaces};
 ghost use Rattle.catalogue_listing.specs.Entries.{vectorsOf, entryText};
 use super::lines;
-use catalogue_standing::reduced_entry::ReducedEntry;
+use catalogue_records::Catalogue;
+use engine::Lattice;
 
 // The reduced vectors, a line each.
-fn put_vectors(out: &mut [u8], at: usize, k: ReducedEntry) -> usize
-    requires { ⌜ Full k ⌝ }
-    requires { ⌜ at + length (vectorLines (vectorsOf k)) ≤ length (now out) ⌝ }
-    ensures { λ r. ⌜ Puts (vectorLines (vectorsOf k)) (now (out .entry)) at (now (out .exit)) r ⌝ }
+fn put_vectors(out: &mut [u8], at: usize, l: Lattice) -> usize
+    requires { ⌜ Full (leftIn l) ⌝ }
+    requires { ⌜ at + length (vectorLines (vectorsOf (leftIn l))) ≤ length (now out) ⌝ }
+    ensures { λ r. ⌜ Puts (vectorLines (vectorsOf (leftIn l))) (now (out .entry)) at (now (out .exit)) r ⌝ }
 {
-    let of_k = k.vectors;
-    let rows = row_operations::vectors_of(of_k);
+    let vectors = l.vectors;
+    let rows = row_operations::vectors_of(vectors);
     let mut n = at;
-    for i in 0..k.d {
+    for i in 0..l.d {
         let v = rows[i];
-        n = lines::put_vector(out, n, v, k.m);
+        n = lines::put_vector(out, n, v, l.m);
     }
     n
 }
@@ -37,11 +40,11 @@ fn put_entry(
     number: u32,
     standing: u32,
     lead: u32,
-    k: ReducedEntry,
+    l: Lattice,
 ) -> usize
-    requires { ⌜ Full k ⌝ }
-    requires { ⌜ at + length (entryText number standing lead (k .passes) (vectorsOf k)) ≤ length (now out) ⌝ }
-    ensures { λ r. ⌜ Puts (entryText number standing lead (k .passes) (vectorsOf k)) (now (out .entry)) at (now (out .exit)) r ⌝ }
+    requires { ⌜ Full (leftIn l) ⌝ }
+    requires { ⌜ at + length (entryText number standing lead (l .passes) (vectorsOf (leftIn l))) ≤ length (now out) ⌝ }
+    ensures { λ r. ⌜ Puts (entryText number standing lead (l .passes) (vectorsOf (leftIn l))) (now (out .entry)) at (now (out .exit)) r ⌝ }
 {
     let n = lines::put_entry_line(
         out,
@@ -49,25 +52,25 @@ fn put_entry(
         number as u64,
         standing as u64,
         lead as u64,
-        k.passes,
+        l.passes,
     );
     if number != standing {
         return n;
     }
-    put_vectors(out, n, k)
+    put_vectors(out, n, l)
 }
 
 // All entries. The list of standing entries is closed before any see word is led.
 fn put_entries(
     out: &mut [u8],
     at: usize,
-    c: catalogue_records::Catalogue,
-    list: [ReducedEntry; 256],
+    c: Catalogue,
+    list: [Lattice; Catalogue::MOST_ENTRIES],
     standing: &[usize],
 ) -> usize
     requires { ⌜ WasRead c ⌝ }
     requires { ⌜ HoldReduced c (c .count) list ⌝ }
-    requires { ⌜ Closed list (c .count) (now standing) ⌝ }
+    requires { ⌜ Closed (leftsIn list) (c .count) (now standing) ⌝ }
     requires { ⌜ at + length (entryLines (closedList (entriesIn c)) (closedList (entriesIn c))) ≤ length (now out) ⌝ }
     ensures { λ r. ⌜ Puts (entryLines (closedList (entriesIn c)) (closedList (entriesIn c))) (now (out .entry)) at (now (out .exit)) r ⌝ }
 {
@@ -75,11 +78,11 @@ fn put_entries(
     let mut n = at;
     for k in 0..c.count {
         let e = c.entries[k];
-        let kept = list[k];
+        let l = list[k];
         let s = standing[k];
         let own = numbers[s];
         let w = catalogue_fold::printing::way_of(e, own, &numbers, standing, c.count);
-        n = put_entry(out, n, e.number, own, w.number, kept);
+        n = put_entry(out, n, e.number, own, w.number, l);
     }
     n
 }
@@ -107,12 +110,12 @@ fn count_standing(standing: &[usize], count: usize) -> usize
 }
 
 // The listing of a catalogue that was read.
-pub(crate) fn put_catalogue(out: &mut [u8], c: catalogue_records::Catalogue) -> usize
+pub(crate) fn put_catalogue(out: &mut [u8], c: Catalogue) -> usize
     requires { ⌜ WasRead c ⌝ }
     requires { ⌜ length (catalogueLines (closedList (entriesIn c))) ≤ length (now out) ⌝ }
     ensures { λ r. ⌜ Puts (catalogueLines (closedList (entriesIn c))) (now (out .entry)) 0 (now (out .exit)) r ⌝ }
 {
-    let list = catalogue_standing::reduced_entry::reduce_all(c);
+    let list = catalogue_standing::entry_lattices::lattices_of(c);
     let standing = catalogue_standing::standing_places::closed(list, c.count);
     let own = count_standing(&standing, c.count);
     let n = lines::put_counts(out, 0, c.count as u64, own as u64);

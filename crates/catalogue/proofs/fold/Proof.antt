@@ -20,17 +20,17 @@ returns c =
 prepared : (c : tie.Else1) → WasRead (c .before .before .read .result)
 prepared c = let r = c .before .before in ready (r .before .before .before .args .bytes .now) (r .read .ensures) (c .if1 .left)
 
-reduce-all-requires : tie.Need-reduce-all-requires
-reduce-all-requires c κs = (prepared c .few, prepared c .formed .entered .fits)
+lattices-of-requires : tie.Need-lattices-of-requires
+lattices-of-requires c κs = prepared c
 
 closed-requires : tie.Need-closed-requires
-closed-requires c κs = let r = prepared (c .before) in (r .few, keeps-fair _ r (c .reduce-all .ensures))
+closed-requires c κs = let r = prepared (c .before) in (r .few, keeps-fair _ r (c .lattices-of .ensures))
 
 slice-aggregate-folded : tie.Need-slice-aggregate-folded
 slice-aggregate-folded c = search needs
 
 folded-requires : tie.Need-folded-requires
-folded-requires c κs = (prepared (c .before .before .before), (c .before .before .reduce-all .ensures, c .before .closed .ensures))
+folded-requires c κs = (prepared (c .before .before .before), (c .before .before .lattices-of .ensures, c .before .closed .ensures))
 
 write-entries-requires : tie.Need-write-entries-requires
 write-entries-requires c κs =
@@ -57,7 +57,7 @@ fold-spec =
     (tie.spec
     read-requires
     returns
-    reduce-all-requires
+    lattices-of-requires
     closed-requires
     slice-aggregate-folded
     folded-requires

@@ -46,11 +46,11 @@ mul-e c = omega (arith, small (c .before .before))
 element-copy-out-e : tie.Need-element-copy-out-e Inv-loop μ-loop
 element-copy-out-e c = small (c .before .before)
 
-mul-kept : tie.Need-mul-kept Inv-loop μ-loop
-mul-kept c = omega (arith, small (c .before .before .before))
+mul-l : tie.Need-mul-l Inv-loop μ-loop
+mul-l c = omega (arith, small (c .before .before .before))
 
-array-copy-out-kept : tie.Need-array-copy-out-kept Inv-loop μ-loop
-array-copy-out-kept c = small (c .before .before .before)
+array-copy-out-l : tie.Need-array-copy-out-l Inv-loop μ-loop
+array-copy-out-l c = small (c .before .before .before)
 
 slice-aggregate-way-of : tie.Need-slice-aggregate-way-of Inv-loop μ-loop
 slice-aggregate-way-of c = search needs
@@ -120,8 +120,8 @@ folded-spec =
     shared-slice-read-if1
     mul-e
     element-copy-out-e
-    mul-kept
-    array-copy-out-kept
+    mul-l
+    array-copy-out-l
     slice-aggregate-way-of
     way-of-requires
     printed-requires

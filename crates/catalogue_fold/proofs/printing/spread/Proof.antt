@@ -30,14 +30,14 @@ loop-holds : tie.Need-loop-holds Inv-loop μ-loop
 loop-holds c = (search needs, refl)
 
 long : (c : tie.At-loop Inv-loop μ-loop) → length (c .loop .out) ≡ mostNumbers
-long c = ap length (c .loop .inv .1) ∙ length-filled (pos 0) mostNumbers (cut (c .before .before .before .args .k .m) (c .before .vectors-of .result) (c .loop .i))
+long c = ap length (c .loop .inv .1) ∙ length-filled (pos 0) mostNumbers (cut (c .before .before .before .args .l .m) (c .before .vectors-of .result) (c .loop .i))
 
 -- what is kept, of the array
-full : (c : tie.After-vectors-of Inv-loop μ-loop) (i : ℕ) → i < c .before .before .args .k .d → length (getD (c .vectors-of .result) i []) ≡ mostCoordinates
+full : (c : tie.After-vectors-of Inv-loop μ-loop) (i : ℕ) → i < c .before .before .args .l .d → length (getD (c .vectors-of .result) i []) ≡ mostCoordinates
 full c i h = ap (λ l. length (getD l i [])) (c .vectors-of .ensures) ∙ c .before .before .pre .rows i h
 
-many : (c : tie.After-vectors-of Inv-loop μ-loop) → c .before .before .args .k .d ≤ length (c .vectors-of .result)
-many c = subst (λ l. c .before .before .args .k .d ≤ length l) (sym (c .vectors-of .ensures)) (c .before .before .pre .count)
+many : (c : tie.After-vectors-of Inv-loop μ-loop) → c .before .before .args .l .d ≤ length (c .vectors-of .result)
+many c = subst (λ l. c .before .before .args .l .d ≤ length l) (sym (c .vectors-of .ensures)) (c .before .before .pre .count)
 
 -- the row after the first i has room
 room : (i d m : ℕ) → i < d → d ≤ mostVectors → m ≤ mostCoordinates → i * m + m ≤ mostNumbers
@@ -55,8 +55,8 @@ array-copy-out-v c = omega (arith, c .before .before .before .before .pre .few, 
 slice-aggregate-put-row : tie.Need-slice-aggregate-put-row Inv-loop μ-loop
 slice-aggregate-put-row c = sym (long (c .before .before .before))
 
-fits : (c : tie.In-loop Inv-loop μ-loop) → let k = c .before .before .before .before .args .k in c .before .loop .i * k .m + k .m ≤ mostNumbers
-fits c = let s = c .before .before .before .before in room (c .before .loop .i) (s .args .k .d) (s .args .k .m) (c .loop-test .taken) (s .pre .few) (s .pre .narrow)
+fits : (c : tie.In-loop Inv-loop μ-loop) → let k = c .before .before .before .before .args .l in c .before .loop .i * k .m + k .m ≤ mostNumbers
+fits c = let s = c .before .before .before .before in room (c .before .loop .i) (s .args .l .d) (s .args .l .m) (c .loop-test .taken) (s .pre .few) (s .pre .narrow)
 
 mul-put-row : tie.Need-mul-put-row Inv-loop μ-loop
 mul-put-row c = omega (arith, fits (c .before .before .before))
@@ -72,14 +72,14 @@ add-i c = omega (arith, c .before .before .before .before .before .before .befor
 loop-less : tie.Need-loop-less Inv-loop μ-loop
 loop-less c = search needs
 
-wider : (l : tie.At-loop Inv-loop μ-loop) (j : ℕ) → j < l .before .before .before .args .k .d → l .before .before .before .args .k .m ≤ length (getD (l .before .vectors-of .result) j [])
+wider : (l : tie.At-loop Inv-loop μ-loop) (j : ℕ) → j < l .before .before .before .args .l .d → l .before .before .before .args .l .m ≤ length (getD (l .before .vectors-of .result) j [])
 wider l j h = omega (arith, full (l .before) j h, l .before .before .before .pre .narrow)
 
 loop-again : tie.Need-loop-again Inv-loop μ-loop
 loop-again c =
     let l = c .before .before .before .before .before .before in
     let s = l .before .before .before in
-    let m = s .args .k .m in
+    let m = s .args .l .m in
     let rows = l .before .vectors-of .result in
     let i = l .loop .i in
     let v = take m (getD rows i []) in
@@ -97,7 +97,7 @@ loop-again c =
 returns : tie.Need-returns Inv-loop μ-loop
 returns c =
     let l = c .before in
-    let k = l .before .before .before .args .k in
+    let k = l .before .before .before .args .l in
     let end : l .loop .i ≡ k .d = omega (arith, l .loop .inv .0, c .loop-test .left) in
     l .loop .inv .1 ∙ ap₂ (λ rows i. filled (pos 0) mostNumbers (cut (k .m) rows i)) (l .before .vectors-of .ensures) end
 

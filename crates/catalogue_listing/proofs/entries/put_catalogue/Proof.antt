@@ -13,13 +13,13 @@ use borrow.Author.Needs.{needs}
 use Rattle.catalogue_listing.proofs.entries.put_catalogue.Statement.{statement}
 use Rattle.catalogue_listing.proofs.entries.put_catalogue.Tie as tie
 
-reduce-all-requires : tie.Need-reduce-all-requires
-reduce-all-requires c κs = search needs
+lattices-of-requires : tie.Need-lattices-of-requires
+lattices-of-requires c κs = search needs
 
 closed-requires : tie.Need-closed-requires
 closed-requires c κs =
     let s = c .before .before in
-    (s .pre .0 .few, keeps-fair _ (s .pre .0) (c .reduce-all .ensures))
+    (s .pre .0 .few, keeps-fair _ (s .pre .0) (c .lattices-of .ensures))
 
 slice-aggregate-count-standing : tie.Need-slice-aggregate-count-standing
 slice-aggregate-count-standing c = search needs
@@ -33,7 +33,7 @@ first c =
     let d = c .before .before in
     let k = d .before in
     let s = k .before .before in
-    counts-text (s .args .c) (s .pre .0) (k .reduce-all .ensures) (d .closed .ensures) (c .count-standing .ensures)
+    counts-text (s .args .c) (s .pre .0) (k .lattices-of .ensures) (d .closed .ensures) (c .count-standing .ensures)
 
 returns : tie.Need-returns
 returns c =
@@ -63,7 +63,7 @@ put-entries-requires c κs =
     let d = w .before .before in
     let k = d .before in
     let s = k .before .before in
-    (s .pre .0, (k .reduce-all .ensures, (d .closed .ensures, omega (arith, room w, n .put-counts .ensures .place, n .put-counts .kept .0))))
+    (s .pre .0, (k .lattices-of .ensures, (d .closed .ensures, omega (arith, room w, n .put-counts .ensures .place, n .put-counts .kept .0))))
 
 same-length : tie.Need-same-length
 same-length c = search needs
@@ -72,7 +72,7 @@ pub put-catalogue-spec : {M : Type 1} → statement M
 put-catalogue-spec =
     tie.close
     (tie.spec
-    reduce-all-requires
+    lattices-of-requires
     closed-requires
     slice-aggregate-count-standing
     count-standing-requires

@@ -6,7 +6,8 @@ use native.Mathlib.Omega.{arith}
 use lib.ListN.{length, take}
 use lib.Seq.{getD-take, length-take-le}
 use Rattle.fold_rules.specs.Listing.{vectorLines}
-use Rattle.catalogue_standing.specs.ReducedEntry.{rowsIn, basisIn}
+use Rattle.lattice_membership.specs.Known.{leftIn, vectorsIn}
+use Rattle.catalogue_standing.specs.ReducedEntry.{rowsIn}
 use Rattle.text_output.specs.Puts.{Puts, puts-none, puts-length}
 use Rattle.text_output.specs.Joined.{joined, joined-room, puts-next, puts-all}
 use Rattle.catalogue_listing.specs.Lines.{vectorLine, vectors-joined}
@@ -42,14 +43,14 @@ long : (c : tie.At-loop Inv-loop μ-loop) → length (c .loop .out) ≡ length (
 long c = puts-length (c .loop .inv .1)
 
 -- the rows of the reduced vectors, and their lines
-same : (c : tie.After-vectors-of Inv-loop μ-loop) → take (c .before .before .before .args .k .d) (c .vectors-of .result) ≡ basisIn (c .before .before .before .args .k)
-same c = let k = c .before .before .before .args .k in ap (take (k .d)) (c .vectors-of .ensures)
+same : (c : tie.After-vectors-of Inv-loop μ-loop) → take (c .before .before .before .args .l .d) (c .vectors-of .result) ≡ vectorsIn (c .before .before .before .args .l)
+same c = let k = c .before .before .before .args .l in ap (take (k .d)) (c .vectors-of .ensures)
 
-lines : (c : tie.After-vectors-of Inv-loop μ-loop) → let k = c .before .before .before .args .k in joined (vectorLine (k .m)) (take (k .d) (c .vectors-of .result)) ≡ vectorLines (vectorsOf k)
-lines c = let k = c .before .before .before .args .k in ap (joined (vectorLine (k .m))) (same c) ∙ vectors-joined (k .m) (basisIn k)
+lines : (c : tie.After-vectors-of Inv-loop μ-loop) → let k = c .before .before .before .args .l in joined (vectorLine (k .m)) (take (k .d) (c .vectors-of .result)) ≡ vectorLines (vectorsOf (leftIn k))
+lines c = let k = c .before .before .before .args .l in ap (joined (vectorLine (k .m))) (same c) ∙ vectors-joined (k .m) (vectorsIn k)
 
-many : (c : tie.After-vectors-of Inv-loop μ-loop) → let k = c .before .before .before .args .k in length (take (k .d) (c .vectors-of .result)) ≡ k .d
-many c = let s = c .before .before .before in let k = s .args .k in ap length (same c) ∙ length-take-le (k .d) (rowsIn k) (s .pre .0 .count)
+many : (c : tie.After-vectors-of Inv-loop μ-loop) → let k = c .before .before .before .args .l in length (take (k .d) (c .vectors-of .result)) ≡ k .d
+many c = let s = c .before .before .before in let k = s .args .l in ap length (same c) ∙ length-take-le (k .d) (rowsIn (leftIn k)) (s .pre .0 .count)
 
 put-vector-requires : tie.Need-put-vector-requires Inv-loop μ-loop
 put-vector-requires c κs =
@@ -57,8 +58,8 @@ put-vector-requires c κs =
     let l = i .before in
     let v = l .before in
     let s = v .before .before .before in
-    let m = s .args .k .m in
-    let rows = take (s .args .k .d) (v .vectors-of .result) in
+    let m = s .args .l .m in
+    let rows = take (s .args .l .d) (v .vectors-of .result) in
     let test = i .loop-test .taken in (
       s .pre .0 .narrow,
       omega (
@@ -68,7 +69,7 @@ put-vector-requires c κs =
         ap length (lines v),
         l .loop .inv .1 .place,
         joined-room (vectorLine m) rows (l .loop .i) [] (omega (arith, test, many v)),
-        ap (λ v. length (vectorLine m v)) (getD-take (s .args .k .d) (v .vectors-of .result) (l .loop .i) [] test),
+        ap (λ v. length (vectorLine m v)) (getD-take (s .args .l .d) (v .vectors-of .result) (l .loop .i) [] test),
       ),
     )
 
@@ -85,11 +86,11 @@ loop-again c =
     let l = i .before in
     let v = l .before in
     let s = v .before .before .before in
-    let m = s .args .k .m in
+    let m = s .args .l .m in
     let test = i .loop-test .taken in
-    let row = getD-take (s .args .k .d) (v .vectors-of .result) (l .loop .i) [] test in (
+    let row = getD-take (s .args .l .d) (v .vectors-of .result) (l .loop .i) [] test in (
       search needs,
-      puts-next (vectorLine m) (take (s .args .k .d) (v .vectors-of .result)) (l .loop .i) [] (omega (arith, test, many v)) (l .loop .inv .1)
+      puts-next (vectorLine m) (take (s .args .l .d) (v .vectors-of .result)) (l .loop .i) [] (omega (arith, test, many v)) (l .loop .inv .1)
           (subst (λ v. Puts (vectorLine m v) (l .loop .out) (l .loop .n) (p .put-vector .last .0) (p .put-vector .result)) (sym row) (p .put-vector .ensures)),
     )
 
@@ -101,9 +102,9 @@ returns c =
     let l = c .before in
     let v = l .before in
     let s = v .before .before .before in
-    let rows = take (s .args .k .d) (v .vectors-of .result) in
+    let rows = take (s .args .l .d) (v .vectors-of .result) in
     subst (λ t. Puts t (s .args .out .now) (s .args .at) (l .loop .out) (l .loop .n)) (lines v)
-    (puts-all (vectorLine (s .args .k .m)) rows (l .loop .i) (omega (arith, many v, c .loop-test .left)) (l .loop .inv .1))
+    (puts-all (vectorLine (s .args .l .m)) rows (l .loop .i) (omega (arith, many v, c .loop-test .left)) (l .loop .inv .1))
 
 pub put-vectors-spec : {M : Type 1} → statement M
 put-vectors-spec =
