@@ -3,17 +3,13 @@ ghost use mathlib.Core.Path.{_≡_};
 ghost use mathlib.Core.List.{[]};
 ghost use Prim.Native.Nat.{_≤_};
 ghost use lib.ListN.{length, take};
-ghost use Rattle.lattices.specs.Refusal.{Input, firstOf, vectorChecks};
 ghost use Rattle.lattices.specs.Answer.{noReduction, reductionOf, noNearest, nearestOf};
 ghost use Rattle.successive_minima.specs.Laws.Digits.{Bounded};
-ghost use Rattle.gram_matrix.specs.Tied.{whole};
 ghost use Rattle.gram_matrix.specs.Work.{tableIn};
-ghost use Rattle.greedy_steps.specs.Repeat.{Outcome};
 ghost use Rattle.nearest_of_three.specs.Formed.{GramOf};
 ghost use Rattle.nearest_of_four.specs.Near.{Near};
 ghost use Rattle.engine.specs.Packed.{packed, packedNearest};
-ghost use Rattle.engine.specs.Laws.Begin.{first};
-ghost use Rattle.engine.specs.Laws.Answer.{Array, Begun, diagonalOf, finished};
+ghost use Rattle.engine.specs.Laws.Answer.{diagonalOf, finished};
 ghost use Rattle.engine.specs.Laws.Named.{named, Answered};
 pub use members::MemberAnswer;
 pub use members::lattice;
@@ -31,17 +27,6 @@ use row_operations::TableRow;
 use row_operations::Vector;
 use row_operations::VectorRow;
 use row_operations::WIDTH;
-
-// The greedy steps on accepted vectors: their Gram matrix is formed once, U and V begin as unit tables.
-pub(crate) fn greedy(b: Basis, d: usize) -> Work
-    requires { ⌜ Begun d b ⌝ }
-    ensures { λ r. ⌜ ((i : Input) (e : firstOf vectorChecks i ≡ 0) → Array i d b → Outcome whole (i .d) 0 (first i e) r) ⌝ }
-{
-    let mut g = [[0; 4]; 4];
-    gram_matrix::formed(&b, d, &mut g);
-    let e = row_operations::unit_table(d);
-    greedy_steps::reduce_first(g, b, e, e, d, 0)
-}
 
 // The answer of a reduction. Where the refusal is not 0, all else is 0; unused places hold 0.
 pub struct Reduction {
@@ -103,7 +88,7 @@ pub(crate) fn finished(w: Work) -> Reduction
     }
 }
 
-// Reduction: d vectors of m coordinates each, vector by vector.
+// Reduction: d vectors of m coordinates each, vector by vector. The Gram matrix is formed once.
 pub fn reduce(numbers: &[i64], d: usize, m: usize) -> Reduction
     ensures { λ r. ⌜ r ≡ packed (reductionOf (record { numbers = now (numbers .entry); d = d; m = m; target = [] })) ⌝ }
 {
@@ -112,7 +97,10 @@ pub fn reduce(numbers: &[i64], d: usize, m: usize) -> Reduction
     if number != 0 {
         return refused(number);
     }
-    finished(greedy(b, d))
+    let mut g = [[0; 4]; 4];
+    gram_matrix::formed(&b, d, &mut g);
+    let e = row_operations::unit_table(d);
+    finished(greedy_steps::reduce_first(g, b, e, e, d, 0))
 }
 
 // The answer of a search for the nearest vector: the vector, its coefficients on the reduced basis, its squared distance from the target.
@@ -185,7 +173,10 @@ pub fn nearest(numbers: &[i64], d: usize, m: usize, target: &[i64]) -> NearestVe
     if n != 0 {
         return refused_nearest(n);
     }
-    let w = greedy(a, d);
+    let mut h = [[0; 4]; 4];
+    gram_matrix::formed(&a, d, &mut h);
+    let e = row_operations::unit_table(d);
+    let w = greedy_steps::reduce_first(h, a, e, e, d, 0);
     let vectors = w.vectors;
     let gram = w.gram;
     let b = row_operations::vectors_of(vectors);

@@ -7,7 +7,6 @@ ghost use Rattle.lattices.specs.Answer.{membershipOf};
 ghost use Rattle.lattice_membership.specs.Known.{Known, leftIn};
 ghost use Rattle.engine.specs.Packed.{packedLeft, packedMembership};
 use super::finished;
-use super::greedy;
 use super::reduce;
 use lattice_membership::Lattice;
 use lattice_membership::lattice_of;
@@ -18,7 +17,11 @@ pub fn lattice(numbers: &[i64], d: usize, m: usize) -> Lattice
     ensures { λ r. ⌜ Known r ⌝ }
     ensures { λ r. ⌜ leftIn r ≡ packedLeft (record { numbers = now (numbers .entry); d = d; m = m; target = [] }) ⌝ }
 {
-    let r = finished(greedy(input_checks::basis(numbers, d, m), d));
+    let b = input_checks::basis(numbers, d, m);
+    let mut g = [[0; 4]; 4];
+    gram_matrix::formed(&b, d, &mut g);
+    let e = row_operations::unit_table(d);
+    let r = finished(greedy_steps::reduce_first(g, b, e, e, d, 0));
     let vectors = r.vectors;
     let squares = r.squares;
     lattice_of(row_operations::vectors_of(vectors), d, m, squares, r.passes)

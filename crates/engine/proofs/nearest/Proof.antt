@@ -18,7 +18,7 @@ use Rattle.nearest_of_three.specs.Formed.{GramOf}
 use Rattle.lattices.specs.Greedy.{vectors}
 use Rattle.engine.specs.Laws.Finish.{R}
 use Rattle.engine.specs.Laws.Named.{named, array, target, target-read, near, nearest-answer, refused-nearest-with}
-use Rattle.engine.specs.Laws.Answer.{Array, vectors-given, gram-given, length-table}
+use Rattle.engine.specs.Laws.Answer.{Array, begins, outcome-of, begun-small, vectors-given, gram-given, length-table}
 use Rattle.engine.specs.Laws.Begin as Begin
 use Rattle.greedy_steps.specs.Repeat.{Outcome}
 use Rattle.gram_matrix.specs.Tied.{whole}
@@ -49,26 +49,30 @@ read c = c .before .before .before .checked .ensures .1 (c .before .before .if1 
 array-is : (c : tie.Else2) → let s = c .before .before .before .before .before in Array (untargeted s) (s .args .d) (given c)
 array-is c = record { count = refl; rows = read c }
 
-outcome-of : (c : tie.After-greedy) → let i = untargeted (c .before .before .before .before .before .before) in Outcome whole (i .d) 0 (Begin.first i (first (c .before .before .before))) (c .greedy .result)
-outcome-of c = c .greedy .ensures (untargeted (c .before .before .before .before .before .before)) (first (c .before .before .before)) (array-is (c .before))
+-- past both tests
+abbrev passed : tie.After-unit-table → tie.Else2
+passed c = c .before .before .before .before
+
+outcome : (c : tie.After-reduce-first) → let p = passed (c .before) in let i = untargeted (p .before .before .before .before .before) in Outcome whole (i .d) 0 (Begin.first i (first (p .before .before))) (c .reduce-first .result)
+outcome c = let u = c .before in let p = passed u in outcome-of (untargeted (p .before .before .before .before .before)) (first (p .before .before)) (array-is p) (u .before .formed .ensures) (u .unit-table .ensures) (c .reduce-first .ensures)
 
 -- what is searched
 abbrev start : tie.After-vector → tie.Start
-start c = c .before .before .before .before .before .before .before .before .before .before .before
+start c = c .before .before .before .before .before .before .before .before .before .before .before .before .before .before .before
 
 one : (c : tie.After-vector) → firstOf vectorChecks (input (start c)) ≡ 0
-one c = first (c .before .before .before .before .before .before .before .before)
+one c = first (c .before .before .before .before .before .before .before .before .before .before .before .before)
 
 two : (c : tie.After-vector) → firstOf targetChecks (input (start c)) ≡ 0
-two c = second (c .before .before .before .before .before .before)
+two c = second (c .before .before .before .before .before .before .before .before .before .before)
 
 vectors-are : (c : tie.After-vector) → c .before .before .vectors-of .result ≡ array (input (start c)) (one c) (two c)
 unfolding one
-vectors-are c = let r = c .before .before .before .before .before in c .before .before .vectors-of .ensures ∙ vectors-given (untargeted (start c)) (one c) (r .greedy .result) (outcome-of r)
+vectors-are c = let r = c .before .before .before .before .before in c .before .before .vectors-of .ensures ∙ vectors-given (untargeted (start c)) (one c) (r .reduce-first .result) (outcome r)
 
 gram-is : (c : tie.After-vector) → GramOf (take (start c .args .d) (array (input (start c)) (one c) (two c))) (c .before .tables-of .result)
 unfolding one
-gram-is c = let r = c .before .before .before .before .before in subst (GramOf _) (sym (c .before .tables-of .ensures)) (gram-given (untargeted (start c)) (one c) (r .greedy .result) (outcome-of r))
+gram-is c = let r = c .before .before .before .before .before in subst (GramOf _) (sym (c .before .tables-of .ensures)) (gram-given (untargeted (start c)) (one c) (r .reduce-first .result) (outcome r))
 
 target-is : (c : tie.After-vector) → c .vector .result ≡ target (input (start c)) (one c) (two c)
 target-is c = c .vector .ensures ∙ target-read (input (start c)) (one c) (two c)
@@ -102,8 +106,22 @@ returns-2 c =
     let i = input (t .before .before .before .before) in
     c .refused-nearest2 .ensures ∙ refused-nearest-with i _ (t .target-refusal .ensures ∙ sym (first-passed vectorChecks targetChecks i (omega arith) (first (t .before)))) (c .before .if2 .taken)
 
-greedy-requires : tie.Need-greedy-requires
-greedy-requires c κs = record { input = untargeted (c .before .before .before .before .before); accepted = first (c .before .before); array = array-is c }
+formed-requires : tie.Need-formed-requires
+formed-requires c κs =
+    let a = c .before .before in
+    let i = untargeted (a .before .before .before .before .before) in
+    let e = first (a .before .before) in
+    (accepted i e .most, (ap length (read a) ∙ length-table mostVectors mostCoordinates (basis i), (λ j k. rw (read a) (begun-small i e j k), refl)))
+
+unit-table-requires : tie.Need-unit-table-requires
+unit-table-requires c κs = let a = c .before .before .before in accepted (untargeted (a .before .before .before .before .before)) (first (a .before .before)) .most
+
+reduce-first-requires : tie.Need-reduce-first-requires
+reduce-first-requires c κs =
+    let a = passed c in
+    let i = untargeted (a .before .before .before .before .before) in
+    let e = first (a .before .before) in
+    (accepted i e .most, begins i e (array-is a) (c .before .formed .ensures) (c .unit-table .ensures))
 
 vectors-of-requires : tie.Need-vectors-of-requires
 vectors-of-requires c κs = search needs
@@ -113,7 +131,7 @@ tables-of-requires c κs = search needs
 
 vector-requires : tie.Need-vector-requires
 vector-requires c κs =
-    let e = c .before .before .before .before .before in
+    let e = c .before .before .before .before .before .before .before .before .before in
     let s = e .before .before .before .before .before in
     (accepted (input s) (first (e .before .before)) .few, omega (arith, targeted (input s) (second e) .count))
 
@@ -145,7 +163,9 @@ nearest-spec =
     target-refusal-requires
     refused-nearest-requires-2
     returns-2
-    greedy-requires
+    formed-requires
+    unit-table-requires
+    reduce-first-requires
     vectors-of-requires
     tables-of-requires
     vector-requires

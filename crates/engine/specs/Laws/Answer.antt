@@ -49,12 +49,6 @@ pub record Array (i : Input) (d : ℕ) (b : List (List ℤ)) : Type 0 where
   pub count : d ≡ i .d
   pub rows : b ≡ table mostVectors mostCoordinates (basis i)
 
--- and no refusal applies to it
-pub record Begun (d : ℕ) (b : List (List ℤ)) : Type 0 where
-  pub input : Input
-  pub accepted : firstOf vectorChecks input ≡ 0
-  pub array : Array input d b
-
 -- the numbers on the diagonal
 abbrev pub diagonalOf : List (List ℤ) → List ℤ
 diagonalOf g = map (λ i. nth (getD g i []) i) firstFour
@@ -158,8 +152,10 @@ module _ (i : Input) (e : firstOf vectorChecks i ≡ 0) where
     few = rw (a .count) begun-few;
   }
 
-  pub begun-outcome : {d : ℕ} {r : Work} → d ≡ i .d → Outcome whole d 0 (first i e) r → Outcome whole (i .d) 0 (first i e) r
-  begun-outcome {r = r} q o = subst (λ n. Outcome whole n 0 (first i e) r) q o
+  -- and so are what the steps give
+  pub outcome-of : {d : ℕ} {c g u : List (List ℤ)} {w : Work} → Array i d c → g ≡ formed (take d c) → u ≡ table mostVectors mostVectors (units d)
+      → ((p : Reducible d 0 g c u u) → Outcome (p .kind) d 0 (p .rows) w) → Outcome whole (i .d) 0 (first i e) w
+  outcome-of {w = w} a p q o = subst (λ n. Outcome whole n 0 (first i e) w) (a .count) (o (begins a p q))
 
   -- ---- the engine's answer for an accepted input
   abbrev G : List Row

@@ -9,7 +9,7 @@ use Rattle.row_operations.specs.RowStructs.{vectorRow}
 use Rattle.lattice_membership.specs.Known.{ReducedBasis}
 use Rattle.lattice_membership.specs.Laws.Accepted.{accepted-basis}
 use Rattle.engine.specs.Packed.{packed}
-use Rattle.engine.specs.Laws.Answer.{Array, vectors-back, accepted-answer}
+use Rattle.engine.specs.Laws.Answer.{Array, begins, outcome-of, begun-small, vectors-back, accepted-answer}
 use borrow.Author.Needs.{needs}
 use Rattle.engine.proofs.members.lattice.Statement.{statement}
 use Rattle.engine.proofs.members.lattice.Tie as tie
@@ -23,35 +23,59 @@ basis-requires c κs = let a = accepted (input c) (c .pre) in (a .most, (a .few,
 array-is : (c : tie.After-basis) → Array (input (c .before)) (c .before .args .d) (c .basis .result)
 array-is c = record { count = refl; rows = c .basis .ensures }
 
-greedy-requires : tie.Need-greedy-requires
-greedy-requires c κs = record { input = input (c .before); accepted = c .before .pre; array = array-is c }
+formed-requires : tie.Need-formed-requires
+formed-requires c κs =
+    let b = c .before .before in
+    let i = input (b .before) in
+    let e = b .before .pre in
+    (accepted i e .most, (search needs, (λ j k. rw (b .basis .ensures) (begun-small i e j k), refl)))
+
+unit-table-requires : tie.Need-unit-table-requires
+unit-table-requires c κs = let s = c .before .before .before .before in accepted (input s) (s .pre) .most
+
+-- the vectors as they begin
+abbrev begun : tie.After-unit-table → tie.After-basis
+begun c = c .before .before .before .before
+
+reduce-first-requires : tie.Need-reduce-first-requires
+reduce-first-requires c κs =
+    let b = begun c in
+    let i = input (b .before) in
+    let e = b .before .pre in
+    (accepted i e .most, begins i e (array-is b) (c .before .formed .ensures) (c .unit-table .ensures))
 
 finished-requires : tie.Need-finished-requires
 finished-requires c κs = search needs
 
 -- the answer of the reduction
-answer : (c : tie.After-finished) → c .finished .result ≡ packed (reductionOf (input (c .before .before .before)))
+answer : (c : tie.After-finished) → c .finished .result ≡ packed (reductionOf (input (begun (c .before .before) .before)))
 answer c =
-    let g = c .before in
-    let b = g .before in
+    let w = c .before in
+    let u = w .before in
+    let b = begun u in
     let i = input (b .before) in
-    c .finished .ensures ∙ accepted-answer i (b .before .pre) (g .greedy .result) (g .greedy .ensures i (b .before .pre) (array-is b))
+    let e = b .before .pre in
+    c .finished .ensures ∙ accepted-answer i e (w .reduce-first .result) (outcome-of i e (array-is b) (u .before .formed .ensures) (u .unit-table .ensures) (w .reduce-first .ensures))
 
 vectors-of-requires : tie.Need-vectors-of-requires
 vectors-of-requires c κs = search needs
 
-vectors-are : (c : tie.After-vectors-of) → c .vectors-of .result ≡ reductionOf (input (c .before .before .before .before .before .before)) .basis
+-- where it began
+abbrev start : tie.After-vectors-of → tie.Start
+start c = begun (c .before .before .before .before .before) .before
+
+vectors-are : (c : tie.After-vectors-of) → c .vectors-of .result ≡ reductionOf (input (start c)) .basis
 vectors-are c = c .vectors-of .ensures ∙ ap (λ r. map (λ row. row .at) (r .vectors)) (answer (c .before .before .before)) ∙ vectors-back _
 
 lattice-of-requires : tie.Need-lattice-of-requires
 lattice-of-requires c κs =
-    let s = c .before .before .before .before .before .before in
+    let s = start c in
     subst (ReducedBasis (s .args .d)) (sym (vectors-are c)) (accepted-basis (input s) (s .pre))
 
 returns : tie.Need-returns
 returns c =
     let v = c .before in
-    let s = v .before .before .before .before .before .before in
+    let s = start v in
     let a = answer (v .before .before .before) in (
       c .lattice-of .ensures .0,
       c .lattice-of .ensures .1 ∙ (λ k. record {
@@ -68,7 +92,9 @@ lattice-spec =
     tie.close
     (tie.spec
     basis-requires
-    greedy-requires
+    formed-requires
+    unit-table-requires
+    reduce-first-requires
     finished-requires
     vectors-of-requires
     lattice-of-requires
