@@ -6,6 +6,7 @@ use Prim.Native.Nat.{ℕ, _+_, _≤_, _<_}
 use native.Mathlib.Omega.{arith}
 use lib.ListN.{length, take, drop}
 use lib.Seq.{sets, sets-eq, take-append-seam}
+use Rattle.catalogue_rules.specs.Laws.TextSize.{mostText}
 use Rattle.io.specs.Counts.{Counts}
 use Rattle.catalogue_rules.specs.Catalogue.{Outcome, refused, accepted}
 use Rattle.catalogue_rules.specs.Read.{read}
@@ -30,7 +31,7 @@ module _ (file : List ℕ) {c : Catalogue} (is : c ≡ catalogueOf (read file)) 
   not-listed out h = ap (λ c. untouched (c .refusal) (c .place) out) is ∙ stays (read file) out (λ e. h (ap (λ c. c .refusal) is ∙ e))
 
   module _ (e : c .refusal ≡ 0) where
-    pub text-small : length (listingText (entriesIn c)) ≤ 40000
+    pub text-small : length (listingText (entriesIn c)) ≤ mostText
     text-small = listing-size file (entriesIn c) (sym (read-as file is e))
 
     pub not-fitting : (out : List ℕ) → length out < length (listingText (entriesIn c)) → untouched 16 0 out ≡ listOf file out

@@ -2,6 +2,7 @@
 ghost use mathlib.Core.List.{[], _∷_, map};
 ghost use Prim.Native.Nat.{_+_, _≤_};
 ghost use lib.ListN.{length};
+ghost use Rattle.lattices.specs.Refusal.{mostCoordinates};
 ghost use Rattle.integers.specs.Decimal.{decimal};
 ghost use Rattle.text_layout.specs.Fields.{after, line};
 ghost use Rattle.text_output.specs.Puts.{Puts};
@@ -20,8 +21,8 @@ fn put_numbers(out: &mut [u8], at: usize, numbers: &[u64]) -> usize
 }
 
 // The first m coordinates of a reduced vector.
-pub(crate) fn put_vector(out: &mut [u8], at: usize, v: [i64; 4], m: usize) -> usize
-    requires { ⌜ m ≤ 4 ⌝ }
+pub(crate) fn put_vector(out: &mut [u8], at: usize, v: row_operations::Vector, m: usize) -> usize
+    requires { ⌜ m ≤ mostCoordinates ⌝ }
     requires { ⌜ at + length (vectorLine m v) ≤ length (now out) ⌝ }
     ensures { λ r. ⌜ Puts (vectorLine m v) (now (out .entry)) at (now (out .exit)) r ⌝ }
 {

@@ -52,7 +52,7 @@ impl Part {
     // One coordinate more.
     pub(crate) fn with_coordinate(self, x: i64) -> Part
         requires { ⌜ self .column < mostCoordinates ⌝ }
-        requires { ⌜ self .filled < 16 ⌝ }
+        requires { ⌜ self .filled < mostNumbers ⌝ }
         requires { ⌜ Within 4000000000 (self .square) ⌝ }
         requires { ⌜ Within 20000 x ⌝ }
         ensures { λ r. ⌜ r ≡ putCoordinate self x ⌝ }

@@ -8,7 +8,7 @@ ghost use Rattle.integers.specs.Every.{any};
 ghost use Rattle.integers.specs.Size.{Within};
 ghost use Rattle.catalogue_reader.specs.Words.{wordIn};
 ghost use Rattle.catalogue_reader.specs.Readings.{isNumber, going, stopped, headRead, vectorRead, coordinateRead, entryRead, endRead, outsideRead, insideRead, afterRead, ReadyFor, stepRead};
-ghost use Rattle.catalogue_rules.specs.Catalogue.{mostEntries};
+ghost use Rattle.catalogue_rules.specs.Catalogue.{mostEntries, mostNumbers};
 ghost use Rattle.lattices.specs.Refusal.{mostVectors, mostCoordinates};
 use super::parts::Part;
 use super::words::Word;
@@ -124,7 +124,7 @@ impl Reading {
     fn at_coordinate(self, load: u32) -> Reading
         requires { ⌜ self .part .row < mostVectors ⌝ }
         requires { ⌜ self .part .column < mostCoordinates ⌝ }
-        requires { ⌜ self .part .filled < 16 ⌝ }
+        requires { ⌜ self .part .filled < mostNumbers ⌝ }
         requires { ⌜ Within 4000000000 (self .part .square) ⌝ }
         ensures { λ r. ⌜ r ≡ coordinateRead self load ⌝ }
     {
@@ -180,7 +180,7 @@ impl Reading {
     fn inside(self, w: Word) -> Reading
         requires { ⌜ self .part .row < mostVectors ⌝ }
         requires { ⌜ self .part .column < mostCoordinates ⌝ }
-        requires { ⌜ self .part .filled < 16 ⌝ }
+        requires { ⌜ self .part .filled < mostNumbers ⌝ }
         requires { ⌜ Within 4000000000 (self .part .square) ⌝ }
         ensures { λ r. ⌜ r ≡ insideRead self (wordIn w) ⌝ }
     {

@@ -22,9 +22,9 @@ fn coordinate(z: i64) {
     cli_output::signed(z);
 }
 
-// Writes the coordinates at all sixteen places.
-fn vectors(coordinates: [i64; 16]) {
-    for i in 0..16 {
+// Writes the coordinates at all places.
+fn vectors(coordinates: [i64; catalogue_records::NUMBERS]) {
+    for i in 0..catalogue_records::NUMBERS {
         coordinate(coordinates[i]);
     }
     cli_output::newline();

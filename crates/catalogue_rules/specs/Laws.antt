@@ -11,3 +11,4 @@ pub mod ReadVectors
 pub mod ReadEntries
 pub mod WrittenSize
 pub mod ReadBack
+pub mod TextSize

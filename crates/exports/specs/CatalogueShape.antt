@@ -10,6 +10,7 @@ use lib.IntN.{ℤ}
 use lib.ListN.{length}
 use lib.Seq.{sets}
 use borrow.Author.Tests.{le-leb, lt-leb}
+use Rattle.catalogue_rules.specs.Laws.TextSize.{mostText}
 use Rattle.catalogue_rules.specs.Catalogue.{mostWords, Entry, Outcome, refused, accepted}
 use Rattle.catalogue_rules.specs.Read.{read}
 use Rattle.catalogue_rules.specs.Write.{write}
@@ -26,10 +27,10 @@ use Rattle.exports.specs.Places.{OutcomeLow, read-low}
 
 -- ---- writing
 
--- a refusal with its place, or entries of which f makes no more than 40,000 bytes
+-- a refusal with its place, or entries of which f makes no more than `mostText` bytes
 abbrev Told : (List Entry → List ℕ) → Outcome → Type 0
 Told f (refused n p) = (n ≤ 17) × (p ≤ mostWords)
-Told f (accepted es) = length (f es) ≤ 40000
+Told f (accepted es) = length (f es) ≤ mostText
 
 told-read : (bytes : List ℕ) → Told write (read bytes)
 unfolding write
@@ -56,7 +57,7 @@ told-list bytes = go (read bytes) refl (read-low bytes)
 pub record Few (o : Output) : Type 0 where
   pub refusal : o .refusal ≤ 17
   pub place : o .place ≤ mostWords
-  pub written : o .written ≤ 40000
+  pub written : o .written ≤ mostText
 
 output-few : (f : List Entry → List ℕ) (o : Outcome) (out : List ℕ) → Told f o → Few (outputBy f o out)
 output-few f (refused n p) out t = record { refusal = t .0; place = t .1; written = omega arith }

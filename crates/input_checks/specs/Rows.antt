@@ -12,7 +12,7 @@ use Rattle.integers.specs.Order.{ltZ-false}
 use Rattle.lattices.specs.Vector.{Vec, N, dot}
 use Rattle.lattices.specs.Volume.{isDependent}
 use Rattle.integers.specs.Every.{any}
-use Rattle.lattices.specs.Refusal.{tooLong, vectorsOf}
+use Rattle.lattices.specs.Refusal.{mostVectors, mostCoordinates, tooLong, vectorsOf}
 use Rattle.lattices.specs.Answer.{padded, table}
 use Rattle.exterior_algebra.specs.Dependence.{Fit}
 use Rattle.input_checks.specs.Any.{beyond, any-none}
@@ -34,21 +34,21 @@ length-table zero w rows = refl
 length-table (suc h) w [] = ap suc (length-table h w [])
 length-table (suc h) w (r ∷ rows) = ap suc (length-table h w rows)
 
-module _ (d m : ℕ) (l : List ℤ) {b : List Vec} (few : d ≤ 4) (narrow : m ≤ 4) (is : b ≡ table 4 4 (vectorsOf d m l)) where
-  rows : take d b ≡ map (padded 4) (vectorsOf d m l)
+module _ (d m : ℕ) (l : List ℤ) {b : List Vec} (few : d ≤ mostVectors) (narrow : m ≤ mostCoordinates) (is : b ≡ table mostVectors mostCoordinates (vectorsOf d m l)) where
+  rows : take d b ≡ map (padded mostCoordinates) (vectorsOf d m l)
   rows =
       let n = length-vectorsOf d m l in
       ap (take d) is
-      ∙ ap (λ k. take k (table 4 4 (vectorsOf d m l))) (sym n)
-      ∙ table-rows 4 4 (vectorsOf d m l) (subst (λ k. k ≤ 4) (sym n) few)
+      ∙ ap (λ k. take k (table mostVectors mostCoordinates (vectorsOf d m l))) (sym n)
+      ∙ table-rows mostVectors mostCoordinates (vectorsOf d m l) (subst (λ k. k ≤ mostVectors) (sym n) few)
 
-  pub four-rows : length b ≡ 4
-  four-rows = ap length is ∙ length-table 4 4 (vectorsOf d m l)
+  pub four-rows : length b ≡ mostVectors
+  four-rows = ap length is ∙ length-table mostVectors mostCoordinates (vectorsOf d m l)
 
   pub long-rows : any tooLong (take d b) ≡ any tooLong (vectorsOf d m l)
   long-rows =
-      let fit : Fit 4 (vectorsOf d m l) = λ i. le-trans (fit-vectorsOf d m l i) narrow in
-      ap (any tooLong) rows ∙ any-long-padded 4 (vectorsOf d m l) fit
+      let fit : Fit mostCoordinates (vectorsOf d m l) = λ i. le-trans (fit-vectorsOf d m l i) narrow in
+      ap (any tooLong) rows ∙ any-long-padded mostCoordinates (vectorsOf d m l) fit
 
-  pub dependent-rows : isDependent 4 (take d b) ≡ isDependent m (vectorsOf d m l)
-  dependent-rows = ap (isDependent 4) rows ∙ sym (isDependent-padded m 4 (vectorsOf d m l) (fit-vectorsOf d m l) narrow)
+  pub dependent-rows : isDependent mostCoordinates (take d b) ≡ isDependent m (vectorsOf d m l)
+  dependent-rows = ap (isDependent mostCoordinates) rows ∙ sym (isDependent-padded m mostCoordinates (vectorsOf d m l) (fit-vectorsOf d m l) narrow)

@@ -7,16 +7,16 @@ use lib.IntN.{ℤ, pos}
 use lib.ListN.{length, getD, set, replicate, length-map, List·getD-map}
 use Rattle.row_operations.specs.Front.{front, front-suc, front-all}
 
--- four rows of zeros
-abbrev pub blanks : {A : Type 0} → (List ℤ → A) → List A
-blanks f = replicate 4 (f (replicate 4 (pos 0)))
+-- four rows of n zeros
+abbrev pub blanks : {A : Type 0} → ℕ → (List ℤ → A) → List A
+blanks n f = replicate 4 (f (replicate n (pos 0)))
 
 -- the first i rows are those of the table
-module _ {A : Type 0} (f : List ℤ → A) (t : List (List ℤ)) (i : ℕ) {l : List A} (e : l ≡ front i (map f t) (blanks f)) (four : length t ≡ 4) where
-  pub row-packed : i < 4 → set l i (f (getD t i [])) ≡ front (suc i) (map f t) (blanks f)
+module _ {A : Type 0} (n : ℕ) (f : List ℤ → A) (t : List (List ℤ)) (i : ℕ) {l : List A} (e : l ≡ front i (map f t) (blanks n f)) (four : length t ≡ 4) where
+  pub row-packed : i < 4 → set l i (f (getD t i [])) ≡ front (suc i) (map f t) (blanks n f)
   row-packed h =
       ap₂ (λ l a. set l i a) e (sym (List·getD-map f t i []))
-      ∙ front-suc i (map f t) (blanks f) (f []) (omega (arith, length-map t f)) h
+      ∙ front-suc i (map f t) (blanks n f) (f []) (omega (arith, length-map t f)) h
 
   pub rows-packed : i ≡ 4 → l ≡ map f t
-  rows-packed h = e ∙ front-all i (map f t) (blanks f) (omega (arith, length-map t f)) (omega arith)
+  rows-packed h = e ∙ front-all i (map f t) (blanks n f) (omega (arith, length-map t f)) (omega arith)

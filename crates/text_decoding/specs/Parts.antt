@@ -6,7 +6,7 @@ use Prim.Native.Nat.{ℕ, _+_, _*_}
 use lib.ListN.{length, take, length-append}
 use Rattle.integers.specs.Decimal.{decimal, signed}
 use Rattle.catalogue_rules.specs.Catalogue as definition
-use Rattle.catalogue_rules.specs.Catalogue.{coordinates}
+use Rattle.catalogue_rules.specs.Catalogue.{coordinates, mostNumbers}
 use Rattle.catalogue_rules.specs.Form.{EntryFits}
 use Rattle.text_layout.specs.Fields.{after}
 use Rattle.catalogue_records.specs.declared.Entry.{Entry}
@@ -35,7 +35,7 @@ head-then number d m fields =
     ∙ append-assoc (decimal number ++ blank decimal d) (blank decimal m) rest
     ∙ append-assoc (decimal number) (blank decimal d) (blank decimal m ++ rest)
 
-module _ (e : Entry) (fits : EntryFits (entryIn e)) (long : length (e .coordinates) ≡ 16) where
+module _ (e : Entry) (fits : EntryFits (entryIn e)) (long : length (e .coordinates) ≡ mostNumbers) where
   -- the coordinates that the code puts
   abbrev pub numbers : List ℕ
   numbers = joined (blank signed) (take (e .d * e .m) (e .coordinates))

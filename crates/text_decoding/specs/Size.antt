@@ -1,4 +1,4 @@
--- The text of a catalogue has at most 40,000 bytes: 256 times a line of at most 138.
+-- The text of a catalogue has at most `mostText` bytes: for each entry a line of at most 26 and seven for a coordinate.
 use mathlib.Core.Path.{_≡_}
 use mathlib.Core.Bool.{false}
 use mathlib.Core.List.{List, [], _∷_, _++_, map}
@@ -9,6 +9,7 @@ use lib.Dec.{ltb}
 use lib.IntN.{ℤ, natAbs}
 use lib.ListN.{length, length-append}
 use borrow.Author.Tests.{ltb-false}
+use Rattle.catalogue_rules.specs.Laws.TextSize.{mostText}
 use Rattle.integers.specs.All.{All}
 use Rattle.integers.specs.Decimal.{decimal, signed}
 use Rattle.integers.specs.DecimalLaws.{decimal-length}
@@ -16,7 +17,7 @@ use Rattle.integers.specs.Tests.{neither}
 use Rattle.integers.specs.Every.{any}
 use Rattle.lattices.specs.Refusal.{mostSize, mostVectors, mostCoordinates}
 use Rattle.lattices.specs.Laws.Refusal.{one-to}
-use Rattle.catalogue_rules.specs.Catalogue.{See, Entry, coordinates}
+use Rattle.catalogue_rules.specs.Catalogue.{See, Entry, coordinates, mostNumbers}
 use Rattle.catalogue_rules.specs.Form.{EntryFits, WellFormed, mostNumber}
 use Rattle.catalogue_rules.specs.Laws.ReadEntries.{SeeFits}
 use Rattle.catalogue_rules.specs.Laws.ReadBack.{sees-fit}
@@ -36,7 +37,7 @@ coordinates-length (z ∷ zs) h fields =
     let p = neither (ltb mostSize (natAbs z)) (any (λ y. ltb mostSize (natAbs y)) zs) h in
     omega (arith, length-append (signed z) (after (map signed zs ++ fields)), signed-length 5 z (omega arith) (omega (arith, ltb-false mostSize (natAbs z) (p .0))), coordinates-length zs (p .1) fields)
 
-pub entry-size : (e : Entry) → EntryFits e → SeeFits (e .see) → length (entryText e) ≤ 138
+pub entry-size : (e : Entry) → EntryFits e → SeeFits (e .see) → length (entryText e) ≤ mostNumbers * 7 + 26
 entry-size e f s =
     let h = e .head in
     let cs = coordinates (e .vectors) in
@@ -54,9 +55,9 @@ entry-size e f s =
       see-length (e .see) s,
     )
 
-entries-size : (es : List Entry) → All EntryFits es → All (λ e. SeeFits (e .see)) es → length (textOf es) ≤ length es * 138
+entries-size : (es : List Entry) → All EntryFits es → All (λ e. SeeFits (e .see)) es → length (textOf es) ≤ length es * (mostNumbers * 7 + 26)
 entries-size [] f s = omega arith
 entries-size (e ∷ es) f s = omega (arith, length-append (entryText e) (textOf es), entry-size e (f .0) (s .0), entries-size es (f .1) (s .1))
 
-pub text-size : (es : List Entry) → WellFormed es → length (textOf es) ≤ 40000
+pub text-size : (es : List Entry) → WellFormed es → length (textOf es) ≤ mostText
 text-size es w = omega (arith, entries-size es (w .entered .fits) (sees-fit es es (w .entered .fits) (w .named)), w .entered .few)

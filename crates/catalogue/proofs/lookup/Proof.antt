@@ -71,15 +71,18 @@ counted c = let p = c .before .before in omega (arith, below c, ready-length _ (
 standing-place-requires : tie.Need-standing-place-requires
 standing-place-requires c κs = (prepared (else1 (c .before .before)), counted c)
 
--- and the place of its standing entry is one of the file
-small-place : (c : tie.After-standing-place) → c .standing-place .result < mostEntries
-small-place c = let e = c .before in omega (arith, c .standing-place .ensures .within, counted e, prepared (else1 (e .before .before)) .few)
+-- its place and that of its standing entry are places of the file
+small-place : (c : tie.After-standing-place) → (c .before .before .before .place-of .result < mostEntries) × (c .standing-place .result < mostEntries)
+small-place c =
+    let e = c .before in
+    let few = prepared (else1 (e .before .before)) .few in
+    (omega (arith, counted e, few), omega (arith, c .standing-place .ensures .within, counted e, few))
 
 mul-t11 : tie.Need-mul-t11
-mul-t11 c = omega (arith, small-place c)
+mul-t11 c = omega (arith, small-place c .0, small-place c .1)
 
 array-read-t14 : tie.Need-array-read-t14
-array-read-t14 c = omega (arith, small-place c, all (c .before .before .before .before .before))
+array-read-t14 c = omega (arith, small-place c .0, small-place c .1, all (c .before .before .before .before .before))
 
 found : (c : tie.After-standing-place) →
     let p = c .before .before .before in

@@ -4,6 +4,7 @@ use Prim.Native.Nat.{_≤_}
 use native.Mathlib.Omega.{arith}
 use lib.ListN.{length, take}
 use lib.Seq.{length-take-le}
+use Rattle.catalogue_rules.specs.Laws.TextSize.{mostText}
 use Rattle.fold_rules.specs.Services.{listingText}
 use Rattle.catalogue_records.specs.Catalogues.{writtenOf}
 use Rattle.catalogue_records.specs.EntriesIn.{entriesIn}
@@ -28,7 +29,7 @@ slice-aggregate-put-catalogue : tie.Need-slice-aggregate-put-catalogue
 slice-aggregate-put-catalogue c = search needs
 
 -- no text is longer than the array
-small : (c : tie.Else1) → length (listingText (entriesIn (c .before .before .read .result))) ≤ 40000
+small : (c : tie.Else1) → length (listingText (entriesIn (c .before .before .read .result))) ≤ mostText
 small c = let r = c .before .before in text-small (r .before .before .before .args .bytes .now) (r .read .ensures) (c .if1 .left)
 
 put-catalogue-requires : tie.Need-put-catalogue-requires

@@ -5,7 +5,7 @@ use native.Mathlib.Omega.{arith}
 use lib.ListN.{length, take}
 use mathlib.Core.Bool.{false}
 use Rattle.integers.specs.Every.{any}
-use Rattle.lattices.specs.Refusal.{tooLong}
+use Rattle.lattices.specs.Refusal.{tooLong, mostVectors, mostCoordinates}
 use Rattle.lattices.specs.Laws.Refusal.{one-to}
 use Rattle.catalogue_rules.specs.Laws.EntriesAccepted.{all-short}
 use Rattle.input_checks.specs.Rows.{short, four-rows, long-rows, dependent-rows}
@@ -16,11 +16,11 @@ use borrow.Author.Needs.{needs}
 use Rattle.catalogue_reader.proofs.dependent.Statement.{statement}
 use Rattle.catalogue_reader.proofs.dependent.Tie as tie
 
-few : (c : tie.Start) → c .args .e .d ≤ 4
-few c = one-to 4 _ (c .pre .head .d) .1
+few : (c : tie.Start) → c .args .e .d ≤ mostVectors
+few c = one-to mostVectors _ (c .pre .head .d) .1
 
-narrow : (c : tie.Start) → c .args .e .m ≤ 4
-narrow c = one-to 4 _ (c .pre .head .m) .1
+narrow : (c : tie.Start) → c .args .e .m ≤ mostCoordinates
+narrow c = one-to mostCoordinates _ (c .pre .head .m) .1
 
 long : (c : tie.Start) → length (c .args .e .coordinates) ≡ mostNumbers
 long c = search needs

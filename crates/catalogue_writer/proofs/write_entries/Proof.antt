@@ -1,7 +1,7 @@
 -- The length is known first; then the entries, then the end word.
 use mathlib.Core.Path.{_≡_, sym, ap, _∙_}
 use mathlib.Core.List.{[], _∷_}
-use Prim.Native.Nat.{_+_, _*_, _≤_}
+use Prim.Native.Nat.{_+_, _*_, _≤_, _<_}
 use native.Mathlib.Omega.{arith}
 use lib.ListN.{length}
 use Rattle.catalogue_rules.specs.Write.{write}
@@ -13,7 +13,7 @@ use Rattle.catalogue_writer.specs.Over.{overWords}
 use Rattle.catalogue_writer.specs.Upto.{few-words}
 use Rattle.catalogue_writer.specs.Writing.{length-write, end-written}
 use Rattle.catalogue_records.specs.Catalogues.{writtenOf}
-use Rattle.catalogue_rules.specs.Catalogue.{mostEntries}
+use Rattle.catalogue_rules.specs.Catalogue.{mostEntries, mostWords}
 use borrow.Author.Needs.{needs}
 use Rattle.catalogue_writer.proofs.write_entries.Statement.{statement}
 use Rattle.catalogue_writer.proofs.write_entries.Tie as tie
@@ -24,7 +24,7 @@ count-words-requires c κs = search needs
 full : (c : tie.Start) → length (c .args .c .entries) ≡ mostEntries
 full c = all-stored (c .args .c) _ (c .good .0 .1 .1 .1 .1 .1 .0 .1 .0 .1)
 
-few : (c : tie.After-count-words) → c .count-words .result ≤ 4608
+few : (c : tie.After-count-words) → c .count-words .result < mostWords
 few c =
     let s = c .before .before in
     omega (arith, c .count-words .ensures, few-words (s .args .c) (full s) (s .pre .0) (s .pre .1 .entered .fits))

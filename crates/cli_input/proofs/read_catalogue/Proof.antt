@@ -3,7 +3,7 @@ use borrow.Author.Needs.{needs}
 use Prim.Native.Nat.{_≤_}
 use native.Mathlib.Omega.{arith}
 use Rattle.text_output.specs.Within.{counts-within}
-use Rattle.cli_input.specs.Kept.{kept-small}
+use Rattle.cli_input.specs.Kept.{mostKept, kept-small}
 use Rattle.cli_input.proofs.read_catalogue.Statement.{statement}
 use Rattle.cli_input.proofs.read_catalogue.Tie as tie
 
@@ -26,8 +26,8 @@ returns-3 : tie.Need-returns-3
 returns-3 c =
     let k = c .kept-length in
     let a = c .before .before .before .before .before .before .read-all in
-    let few : a .result .end ≤ 18443 = search needs in
-    let small : k .result ≤ 18443 = omega (arith, k .ensures, kept-small (a .result .end) (c .before .read-rest .result .count) few) in
+    let few : a .result .end ≤ mostKept = search needs in
+    let small : k .result ≤ mostKept = omega (arith, k .ensures, kept-small (a .result .end) (c .before .read-rest .result .count) few) in
     counts-within _ _ (search needs)
 
 pub read-catalogue-spec : {M : Type 1} → statement M

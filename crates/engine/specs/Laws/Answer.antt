@@ -96,12 +96,12 @@ length-table (suc h) w [] = ap suc (length-table h w [])
 length-table (suc h) w (r ∷ rows) = ap suc (length-table h w rows)
 
 -- beyond the rows of a table the products are 0
-beyond : (h : ℕ) (rows : List (List ℤ)) (j : ℕ) (v : Vec) → length rows ≤ j → dot (getD (table h 4 rows) j []) v ≡ pos 0
-beyond zero rows j v k = nil-dot v
-beyond (suc h) [] zero v k = ≈-dot (padded-≈ 4 [] (omega arith)) (≈-refl {u = v}) ∙ nil-dot v
-beyond (suc h) [] (suc j) v k = beyond h [] j v (omega arith)
-beyond (suc h) (r ∷ rows) zero v k = absurd (omega arith)
-beyond (suc h) (r ∷ rows) (suc j) v k = beyond h rows j v (omega arith)
+beyond : (h w : ℕ) (rows : List (List ℤ)) (j : ℕ) (v : Vec) → length rows ≤ j → dot (getD (table h w rows) j []) v ≡ pos 0
+beyond zero w rows j v k = nil-dot v
+beyond (suc h) w [] zero v k = ≈-dot (padded-≈ w [] (omega arith)) (≈-refl {u = v}) ∙ nil-dot v
+beyond (suc h) w [] (suc j) v k = beyond h w [] j v (omega arith)
+beyond (suc h) w (r ∷ rows) zero v k = absurd (omega arith)
+beyond (suc h) w (r ∷ rows) (suc j) v k = beyond h w rows j v (omega arith)
 
 module _ (i : Input) (e : firstOf vectorChecks i ≡ 0) where
   abbrev b : List (List ℤ)
@@ -121,7 +121,7 @@ module _ (i : Input) (e : firstOf vectorChecks i ≡ 0) where
   ins = map (padded mostCoordinates) (basis i)
 
   ins-count : length ins ≡ i .d
-  ins-count = length-map (basis i) (padded 4) ∙ bs-count i e
+  ins-count = length-map (basis i) (padded mostCoordinates) ∙ bs-count i e
 
   ins-taken : take (i .d) b ≡ ins
   ins-taken = ap (λ n. take n b) (sym (bs-count i e)) ∙ table-rows mostVectors mostCoordinates (basis i) (omega (arith, bs-count i e, accepted i e .most))
@@ -172,7 +172,7 @@ module _ (i : Input) (e : firstOf vectorChecks i ≡ 0) where
       where
         pick : Dec (j < i .d) → dot (getD (table mostVectors mostCoordinates (vectors (R i e))) j []) v ≡ dot (getD (take (i .d) (table mostVectors mostCoordinates (vectors (R i e)))) j []) v
         pick (yes h) = ap (λ u. dot u v) (sym (getD-take (i .d) (table mostVectors mostCoordinates (vectors (R i e))) j [] h))
-        pick (no h) = beyond 4 (vectors (R i e)) j v (omega (arith, outs-count i e, h))
+        pick (no h) = beyond mostVectors mostCoordinates (vectors (R i e)) j v (omega (arith, outs-count i e, h))
             ∙ sym (ap (λ u. dot u v) (List·getD-eq-default (take (i .d) (table mostVectors mostCoordinates (vectors (R i e)))) [] (omega (arith, length-take (i .d) (table mostVectors mostCoordinates (vectors (R i e))), h))) ∙ nil-dot v)
 
     G-count : length G ≡ 4

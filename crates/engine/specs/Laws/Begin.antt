@@ -44,7 +44,7 @@ table-is (suc h) w n (r ∷ rows) e = ap (λ l. padded w r ∷ l) (table-is h w 
 abbrev pub zeroRow : Row
 zeroRow = record { vector = padded mostCoordinates []; u = padded 4 []; v = padded 4 [] }
 
-rowsOf-zeros : (n : ℕ) → rowsOf (replicate n (padded 4 [])) (replicate n (padded 4 [])) (replicate n (padded 4 [])) ≡ replicate n zeroRow
+rowsOf-zeros : (n : ℕ) → rowsOf (replicate n (padded mostCoordinates [])) (replicate n (padded 4 [])) (replicate n (padded 4 [])) ≡ replicate n zeroRow
 unfolding rowsOf
 rowsOf-zeros zero = refl
 rowsOf-zeros (suc n) = ap (λ l. zeroRow ∷ l) (rowsOf-zeros n)
@@ -67,13 +67,13 @@ module _ (bs : List Vec) (n : ℕ) (four : length bs + n ≡ 4) where
   wide-count = length-map (units (length bs)) (padded 4) ∙ length-units (length bs)
 
   pub ins-count : length ins ≡ length bs
-  ins-count = length-map bs (padded 4)
+  ins-count = length-map bs (padded mostCoordinates)
 
   -- the padded basis, unit tables, unused rows
   pub begin-rows : rowsOf (table mostVectors mostCoordinates bs) (table mostVectors mostVectors (units (length bs))) (table mostVectors mostVectors (units (length bs))) ≡ start ins wide ++ replicate n zeroRow
   begin-rows =
-      ap₂ (λ b e. rowsOf b e e) (table-is mostVectors mostCoordinates n bs four) (table-is mostVectors mostCoordinates n (units (length bs)) (omega (arith, length-units (length bs))))
-      ∙ rowsOf-append ins wide wide (replicate n (padded 4 [])) (replicate n (padded 4 [])) (replicate n (padded 4 [])) (wide-count ∙ sym ins-count) (wide-count ∙ sym ins-count)
+      ap₂ (λ b e. rowsOf b e e) (table-is mostVectors mostCoordinates n bs four) (table-is mostVectors mostVectors n (units (length bs)) (omega (arith, length-units (length bs))))
+      ∙ rowsOf-append ins wide wide (replicate n (padded mostCoordinates [])) (replicate n (padded 4 [])) (replicate n (padded 4 [])) (wide-count ∙ sym ins-count) (wide-count ∙ sym ins-count)
       ∙ ap₂ _++_ (rowsOf-start ins wide (wide-count ∙ sym ins-count)) (rowsOf-zeros n)
 
   pub begin-first : start ins wide ≡ first-rows 4 ins
@@ -88,7 +88,7 @@ padded-short s z n m h [] c k i = k i
 padded-short s z n m h (b ∷ bs) c k zero = subst (λ t. t ≤ℤ s) (sym (padded-N n b (omega (arith, c .0)))) (k 0)
 padded-short s z n m h (b ∷ bs) c k (suc i) = padded-short s z n m h bs (c .1) (λ i. k (suc i)) i
 
-sized-start : (bs : List Vec) (es : List (List ℤ)) → Coordinates 4 bs → Coordinates 4 es → All (Sized mostCoordinates mostVectors) (start bs es)
+sized-start : (bs : List Vec) (es : List (List ℤ)) → Coordinates mostCoordinates bs → Coordinates mostVectors es → All (Sized mostCoordinates mostVectors) (start bs es)
 sized-start [] es h k = tt
 sized-start (b ∷ bs) [] h k = tt
 sized-start (b ∷ bs) (e ∷ es) h k = (record { vector = h .0; u = k .0; v = k .0 }, sized-start bs es (h .1) (k .1))
@@ -119,11 +119,11 @@ module _ (i : Input) (e : firstOf vectorChecks i ≡ 0) where
   padded-basis : Basis mostCoordinates (map (padded mostCoordinates) (basis i))
   unfolding isDependent
   padded-basis = record {
-    full = padded-coordinates 4 (basis i);
-    some = omega (arith, length-map (basis i) (padded 4), bs-count, ok .some);
-    four = omega (arith, length-map (basis i) (padded 4), bs-count, ok .most);
-    limit = padded-short (pos 400000000) (pos-nonneg 400000000) 4 (i .m) (ok .few) (basis i) (ok .full) (basis-of i ok .limit);
-    volume = leZ-false (sym (isDependent-padded (i .m) 4 (basis i) (fit-vectorsOf (i .d) (i .m) (i .numbers)) (ok .few)) ∙ passed vectorChecks i (omega arith) e .1 .1 .1 .1 .0);
+    full = padded-coordinates mostCoordinates (basis i);
+    some = omega (arith, length-map (basis i) (padded mostCoordinates), bs-count, ok .some);
+    four = omega (arith, length-map (basis i) (padded mostCoordinates), bs-count, ok .most);
+    limit = padded-short (pos 400000000) (pos-nonneg 400000000) mostCoordinates (i .m) (ok .few) (basis i) (ok .full) (basis-of i ok .limit);
+    volume = leZ-false (sym (isDependent-padded (i .m) mostCoordinates (basis i) (fit-vectorsOf (i .d) (i .m) (i .numbers)) (ok .few)) ∙ passed vectorChecks i (omega arith) e .1 .1 .1 .1 .0);
   }
 
   -- the rows with which the engine begins
@@ -145,6 +145,6 @@ module _ (i : Input) (e : firstOf vectorChecks i ≡ 0) where
     is = first-is;
     short = zeros-short unused;
     sized = subst (All (Sized mostCoordinates mostVectors)) (sym first-is) (all-append (Sized mostCoordinates mostVectors) (start (map (padded mostCoordinates) (basis i)) (map (padded 4) (units (length (basis i))))) (replicate unused zeroRow)
-        (sized-start (map (padded mostCoordinates) (basis i)) (map (padded 4) (units (length (basis i)))) (padded-coordinates 4 (basis i)) (padded-coordinates 4 (units (length (basis i))))) (zeros-sized unused));
+        (sized-start (map (padded mostCoordinates) (basis i)) (map (padded 4) (units (length (basis i)))) (padded-coordinates mostCoordinates (basis i)) (padded-coordinates 4 (units (length (basis i))))) (zeros-sized unused));
     count = omega (arith, length-start (map (padded mostCoordinates) (basis i)) (map (padded 4) (units (length (basis i)))) (wide-count (basis i) unused four-rows ∙ sym (ins-count (basis i) unused four-rows)), ins-count (basis i) unused four-rows, bs-count);
   }

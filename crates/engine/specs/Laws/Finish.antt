@@ -27,11 +27,11 @@ use Rattle.greedy_steps.specs.Fine.{fine-reduced}
 use Rattle.engine.specs.Laws.Begin.{table-is, zeroRow, length-start, first, first-is, first-fine, unused, four-rows, bs-count, wide-count, ins-count}
 
 -- padded rows begin as the padded start
-pad-start : (m d : ℕ) (a : m ≤ 4) (b : d ≤ 4) (bs : List Vec) (es : List (List ℤ)) → map (pad 4 4 m d a b) (start bs es) ≡ start (map (padded mostCoordinates) bs) (map (padded 4) es)
+pad-start : (m d : ℕ) (a : m ≤ mostCoordinates) (b : d ≤ mostVectors) (bs : List Vec) (es : List (List ℤ)) → map (pad mostCoordinates mostVectors m d a b) (start bs es) ≡ start (map (padded mostCoordinates) bs) (map (padded 4) es)
 unfolding pad
 pad-start m d a b [] es = refl
 pad-start m d a b (c ∷ bs) [] = refl
-pad-start m d a b (c ∷ bs) (e ∷ es) = ap (λ l. record { vector = padded 4 c; u = padded 4 e; v = padded 4 e } ∷ l) (pad-start m d a b bs es)
+pad-start m d a b (c ∷ bs) (e ∷ es) = ap (λ l. record { vector = padded mostCoordinates c; u = padded 4 e; v = padded 4 e } ∷ l) (pad-start m d a b bs es)
 
 -- ---- lists filled up with zeros
 padded-append : (n k : ℕ) (l : List ℤ) → length l + k ≡ n → l ++ replicate k (pos 0) ≡ padded n l
@@ -118,7 +118,7 @@ module _ (i : Input) (e : firstOf vectorChecks i ≡ 0) where
     where
       padded-vectors : (l : List Row) → vectors (map widen l) ≡ map (padded mostCoordinates) (vectors l)
       padded-vectors [] = refl
-      padded-vectors (r ∷ l) = ap (λ t. padded 4 (r .vector) ∷ t) (padded-vectors l)
+      padded-vectors (r ∷ l) = ap (λ t. padded mostCoordinates (r .vector) ∷ t) (padded-vectors l)
 
   n : ℕ
   n = unused i e
@@ -128,27 +128,27 @@ module _ (i : Input) (e : firstOf vectorChecks i ≡ 0) where
   full = omega (arith, R-count, four-rows i e, bs-count i e)
 
   -- a table of the rows: the vectors, U, the columns of V
-  table-of : (f : Row → List ℤ) → ((r : Row) → f (widen r) ≡ padded 4 (f r)) → f zeroRow ≡ padded 4 [] → map f (map widen R ++ replicate (unused i e) zeroRow) ≡ table mostVectors mostVectors (map f R)
+  table-of : (w : ℕ) (f : Row → List ℤ) → ((r : Row) → f (widen r) ≡ padded w (f r)) → f zeroRow ≡ padded w [] → map f (map widen R ++ replicate (unused i e) zeroRow) ≡ table mostVectors w (map f R)
   unfolding n
-  table-of f p z =
+  table-of w f p z =
       map-append f (map widen R) (replicate n zeroRow) ∙ ap₂ _++_ (both R) (map-replicate f n zeroRow ∙ ap (replicate n) z)
-      ∙ sym (table-is mostVectors mostCoordinates n (map f R) (omega (arith, length-map R f, full)))
+      ∙ sym (table-is mostVectors w n (map f R) (omega (arith, length-map R f, full)))
     where
-      both : (l : List Row) → map f (map widen l) ≡ map (padded 4) (map f l)
+      both : (l : List Row) → map f (map widen l) ≡ map (padded w) (map f l)
       both [] = refl
       both (r ∷ l) = ap₂ _∷_ (p r) (both l)
 
   pub last-vectors : map (λ r. r .vector) (greedyRows (i .d) (first i e)) ≡ table mostVectors mostCoordinates (vectors R)
   unfolding pad
-  last-vectors = ap (map (λ r. r .vector)) last-rows ∙ table-of (λ r. r .vector) (λ r. refl) refl
+  last-vectors = ap (map (λ r. r .vector)) last-rows ∙ table-of mostCoordinates (λ r. r .vector) (λ r. refl) refl
 
   pub last-u : map (λ r. r .u) (greedyRows (i .d) (first i e)) ≡ table mostVectors mostVectors (map (λ r. r .u) R)
   unfolding pad
-  last-u = ap (map (λ r. r .u)) last-rows ∙ table-of (λ r. r .u) (λ r. refl) refl
+  last-u = ap (map (λ r. r .u)) last-rows ∙ table-of mostVectors (λ r. r .u) (λ r. refl) refl
 
   columns : map (λ r. r .v) (greedyRows (i .d) (first i e)) ≡ table mostVectors mostVectors (map (λ r. r .v) R)
   unfolding pad
-  columns = ap (map (λ r. r .v)) last-rows ∙ table-of (λ r. r .v) (λ r. refl) refl
+  columns = ap (map (λ r. r .v)) last-rows ∙ table-of mostVectors (λ r. r .v) (λ r. refl) refl
 
   sized : All (Sized (i .m) (length (basis i))) R
   sized = reduction-sized (i .m) (basis i) (accept .full) some
@@ -156,7 +156,7 @@ module _ (i : Input) (e : firstOf vectorChecks i ≡ 0) where
   -- row j of the columns is row j of V
   row-of : (j : ℕ) → map (λ r. nth r j) (table mostVectors mostVectors (map (λ r. r .v) R)) ≡ padded 4 (rowOfV R j)
   row-of j =
-      ap (map (λ r. nth r j)) (table-is mostVectors mostCoordinates n (map (λ r. r .v) R) (omega (arith, length-map R (λ r. r .v), full)))
+      ap (map (λ r. nth r j)) (table-is mostVectors mostVectors n (map (λ r. r .v) R) (omega (arith, length-map R (λ r. r .v), full)))
       ∙ map-append (λ r. nth r j) (map (padded 4) (map (λ r. r .v) R)) (replicate n (padded 4 []))
       ∙ ap₂ _++_ (entries R sized) (map-replicate (λ r. nth r j) n (padded 4 []) ∙ ap (replicate n) (nth-padded 4 [] (omega arith) j))
       ∙ padded-append 4 n (rowOfV R j) (omega (arith, length-map R (λ r. nth (r .v) j), full))
@@ -183,10 +183,10 @@ module _ (i : Input) (e : firstOf vectorChecks i ≡ 0) where
   pub last-squares : map N (map (λ r. r .vector) (greedyRows (i .d) (first i e))) ≡ padded 4 (map (λ r. N (r .vector)) R)
   last-squares =
       ap (map N) (last-vectors ∙ table-is mostVectors mostCoordinates n (vectors R) (omega (arith, length-map R (λ r. r .vector), full)))
-      ∙ map-append N (map (padded mostCoordinates) (vectors R)) (replicate n (padded 4 []))
-      ∙ ap₂ _++_ (squares R sized) (map-replicate N n (padded 4 []) ∙ ap (replicate n) (padded-N 4 [] (omega arith) ∙ nil-dot []))
+      ∙ map-append N (map (padded mostCoordinates) (vectors R)) (replicate n (padded mostCoordinates []))
+      ∙ ap₂ _++_ (squares R sized) (map-replicate N n (padded mostCoordinates []) ∙ ap (replicate n) (padded-N mostCoordinates [] (omega arith) ∙ nil-dot []))
       ∙ padded-append 4 n (map (λ r. N (r .vector)) R) (omega (arith, length-map R (λ r. N (r .vector)), full))
     where
       squares : (l : List Row) → All (Sized (i .m) (length (basis i))) l → map N (map (padded mostCoordinates) (vectors l)) ≡ map (λ r. N (r .vector)) l
       squares [] s = refl
-      squares (r ∷ l) s = ap₂ _∷_ (padded-N 4 (r .vector) (omega (arith, s .0 .vector, accept .few))) (squares l (s .1))
+      squares (r ∷ l) s = ap₂ _∷_ (padded-N mostCoordinates (r .vector) (omega (arith, s .0 .vector, accept .few))) (squares l (s .1))

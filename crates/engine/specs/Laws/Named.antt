@@ -52,7 +52,7 @@ pub record Answered (d : ℕ) (b : List Vec) (t : Vec) (r : NearestVector) : Typ
   pub list : List ℤ
   pub rest : Vec
   pub is : r ≡ named t list rest
-  pub places : length rest ≡ 4
+  pub places : length rest ≡ mostCoordinates
   pub coefficients : list ≡ padded 4 (nearest (take d b) t)
   pub left : rest ≈ t ⊖ comb (nearest (take d b) t) (take d b)
 
@@ -89,18 +89,18 @@ module _ (i : Input) (e : firstOf vectorChecks i ≡ 0) (f : firstOf targetCheck
   t-count : length (i .target) ≡ i .m
   t-count = targeted i f .count
 
-  t-few : length (i .target) ≤ 4
+  t-few : length (i .target) ≤ mostCoordinates
   t-few = omega (arith, t-count, accept i e .few)
 
-  pub target-read : padded 4 (take (i .m) (drop 0 (i .target))) ≡ target
-  target-read = ap (padded 4) (take-all (i .m) (i .target) (omega (arith, t-count)))
+  pub target-read : padded mostCoordinates (take (i .m) (drop 0 (i .target))) ≡ target
+  target-read = ap (padded mostCoordinates) (take-all (i .m) (i .target) (omega (arith, t-count)))
 
   -- what the search for the nearest vector asks
   pub near : Near (i .d) array target
   near = record {
     reduced = subst Reduced (sym (outs-rows i e)) (last-reduced i e);
     short = λ k h. subst (λ l. N (getD l k []) ≤ℤ pos 400000000) (last-vectors i e) (short-rows (fine-greedy (first-fine i e) (i .d) (le-refl (i .d))) k);
-    target = subst (λ n. n ≤ℤ pos 400000000) (sym (padded-N 4 (i .target) t-few)) (targeted i f .limit);
+    target = subst (λ n. n ≤ℤ pos 400000000) (sym (padded-N mostCoordinates (i .target) t-few)) (targeted i f .limit);
   }
 
   x : List ℤ
@@ -108,14 +108,14 @@ module _ (i : Input) (e : firstOf vectorChecks i ≡ 0) (f : firstOf targetCheck
 
   nearest-is : nearest (take (i .d) array) target ≡ x
   unfolding x
-  nearest-is = ap (λ l. nearest l target) (outs-rows i e) ∙ nearest-padded 4 (i .m) (accept i e .few) bs (outs-full i e) (i .target) t-count
+  nearest-is = ap (λ l. nearest l target) (outs-rows i e) ∙ nearest-padded mostCoordinates (i .m) (accept i e .few) bs (outs-full i e) (i .target) t-count
 
-  module _ (y rest : List ℤ) (places : length rest ≡ 4) (list : y ≡ padded 4 (nearest (take (i .d) array) target))
+  module _ (y rest : List ℤ) (places : length rest ≡ mostCoordinates) (list : y ≡ padded 4 (nearest (take (i .d) array) target))
       (left : rest ≈ target ⊖ comb (nearest (take (i .d) array) target) (take (i .d) array)) where
     left-is : rest ≈ target ⊖ comb x (map (padded mostCoordinates) bs)
     left-is = subst (λ z. rest ≈ target ⊖ comb z (map (padded mostCoordinates) bs)) nearest-is (subst (λ l. rest ≈ target ⊖ comb (nearest (take (i .d) array) target) l) (outs-rows i e) left)
 
-    combination-few : length (comb x bs) ≤ 4
+    combination-few : length (comb x bs) ≤ mostCoordinates
     unfolding x
     combination-few = omega (arith, comb-full (i .m) x bs (outs-full i e) (nearest-count bs (i .target)) (omega (arith, outs-count i e, accept i e .some)), accept i e .few)
 
@@ -123,10 +123,10 @@ module _ (i : Input) (e : firstOf vectorChecks i ≡ 0) (f : firstOf targetCheck
     vector-is = ≈-≡ (target ⊖ pos 1 ⊙ rest) (padded mostCoordinates (comb x bs))
         (length-⊕ target (negsuc 0 ⊙ pos 1 ⊙ rest) ∙ omega (arith, length-padded mostCoordinates (i .target), length-⊙ (negsuc 0) (pos 1 ⊙ rest), length-⊙ (pos 1) rest, places, length-padded mostCoordinates (comb x bs)))
         (≈-trans (left-of-left target (comb x (map (padded mostCoordinates) bs)) rest left-is)
-        (≈-trans (comb-padded 4 (i .m) (accept i e .few) x bs (outs-full i e)) (≈-sym (padded-≈ 4 (comb x bs) combination-few))))
+        (≈-trans (comb-padded mostCoordinates (i .m) (accept i e .few) x bs (outs-full i e)) (≈-sym (padded-≈ mostCoordinates (comb x bs) combination-few))))
 
     square-is : dot rest rest ≡ distance (i .target) (comb x bs)
-    square-is = ≈-N left-is ∙ ap N (sym (padded-minus 4 (i .m) (accept i e .few) (i .target) t-few x bs (outs-full i e))) ∙ padded-N 4 (i .target ⊖ comb x bs) (omega (arith, length-⊕ (i .target) (negsuc 0 ⊙ comb x bs), length-⊙ (negsuc 0) (comb x bs), t-few, combination-few))
+    square-is = ≈-N left-is ∙ ap N (sym (padded-minus mostCoordinates (i .m) (accept i e .few) (i .target) t-few x bs (outs-full i e))) ∙ padded-N mostCoordinates (i .target ⊖ comb x bs) (omega (arith, length-⊕ (i .target) (negsuc 0 ⊙ comb x bs), length-⊙ (negsuc 0) (comb x bs), t-few, combination-few))
 
     given-answer : named target y rest ≡ packedNearest (nearestGiven bs (i .target))
     unfolding named x

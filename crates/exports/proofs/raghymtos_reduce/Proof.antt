@@ -1,7 +1,7 @@
 -- The answer is stored part by part where there is room, and nothing is where there is not.
 use mathlib.Core.Path.{refl, sym, ap, _∙_, subst}
 use mathlib.Core.List.{[], map}
-use Prim.Native.Nat.{_≤_, _<_}
+use Prim.Native.Nat.{_+_, _*_, _≤_, _<_}
 use native.Mathlib.Omega.{arith}
 use lib.IntN.{pos}
 use lib.ListN.{length}
@@ -10,7 +10,7 @@ use mir.Syntax.{w64}
 use mir.Facts.{toZ-pos}
 use denote.Ref.{now}
 use borrow.Author.Tests.{le-leb, lt-leb}
-use Rattle.lattices.specs.Refusal.{Input}
+use Rattle.lattices.specs.Refusal.{Input, mostVectors, mostCoordinates}
 use Rattle.lattices.specs.Answer.{reductionOf}
 use Rattle.row_operations.specs.RowStructs.{vectorRow, tableRow}
 use Rattle.exports.specs.Layout.{reductionCount, flat, head, layout}
@@ -90,8 +90,8 @@ returns-2 c =
           (p .put-head .ensures ∙ ap (sets l 0) (ap (head (a .refusal) (a .place)) (toZ-pos w64 (omega (arith, few r .2)))) ∙ ap (λ a. sets l 0 (head (a .refusal) (a .place) (pos (a .passes)))) e)
           (q .put-row .ensures .0 ∙ ap (λ a. sets (p .put-head .last .0) 3 (a .squares)) e)
           (b .put-vectors .ensures ∙ ap (λ t. sets (q .put-row .last .0) 7 (flat t)) z)
-          (u .put-table .ensures ∙ ap (λ t. sets (b .put-vectors .last .0) 23 (flat t)) y)
-          (v .put-table2 .ensures ∙ ap (λ t. sets (u .put-table .last .0) 39 (flat t)) x),
+          (u .put-table .ensures ∙ ap (λ t. sets (b .put-vectors .last .0) (7 + mostVectors * mostCoordinates) (flat t)) y)
+          (v .put-table2 .ensures ∙ ap (λ t. sets (u .put-table .last .0) (7 + mostVectors * mostCoordinates + mostVectors * mostVectors) (flat t)) x),
     )
 
 pub raghymtos-reduce-spec : {M : Type 1} → statement M

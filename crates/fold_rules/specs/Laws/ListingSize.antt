@@ -1,4 +1,4 @@
--- The listing of an accepted catalogue has at most 40,000 bytes: 256 times a line of at most 36 bytes and four of at most 30, and the first line.
+-- The listing of an accepted catalogue has at most `mostText` bytes: for each entry a line of at most 36 and those of its vectors, and the first line.
 use mathlib.Core.Path.{_≡_, refl, sym, ap, subst}
 use mathlib.Core.Bool.{Bool, true, false}
 use mathlib.Core.List.{List, [], _∷_, _++_, map}
@@ -10,6 +10,7 @@ use lib.IntN.{pos, natAbs}
 use lib.ListN.{length, length-append, length-map}
 use lib.Signed.{ltZ}
 use borrow.Author.Tests.{ltb-false}
+use Rattle.catalogue_rules.specs.Laws.TextSize.{mostVectorLine, mostShown, mostText}
 use Rattle.integers.specs.All.{All}
 use Rattle.integers.specs.AllLaws.{all-imp, all-map}
 use Rattle.integers.specs.Decimal.{decimal, signed}
@@ -48,7 +49,7 @@ coordinates-length (x ∷ v) h =
     let p = neither (ltb mostSize (natAbs x)) (any (λ y. ltb mostSize (natAbs y)) v) h in
     (signed-length 5 x (omega arith) (omega (arith, ltb-false mostSize (natAbs x) (p .0))), coordinates-length v (p .1))
 
-vector-lines : (m : ℕ) → m ≤ mostCoordinates → (vs : List Vec) → All (VectorFits m) vs → length (vectorLines vs) ≤ length vs * 30
+vector-lines : (m : ℕ) → m ≤ mostCoordinates → (vs : List Vec) → All (VectorFits m) vs → length (vectorLines vs) ≤ length vs * mostVectorLine
 vector-lines m h [] p = omega arith
 vector-lines m h (v ∷ vs) p =
     let near = neither (any (λ y. ltb mostSize (natAbs y)) v) (ltZ (pos mostSquare) (N v)) (p .0 .short) in
@@ -103,9 +104,9 @@ record Listed (s : Stood) : Type 0 where
   number : Short (s .entry .head .number)
   standing : Short (s .standing .head .number)
   passes : reduction (s .entry .vectors) .passes < 10 ^ 11
-  shown : length (vectorsShown s) ≤ 120
+  shown : length (vectorsShown s) ≤ mostShown
 
-entry-lines : (ss : List Stood) → All (λ s. Short (s .standing .head .number)) ss → (more : List Stood) → All Listed more → length (entryLines ss more) ≤ length more * 156
+entry-lines : (ss : List Stood) → All (λ s. Short (s .standing .head .number)) ss → (more : List Stood) → All Listed more → length (entryLines ss more) ≤ length more * (36 + mostShown)
 entry-lines ss h [] p = omega arith
 entry-lines ss h (s ∷ more) p =
     let l = line-length (s .entry .head .number) (s .standing .head .number) (seeNumber (leads ss s)) (reduction (s .entry .vectors) .passes)
@@ -123,10 +124,10 @@ few-passes e s =
 number-short : (e : Entry) → Sound e → Short (e .head .number)
 number-short e s = let r = one-to mostNumber (e .head .number) (s .fits .head .number) in omega arith
 
-shown-length : (e f : Entry) → Sound e → length (vectorsShown (record { entry = e; standing = f })) ≤ 120
+shown-length : (e f : Entry) → Sound e → length (vectorsShown (record { entry = e; standing = f })) ≤ mostShown
 shown-length e f s = go (stands (record { entry = e; standing = f }))
   where
-    go : (b : Bool) → length {A = ℕ} (elim b as (λ b. List ℕ) [ true ↦ vectorLines (reducedOf e) | false ↦ [] ]) ≤ 120
+    go : (b : Bool) → length {A = ℕ} (elim b as (λ b. List ℕ) [ true ↦ vectorLines (reducedOf e) | false ↦ [] ]) ≤ mostShown
     go true =
         let r = reduced-sound e s none in
         let m = one-to mostCoordinates (e .head .m) (s .fits .head .m) in
@@ -154,7 +155,7 @@ module _ (file : List ℕ) (es : List Entry) (e : read file ≡ accepted es) whe
       let s = all-among Sound es sound f a in
       record { number = number-short f s; standing = standing-short f a; passes = few-passes f s; shown = shown-length f (standing es f) s }
 
-  pub listing-size : length (listingText es) ≤ 40000
+  pub listing-size : length (listingText es) ≤ mostText
   listing-size =
       let ss = closedList es in
       let few = well-formed file es e .entered .few in

@@ -8,6 +8,7 @@ use mir.Facts.{toZ-ofZ}
 use borrow.Author.Needs.{needs}
 use Rattle.lattices.specs.Vector.{nth}
 use Rattle.integers.specs.Every.{any}
+use Rattle.lattices.specs.Refusal.{mostCoordinates}
 use Rattle.input_checks.specs.Any.{beyond, any-here, any-later, any-end}
 use Rattle.input_checks.proofs.any_beyond.Statement.{statement}
 use Rattle.input_checks.proofs.any_beyond.Tie as tie
@@ -16,7 +17,7 @@ abbrev Inv-loop : tie.InvT-loop
 Inv-loop v j₀ j = any beyond v ≡ any beyond (drop j v)
 
 abbrev μ-loop : tie.MeasureT-loop
-μ-loop v j₀ j = 4 - j
+μ-loop v j₀ j = mostCoordinates - j
 
 loop-holds : tie.Need-loop-holds Inv-loop μ-loop
 loop-holds c = search needs

@@ -36,7 +36,7 @@ take-numbers-requires : tie.Need-take-numbers-requires Inv-loop μ-loop
 take-numbers-requires c κs =
     let l = c .before .before in
     let a = l .before .args in
-    (omega (arith, ends (c .before)), omega (arith, next-wide 4 4 (l .loop .i) (a .m) (a .numbers .now) (omega arith) (l .loop .inv .1)))
+    (omega (arith, ends (c .before)), omega (arith, next-wide mostVectors mostCoordinates (l .loop .i) (a .m) (a .numbers .now) (omega arith) (l .loop .inv .1)))
 
 add-i : tie.Need-add-i Inv-loop μ-loop
 add-i c = search needs
@@ -50,7 +50,7 @@ loop-again c =
     let l = i .before .loop in
     let s = i .before .before in
     let a = s .args in
-    (search needs, table-more 4 4 (l .i) (a .m) (a .numbers .now) (omega arith) (l .inv .1) (s .pre .1 .0) (omega (arith, ends i)) (c .take-numbers .ensures))
+    (search needs, table-more mostVectors mostCoordinates (l .i) (a .m) (a .numbers .now) (omega arith) (l .inv .1) (s .pre .1 .0) (omega (arith, ends i)) (c .take-numbers .ensures))
 
 returns : tie.Need-returns Inv-loop μ-loop
 returns c =

@@ -5,7 +5,7 @@ use mathlib.Core.Path.{_≡_, sym, ap, _∙_}
 use native.Mathlib.Omega.{arith}
 use borrow.Author.Needs.{needs}
 use borrow.Author.Tests.{eq-eqb, ne-eqb}
-use Rattle.lattices.specs.Refusal.{Input, targetChecks, tooLong}
+use Rattle.lattices.specs.Refusal.{Input, targetChecks, tooLong, mostCoordinates}
 use Rattle.input_checks.specs.First.{found, none, here, later}
 use Rattle.input_checks.specs.Padded.{tooLong-target}
 use Rattle.input_checks.proofs.target_refusal.Statement.{statement}
@@ -18,7 +18,7 @@ long : (c : tie.After-long) → tooLong (c .before .before .before .args .target
 long c =
     let e = c .before .before in
     let s = e .before in
-    sym (c .long .ensures ∙ ap tooLong (c .before .vector .ensures) ∙ tooLong-target 4 (s .args .m) (s .args .target .now) (e .if1 .left) (s .pre))
+    sym (c .long .ensures ∙ ap tooLong (c .before .vector .ensures) ∙ tooLong-target mostCoordinates (s .args .m) (s .args .target .now) (e .if1 .left) (s .pre))
 
 returns : tie.Need-returns
 returns c = found (given (c .before)) targetChecks (here (ap not (ne-eqb _ _ (c .if1 .taken))))

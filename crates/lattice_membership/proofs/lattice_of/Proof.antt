@@ -8,7 +8,7 @@ use mir.Facts.{toZ-ofZ}
 use mir.Syntax.{w64}
 use Rattle.integers.specs.Size.{Within}
 use Rattle.lattices.specs.Vector.{nth}
-use Rattle.lattices.specs.Refusal.{mostVectors}
+use Rattle.lattices.specs.Refusal.{mostVectors, mostCoordinates}
 use Rattle.input_checks.specs.FirstMinor.{table-small}
 use Rattle.lattice_membership.specs.Cofactor.{cofactorRows}
 use Rattle.lattice_membership.specs.Laws.Made.{rows-back, first-below, made}
@@ -20,7 +20,7 @@ four-rows : (c : tie.Start) → length (c .args .t1) ≡ 4
 four-rows c = search needs
 
 choice-long : (c : tie.After-first-minor) → mostVectors ≤ length (c .first-minor .result .at)
-choice-long c = let n : length (c .first-minor .result .at) ≡ 4 = search needs in omega (arith, n)
+choice-long c = let n : length (c .first-minor .result .at) ≡ mostCoordinates = search needs in omega (arith, n)
 
 first-minor-requires : tie.Need-first-minor-requires
 first-minor-requires c κs = let s = c .before in (s .pre .few, (four-rows s, s .pre .short))

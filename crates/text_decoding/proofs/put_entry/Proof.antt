@@ -4,16 +4,17 @@ use Prim.Native.Nat.{_*_, _≤_}
 use native.Mathlib.Omega.{arith}
 use lib.ListN.{length}
 use borrow.Author.Needs.{needs}
+use Rattle.catalogue_rules.specs.Catalogue.{mostNumbers}
 use Rattle.catalogue_records.specs.Coordinates.{most, cut}
 use Rattle.text_output.specs.Puts.{Puts, puts-then}
 use Rattle.text_decoding.specs.Parts.{entry-text, entry-length}
 use Rattle.text_decoding.proofs.put_entry.Statement.{statement}
 use Rattle.text_decoding.proofs.put_entry.Tie as tie
 
-long : (c : tie.Start) → length (c .args .e .coordinates) ≡ 16
+long : (c : tie.Start) → length (c .args .e .coordinates) ≡ mostNumbers
 long c = search needs
 
-few : (c : tie.Start) → c .args .e .d * c .args .e .m ≤ 16
+few : (c : tie.Start) → c .args .e .d * c .args .e .m ≤ mostNumbers
 few c = most (c .args .e) (c .pre .0) (long c)
 
 mul-n : tie.Need-mul-n

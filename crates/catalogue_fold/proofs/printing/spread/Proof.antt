@@ -43,7 +43,7 @@ many c = subst (λ l. c .before .before .args .l .d ≤ length l) (sym (c .vecto
 room : (i d m : ℕ) → i < d → d ≤ mostVectors → m ≤ mostCoordinates → i * m + m ≤ mostNumbers
 room i d m h k w =
     let f : i + 1 ≤ mostVectors = omega arith in
-    let e : (i + 1) * m ≤ 4 * 4 = mul-le-mul f w in
+    let e : (i + 1) * m ≤ mostVectors * mostCoordinates = mul-le-mul f w in
     omega (arith, e)
 
 mul-v : tie.Need-mul-v Inv-loop μ-loop

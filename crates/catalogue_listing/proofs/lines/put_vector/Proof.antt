@@ -5,6 +5,7 @@ use native.Mathlib.Omega.{arith}
 use lib.ListN.{length, take}
 use lib.Seq.{length-take-le}
 use borrow.Author.Needs.{needs}
+use Rattle.lattices.specs.Refusal.{mostCoordinates}
 use Rattle.integers.specs.Decimal.{signed}
 use Rattle.text_output.specs.Puts.{Puts, puts-then}
 use Rattle.text_fields.specs.Blank.{after-joined}
@@ -18,7 +19,7 @@ put-byte-requires c κs = search needs
 array-share-prefix-v : tie.Need-array-share-prefix-v
 array-share-prefix-v c = search needs
 
-wide : (c : tie.Start) → length (c .args .t3) ≡ 4
+wide : (c : tie.Start) → length (c .args .t3) ≡ mostCoordinates
 wide c = search needs
 
 slice-aggregate-put-coordinates : tie.Need-slice-aggregate-put-coordinates

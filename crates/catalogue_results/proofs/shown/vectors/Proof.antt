@@ -1,14 +1,15 @@
 -- Sixteen places.
 use Prim.Native.Nat.{_-_, _≤_}
 use borrow.Author.Needs.{needs}
+use Rattle.catalogue_rules.specs.Catalogue.{mostNumbers}
 use Rattle.catalogue_results.proofs.shown.vectors.Statement.{statement}
 use Rattle.catalogue_results.proofs.shown.vectors.Tie as tie
 
 abbrev Inv-loop : tie.InvT-loop
-Inv-loop coordinates i₀ i = i ≤ 16
+Inv-loop coordinates i₀ i = i ≤ mostNumbers
 
 abbrev μ-loop : tie.MeasureT-loop
-μ-loop coordinates i₀ i = 16 - i
+μ-loop coordinates i₀ i = mostNumbers - i
 
 loop-holds : tie.Need-loop-holds Inv-loop μ-loop
 loop-holds c = search needs

@@ -4,6 +4,7 @@ use mathlib.Core.List.{map}
 use Prim.Native.Nat.{_≤_, _<_, _-_}
 use native.Mathlib.Numerals.{add-one}
 use denote.Ref.{now}
+use Rattle.lattices.specs.Refusal.{mostCoordinates}
 use Rattle.row_operations.specs.RowStructs.{vectorRow, tableRow}
 use Rattle.row_operations.specs.Front.{front}
 use Rattle.row_operations.specs.Packing.{blanks, row-packed, rows-packed}
@@ -17,10 +18,10 @@ use Rattle.gram_matrix.proofs.work.packed.Lts as lts
 abbrev Inv-loop : tie.InvT-loop
 Inv-loop g b u v passes w₀ i₀ w i =
     (i ≤ 4)
-    × ((w .gram ≡ front i (map tableRow g) (blanks tableRow))
-    × ((w .vectors ≡ front i (map vectorRow b) (blanks vectorRow))
-    × ((w .u ≡ front i (map tableRow u) (blanks tableRow))
-    × ((w .v ≡ front i (map tableRow v) (blanks tableRow)) × (w .passes ≡ passes)))))
+    × ((w .gram ≡ front i (map tableRow g) (blanks 4 tableRow))
+    × ((w .vectors ≡ front i (map vectorRow b) (blanks mostCoordinates vectorRow))
+    × ((w .u ≡ front i (map tableRow u) (blanks 4 tableRow))
+    × ((w .v ≡ front i (map tableRow v) (blanks 4 tableRow)) × (w .passes ≡ passes)))))
 
 abbrev μ-loop : tie.MeasureT-loop
 μ-loop g b u v passes w₀ i₀ w i = 4 - i
@@ -90,12 +91,12 @@ loop-again c =
     let h : i < 4 = search needs in (
       search needs,
       (
-        rw add-one (row-packed tableRow (now (a .before .args .g)) i (a .loop .inv .1 .0) (f .gram) h),
+        rw add-one (row-packed 4 tableRow (now (a .before .args .g)) i (a .loop .inv .1 .0) (f .gram) h),
         (
-          rw add-one (row-packed vectorRow (now (a .before .args .b)) i (a .loop .inv .1 .1 .0) (f .vectors) h),
+          rw add-one (row-packed mostCoordinates vectorRow (now (a .before .args .b)) i (a .loop .inv .1 .1 .0) (f .vectors) h),
           (
-            rw add-one (row-packed tableRow (now (a .before .args .u)) i (a .loop .inv .1 .1 .1 .0) (f .us) h),
-            (rw add-one (row-packed tableRow (now (a .before .args .v)) i (a .loop .inv .1 .1 .1 .1 .0) (f .vs) h), a .loop .inv .1 .1 .1 .1 .1),
+            rw add-one (row-packed 4 tableRow (now (a .before .args .u)) i (a .loop .inv .1 .1 .1 .0) (f .us) h),
+            (rw add-one (row-packed 4 tableRow (now (a .before .args .v)) i (a .loop .inv .1 .1 .1 .1 .0) (f .vs) h), a .loop .inv .1 .1 .1 .1 .1),
           ),
         ),
       ),
@@ -107,10 +108,10 @@ returns c = let s = c .before .before in
     let l = c .before .loop in
     let e : l .i ≡ 4 = search needs in
     work-packed (now (s .args .g)) (now (s .args .b)) (now (s .args .u)) (now (s .args .v))
-    (rows-packed tableRow (now (s .args .g)) (l .i) (l .inv .1 .0) (f .gram) e)
-    (rows-packed vectorRow (now (s .args .b)) (l .i) (l .inv .1 .1 .0) (f .vectors) e)
-    (rows-packed tableRow (now (s .args .u)) (l .i) (l .inv .1 .1 .1 .0) (f .us) e)
-    (rows-packed tableRow (now (s .args .v)) (l .i) (l .inv .1 .1 .1 .1 .0) (f .vs) e)
+    (rows-packed 4 tableRow (now (s .args .g)) (l .i) (l .inv .1 .0) (f .gram) e)
+    (rows-packed mostCoordinates vectorRow (now (s .args .b)) (l .i) (l .inv .1 .1 .0) (f .vectors) e)
+    (rows-packed 4 tableRow (now (s .args .u)) (l .i) (l .inv .1 .1 .1 .0) (f .us) e)
+    (rows-packed 4 tableRow (now (s .args .v)) (l .i) (l .inv .1 .1 .1 .1 .0) (f .vs) e)
     (l .inv .1 .1 .1 .1 .1)
 
 pub packed-spec : {M : Type 1} → statement M

@@ -18,7 +18,7 @@ in-order-requires : tie.Need-in-order-requires
 in-order-requires c κs = search needs
 
 ordered : (c : tie.After-in-order) (i : ℕ) → i < mostVectors → getD (c .in-order .result) i 0 < mostCoordinates
-ordered c i h = subst (λ l. getD l i 0 < mostCoordinates) (sym (c .in-order .ensures)) (omega (arith, counts-at 0 mostCoordinates i h, h))
+ordered c i h = subst (λ l. getD l i 0 < mostCoordinates) (sym (c .in-order .ensures)) (omega (arith, counts-at 0 mostCoordinates i (omega (arith, h)), h))
 
 minor-of-requires : tie.Need-minor-of-requires
 minor-of-requires c κs =
@@ -35,17 +35,17 @@ returns c =
     let bs = take (a .d) (now (a .b)) in
     let n : length bs ≡ a .d = omega (arith, length-take (a .d) (now (a .b)), s .pre .1 .0, few) in
     let index = firsts mostCoordinates (a .d) in
-    let taken : take (a .d) (o .in-order .result) ≡ places 0 index = ap (take (a .d)) (o .in-order .ensures) ∙ sym (places-firsts 0 mostCoordinates (a .d) few) in
+    let taken : take (a .d) (o .in-order .result) ≡ places 0 index = ap (take (a .d)) (o .in-order .ensures) ∙ sym (places-firsts 0 mostCoordinates (a .d) (omega (arith, few))) in
     let held = toZ-ofZ {w = w64} (record { sfits = f .minor-of .ok }) in
     record {
       none = λ e. absurd (c .if1 .taken (ap (ofZ w64) (sym held ∙ e)));
       some = λ h. record {
         index = index;
         wide = length-firsts mostCoordinates (a .d);
-        count = marks-firsts mostCoordinates (a .d) few ∙ sym n;
+        count = marks-firsts mostCoordinates (a .d) (omega (arith, few)) ∙ sym n;
         taken = ap (λ k. take k (o .in-order .result)) n ∙ taken;
         below = ordered o;
-        minor = held ∙ f .minor-of .ensures index (marks-firsts mostCoordinates (a .d) few) taken;
+        minor = held ∙ f .minor-of .ensures index (marks-firsts mostCoordinates (a .d) (omega (arith, few))) taken;
       };
     }
 
