@@ -4,7 +4,7 @@ ghost use Rattle.catalogue_standing.specs.Places.{Closed};
 ghost use Rattle.catalogue_standing.specs.SameLattice.{leftsIn};
 ghost use Rattle.catalogue_standing.specs.ReducedEntries.{WasRead, HoldReduced};
 ghost use Rattle.catalogue_fold.specs.Folding.{foldedOf};
-use engine::Lattice;
+use lattice_membership::Lattice;
 use printing::printed;
 use printing::way_of;
 

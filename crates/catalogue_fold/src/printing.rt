@@ -14,7 +14,7 @@ ghost use Rattle.catalogue_fold.specs.Spread.{Full};
 ghost use Rattle.catalogue_fold.specs.Printing.{Led, printedAs};
 use catalogue_records::NUMBERS;
 use catalogue_standing::standing_places::place_of;
-use engine::Lattice;
+use lattice_membership::Lattice;
 
 // The first m coordinates of a vector, from place n on.
 fn put_row(out: &mut [i64], n: usize, v: row_operations::Vector, m: usize)

@@ -15,7 +15,7 @@ ghost use Rattle.catalogue_listing.specs.Counts.{oneIfOwn, ownPlaces};
 ghost use Rattle.catalogue_listing.specs.Entries.{vectorsOf, entryText};
 use super::lines;
 use catalogue_records::Catalogue;
-use engine::Lattice;
+use lattice_membership::Lattice;
 
 // The reduced vectors, a line each.
 fn put_vectors(out: &mut [u8], at: usize, l: Lattice) -> usize

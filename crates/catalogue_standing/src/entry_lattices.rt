@@ -7,7 +7,7 @@ ghost use Rattle.catalogue_standing.specs.SameLattice.{LatticeOf};
 ghost use Rattle.catalogue_standing.specs.ReducedEntries.{WasRead, HoldReduced};
 use catalogue_records::Catalogue;
 use catalogue_records::Entry;
-use engine::Lattice;
+use lattice_membership::Lattice;
 
 // Of an entry.
 pub fn lattice_of(e: Entry) -> Lattice
@@ -16,7 +16,7 @@ pub fn lattice_of(e: Entry) -> Lattice
 {
     let coordinates = e.coordinates;
     let n = e.d * e.m;
-    engine::lattice(&coordinates[..n], e.d, e.m)
+    reduced_lattices::lattice(&coordinates[..n], e.d, e.m)
 }
 
 // Of all entries of a catalogue that was read.

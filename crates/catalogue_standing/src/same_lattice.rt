@@ -6,8 +6,8 @@ ghost use mathlib.Core.Logic.{_≢_};
 ghost use Rattle.lattice_membership.specs.Known.{leftIn};
 ghost use Rattle.catalogue_standing.specs.ReducedEntry.{sameReduced};
 ghost use Rattle.catalogue_standing.specs.SameLattice.{FairLattice};
-use engine::Lattice;
-use engine::holds_lattice;
+use lattice_membership::Lattice;
+use lattice_membership::holds_lattice;
 
 // Whether the squared lengths agree.
 fn same_squares(p: [i64; 4], q: [i64; 4]) -> bool

@@ -19,8 +19,8 @@ ghost use Rattle.catalogue_standing.specs.ReducedEntries.{WasRead};
 use super::entry_lattices::lattice_of;
 use catalogue_records::Catalogue;
 use catalogue_records::Entry;
-use engine::Lattice;
-use engine::holds_lattice;
+use lattice_membership::Lattice;
+use lattice_membership::holds_lattice;
 
 // Whether a lattice holds the vectors of an entry as they were read.
 fn holds_entry(l: Lattice, e: Entry) -> bool
@@ -30,7 +30,7 @@ fn holds_entry(l: Lattice, e: Entry) -> bool
 {
     let coordinates = e.coordinates;
     let n = e.d * e.m;
-    engine::holds_numbers(l, &coordinates[..n], e.d, e.m)
+    lattice_membership::holds_numbers(l, &coordinates[..n], e.d, e.m)
 }
 
 // Whether f is of the lattice of e, which is given. Only where that holds all vectors of f is f reduced.

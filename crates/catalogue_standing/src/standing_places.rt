@@ -7,7 +7,7 @@ ghost use Rattle.catalogue_standing.specs.Places.{First, Closed};
 ghost use Rattle.catalogue_rules.specs.Catalogue.{mostEntries};
 use super::same_lattice::same;
 use catalogue_records::Catalogue;
-use engine::Lattice;
+use lattice_membership::Lattice;
 
 // The places of the standing entries of the first count entries: for each the first standing entry before it of the same lattice, else its own.
 // Both loops stand here, where the arrays are: lent arrays of structs are not covered, and by value each call would copy them.

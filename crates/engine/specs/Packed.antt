@@ -1,8 +1,6 @@
 -- The definitions' answers in the structs of the engine, field by field.
 use mathlib.Core.List.{map}
 use Rattle.lattices.specs.Answer as Definition
-use Rattle.lattices.specs.Refusal.{Input}
-use Rattle.lattice_membership.specs.Known.{Left}
 use Rattle.row_operations.specs.RowStructs.{vectorRow, tableRow}
 use Rattle.engine.specs.declared.Reduction.{Reduction}
 use Rattle.engine.specs.declared.NearestVector.{NearestVector}
@@ -19,10 +17,6 @@ packed a = record {
   squares = a .squares;
   passes = a .passes;
 }
-
--- of a lattice: what the reduction of an accepted input leaves
-abbrev pub packedLeft : Input → Left
-packedLeft i = let a = Definition.reductionOf i in record { d = i .d; m = i .m; vectors = map vectorRow (a .basis); squares = a .squares; passes = a .passes }
 
 -- of a nearest vector
 abbrev pub packedNearest : Definition.Nearest → NearestVector

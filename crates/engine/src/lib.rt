@@ -5,18 +5,13 @@ ghost use Prim.Native.Nat.{_≤_};
 ghost use lib.ListN.{length, take};
 ghost use Rattle.lattices.specs.Answer.{noReduction, reductionOf, noNearest, nearestOf};
 ghost use Rattle.successive_minima.specs.Laws.Digits.{Bounded};
-ghost use Rattle.gram_matrix.specs.Work.{tableIn};
 ghost use Rattle.nearest_of_three.specs.Formed.{GramOf};
 ghost use Rattle.nearest_of_four.specs.Near.{Near};
 ghost use Rattle.engine.specs.Packed.{packed, packedNearest};
-ghost use Rattle.engine.specs.Laws.Answer.{diagonalOf, finished};
+ghost use Rattle.engine.specs.Laws.Answer.{finished};
 ghost use Rattle.engine.specs.Laws.Named.{named, Answered};
 pub use members::MemberAnswer;
-pub use members::lattice;
 pub use members::membership;
-pub use lattice_membership::Lattice;
-pub use lattice_membership::holds_lattice;
-pub use lattice_membership::holds_numbers;
 
 pub mod members;
 
@@ -54,23 +49,8 @@ fn refused(n: u64) -> Reduction
     }
 }
 
-// The numbers on the diagonal.
-fn diagonal(rows: [TableRow; 4]) -> [i64; 4]
-    ensures { λ r. ⌜ r ≡ diagonalOf (tableIn rows) ⌝ }
-{
-    let a = rows[0];
-    let b = rows[1];
-    let c = rows[2];
-    let d = rows[3];
-    let p = a.at;
-    let q = b.at;
-    let r = c.at;
-    let s = d.at;
-    [p[0], q[1], r[2], s[3]]
-}
-
 // The answer from the finished work: the squared lengths are the diagonal of the Gram matrix.
-pub(crate) fn finished(w: Work) -> Reduction
+fn finished(w: Work) -> Reduction
     ensures { λ r. ⌜ r ≡ finished w ⌝ }
 {
     let vectors = w.vectors;
@@ -83,7 +63,7 @@ pub(crate) fn finished(w: Work) -> Reduction
         vectors,
         u,
         v,
-        squares: diagonal(gram),
+        squares: gram_matrix::diagonal(gram),
         passes: w.passes,
     }
 }

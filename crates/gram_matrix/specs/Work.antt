@@ -3,9 +3,11 @@ use mathlib.Core.Path.{_≡_, refl, sym, ap, _∙_}
 use mathlib.Core.List.{List, [], _∷_, map}
 use Prim.Native.Nat.{ℕ}
 use lib.IntN.{ℤ}
-use lib.ListN.{length, length-map}
+use lib.ListN.{length, getD, length-map}
+use Rattle.lattices.specs.Vector.{nth}
 use Rattle.row_operations.specs.declared.VectorRow.{VectorRow}
 use Rattle.row_operations.specs.declared.TableRow.{TableRow}
+use Rattle.row_operations.specs.Rows.{firstFour}
 use Rattle.row_operations.specs.RowStructs.{vectorRow, tableRow}
 use Rattle.gram_matrix.specs.declared.work.Work.{Work}
 use Rattle.gram_matrix.specs.Tied.{Held}
@@ -19,6 +21,10 @@ vectorsIn = map (λ r. r .at)
 
 abbrev pub tableIn : List TableRow → List (List ℤ)
 tableIn = map (λ r. r .at)
+
+-- the numbers on the diagonal
+abbrev pub diagonalOf : List (List ℤ) → List ℤ
+diagonalOf g = map (λ i. nth (getD g i []) i) firstFour
 
 pub vectors-back : (t : List (List ℤ)) → vectorsIn (map vectorRow t) ≡ t
 vectors-back [] = refl

@@ -19,6 +19,7 @@ ghost use Rattle.gram_matrix.specs.Tied.{Held, Kind, Tied, shorterIn};
 use row_operations::Basis;
 use row_operations::Vector;
 pub use work::Work;
+pub use work::diagonal;
 pub use work::packed;
 
 pub mod work;

@@ -1,7 +1,7 @@
 // The tables packed in row structs, which a struct can hold.
 ghost use mathlib.Core.Path.{_≡_};
 ghost use Rattle.gram_matrix.specs.Tied.{Held};
-ghost use Rattle.gram_matrix.specs.Work.{workOf};
+ghost use Rattle.gram_matrix.specs.Work.{workOf, tableIn, diagonalOf};
 use super::Table;
 use row_operations::Basis;
 use row_operations::TableRow;
@@ -35,4 +35,19 @@ pub fn packed(g: &Table, b: &Basis, u: &Table, v: &Table, passes: u64) -> Work
         w.v[i] = TableRow { at: v[i] };
     }
     w
+}
+
+// The numbers on the diagonal: of a Gram matrix the squared lengths.
+pub fn diagonal(rows: [TableRow; 4]) -> [i64; 4]
+    ensures { λ r. ⌜ r ≡ diagonalOf (tableIn rows) ⌝ }
+{
+    let a = rows[0];
+    let b = rows[1];
+    let c = rows[2];
+    let d = rows[3];
+    let p = a.at;
+    let q = b.at;
+    let r = c.at;
+    let s = d.at;
+    [p[0], q[1], r[2], s[3]]
 }

@@ -7,7 +7,7 @@ use Rattle.engine.proofs.finished.Statement.{statement}
 use Rattle.engine.proofs.finished.Tie as tie
 use Rattle.engine.proofs.finished.Reads as reads
 use Rattle.engine.proofs.finished.Lts as lts
-use Rattle.engine.proofs.diagonal.Reads as diagonal-reads
+use Rattle.gram_matrix.proofs.work.diagonal.Reads as diagonal-reads
 
 diagonal-requires : tie.Need-diagonal-requires
 diagonal-requires c κs = search needs

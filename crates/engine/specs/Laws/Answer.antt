@@ -23,7 +23,7 @@ use Rattle.greedy_reduction.specs.Accepted.{accepted}
 use Rattle.greedy_reduction.specs.Demand.{accepted-reduction}
 use Rattle.row_operations.specs.declared.VectorRow.{VectorRow}
 use Rattle.row_operations.specs.declared.TableRow.{TableRow}
-use Rattle.row_operations.specs.Rows.{transposed, Tables, rowsOf-tables, firstFour, map-four}
+use Rattle.row_operations.specs.Rows.{transposed, Tables, rowsOf-tables, map-four}
 use Rattle.row_operations.specs.RowStructs.{vectorRow, tableRow}
 use Rattle.gram_matrix.specs.declared.work.Work.{Work}
 use Rattle.gram_matrix.specs.Gram.{gramOf}
@@ -33,7 +33,7 @@ use Rattle.gram_matrix.specs.Passed.{tied-entry}
 use Rattle.gram_matrix.specs.Lose.{row-wide}
 use Rattle.nearest_of_three.specs.Formed.{GramOf}
 use Rattle.gram_matrix.specs.Work as Work
-use Rattle.gram_matrix.specs.Work.{vectorsIn, tableIn}
+use Rattle.gram_matrix.specs.Work.{vectorsIn, tableIn, diagonalOf}
 use Rattle.engine.specs.declared.Reduction.{Reduction}
 use Rattle.engine.specs.Packed.{packed}
 use Rattle.greedy_steps.specs.State.{blank, greedyRows, greedyPasses}
@@ -48,10 +48,6 @@ use Rattle.greedy_steps.specs.Repeat.{Reducible, Outcome}
 pub record Array (i : Input) (d : ℕ) (b : List (List ℤ)) : Type 0 where
   pub count : d ≡ i .d
   pub rows : b ≡ table mostVectors mostCoordinates (basis i)
-
--- the numbers on the diagonal
-abbrev pub diagonalOf : List (List ℤ) → List ℤ
-diagonalOf g = map (λ i. nth (getD g i []) i) firstFour
 
 -- a finished work in the struct of the answer
 unfoldable pub finished : Work → Reduction

@@ -6,7 +6,7 @@ use native.Mathlib.Omega.{arith}
 use lib.IntN.{ℤ}
 use lib.ListN.{length, take}
 use Rattle.lattices.specs.Refusal.{Input, firstOf, vectorChecks}
-use Rattle.engine.specs.Packed.{packedLeft}
+use Rattle.reduced_lattices.specs.Left.{leftOf}
 use Rattle.catalogue_rules.specs.Catalogue.{coordinates, mostNumbers}
 use Rattle.catalogue_rules.specs.Laws.EntriesAccepted.{numbers-back, is-basis}
 use Rattle.catalogue_records.specs.EntriesIn.{entryIn}
@@ -45,7 +45,7 @@ lattice-requires c κs =
 returns : tie.Need-returns
 returns c =
     let s = c .before .before .before .before in
-    record { known = c .lattice .ensures .0; left = c .lattice .ensures .1 ∙ ap (λ l. packedLeft (input s l)) (same s) }
+    record { known = c .lattice .ensures .0; left = c .lattice .ensures .1 ∙ ap (λ l. leftOf (input s l)) (same s) }
 
 pub lattice-of-spec : {M : Type 1} → statement M
 lattice-of-spec = tie.close (tie.spec mul-n array-share-prefix-coordinates slice-aggregate-lattice lattice-requires returns)

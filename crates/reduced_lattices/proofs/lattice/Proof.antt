@@ -8,11 +8,11 @@ use Rattle.greedy_reduction.specs.Accepted.{accepted}
 use Rattle.row_operations.specs.RowStructs.{vectorRow}
 use Rattle.lattice_membership.specs.Known.{ReducedBasis}
 use Rattle.lattice_membership.specs.Laws.Accepted.{accepted-basis}
 use Rattle.engine.specs.Packed.{packed}
-use Rattle.engine.specs.Laws.Answer.{Array, begins, outcome-of, begun-small, vectors-back, accepted-answer}
+use Rattle.engine.specs.Laws.Answer.{Array, finished, begins, outcome-of, begun-small, vectors-back, accepted-answer}
 use borrow.Author.Needs.{needs}
-use Rattle.engine.proofs.members.lattice.Statement.{statement}
-use Rattle.engine.proofs.members.lattice.Tie as tie
+use Rattle.reduced_lattices.proofs.lattice.Statement.{statement}
+use Rattle.reduced_lattices.proofs.lattice.Tie as tie
 
 abbrev input : tie.Start → Input
 input s = record { numbers = now (s .args .numbers); d = s .args .d; m = s .args .m; target = [] }
@@ -44,46 +44,48 @@ reduce-first-requires c κs =
     let e = b .before .pre in
     (accepted i e .most, begins i e (array-is b) (c .before .formed .ensures) (c .unit-table .ensures))
 
-finished-requires : tie.Need-finished-requires
-finished-requires c κs = search needs
-
--- the answer of the reduction
-answer : (c : tie.After-finished) → c .finished .result ≡ packed (reductionOf (input (begun (c .before .before) .before)))
-answer c =
-    let w = c .before in
-    let u = w .before in
-    let b = begun u in
-    let i = input (b .before) in
-    let e = b .before .pre in
-    c .finished .ensures ∙ accepted-answer i e (w .reduce-first .result) (outcome-of i e (array-is b) (u .before .formed .ensures) (u .unit-table .ensures) (w .reduce-first .ensures))
-
 vectors-of-requires : tie.Need-vectors-of-requires
 vectors-of-requires c κs = search needs
 
 -- where it began
 abbrev start : tie.After-vectors-of → tie.Start
-start c = begun (c .before .before .before .before .before) .before
+start c = begun (c .before .before .before .before) .before
+
+-- the answer of the reduction, in the engine's struct
+answer : (c : tie.After-vectors-of) → finished (c .before .before .before .reduce-first .result) ≡ packed (reductionOf (input (start c)))
+answer c =
+    let w = c .before .before .before in
+    let u = w .before in
+    let b = begun u in
+    let i = input (b .before) in
+    let e = b .before .pre in
+    accepted-answer i e (w .reduce-first .result) (outcome-of i e (array-is b) (u .before .formed .ensures) (u .unit-table .ensures) (w .reduce-first .ensures))
 
 vectors-are : (c : tie.After-vectors-of) → c .vectors-of .result ≡ reductionOf (input (start c)) .basis
-vectors-are c = c .vectors-of .ensures ∙ ap (λ r. map (λ row. row .at) (r .vectors)) (answer (c .before .before .before)) ∙ vectors-back _
+unfolding finished
+vectors-are c = c .vectors-of .ensures ∙ ap (λ r. map (λ row. row .at) (r .vectors)) (answer c) ∙ vectors-back _
+
+diagonal-requires : tie.Need-diagonal-requires
+diagonal-requires c κs = search needs
 
 lattice-of-requires : tie.Need-lattice-of-requires
 lattice-of-requires c κs =
-    let s = start c in
-    subst (ReducedBasis (s .args .d)) (sym (vectors-are c)) (accepted-basis (input s) (s .pre))
+    let s = start (c .before) in
+    subst (ReducedBasis (s .args .d)) (sym (vectors-are (c .before))) (accepted-basis (input s) (s .pre))
 
 returns : tie.Need-returns
+unfolding finished
 returns c =
-    let v = c .before in
-    let s = start v in
-    let a = answer (v .before .before .before) in (
+    let q = c .before in
+    let v = q .before in
+    let s = start v in (
       c .lattice-of .ensures .0,
       c .lattice-of .ensures .1 ∙ (λ k. record {
         d = s .args .d;
         m = s .args .m;
         vectors = map vectorRow (vectors-are v k);
-        squares = a k .squares;
-        passes = a k .passes;
+        squares = (q .diagonal .ensures ∙ ap (λ r. r .squares) (answer v)) k;
+        passes = answer v k .passes;
       }),
     )
 
@@ -95,7 +97,7 @@ lattice-spec =
     formed-requires
     unit-table-requires
     reduce-first-requires
-    finished-requires
     vectors-of-requires
+    diagonal-requires
     lattice-of-requires
     returns)

@@ -10,12 +10,12 @@ use mir.Facts.{toZ-ofZ}
 use Rattle.lattices.specs.Vector.{nth}
 use Rattle.row_operations.specs.declared.TableRow.{TableRow}
 use Rattle.row_operations.specs.RowStructs.{tableRow}
 use Rattle.gram_matrix.specs.Work.{tableIn}
 use borrow.Author.Needs.{needs}
-use Rattle.engine.proofs.diagonal.Statement.{statement}
-use Rattle.engine.proofs.diagonal.Tie as tie
-use Rattle.engine.proofs.diagonal.Reads as reads
-use Rattle.engine.proofs.diagonal.Lts as lts
+use Rattle.gram_matrix.proofs.work.diagonal.Statement.{statement}
+use Rattle.gram_matrix.proofs.work.diagonal.Tie as tie
+use Rattle.gram_matrix.proofs.work.diagonal.Reads as reads
+use Rattle.gram_matrix.proofs.work.diagonal.Lts as lts
 
 entry : (rows : List TableRow) (i : ℕ) → SFits w64 (nth (getD rows i (tableRow []) .at) i) → toZ w64 (ofZ w64 (nth (getD rows i (tableRow []) .at) i)) ≡ nth (getD (tableIn rows) i []) i
 entry rows i f = toZ-ofZ {w = w64} f ∙ ap (λ r. nth r i) (sym (List·getD-map (λ (r : TableRow). r .at) rows i (tableRow [])))
