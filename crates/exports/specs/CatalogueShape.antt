@@ -21,8 +21,8 @@ use Rattle.fold_rules.specs.Fold.{closedList, lookup}
 use Rattle.fold_rules.specs.Services.{Lookup, foldedOutcome, foldOf, lookedUp, lookedIn, lookupOf, listingText, listOf}
 use Rattle.fold_rules.specs.Laws.FoldedForm.{folded-size}
 use Rattle.fold_rules.specs.Laws.ListingSize.{listing-size}
-use Rattle.exports.specs.Layout.{written, beside, head}
-use Rattle.exports.specs.Runs.{written-long}
+use Rattle.lent_numbers.specs.Layout.{written, beside, head}
+use Rattle.lent_numbers.specs.Runs.{written-long}
 use Rattle.exports.specs.Places.{OutcomeLow, read-low}
 
 -- ---- writing

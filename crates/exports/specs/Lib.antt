@@ -1,6 +1,4 @@
--- The answers as runs of numbers, and what a lent run of numbers holds after they are written there.
-pub mod Layout
-pub mod Runs
+-- Of what size the answers are, so that they can be written as numbers.
 pub mod Shape
 pub mod NearestShape
 pub mod Places

@@ -14,8 +14,8 @@ use Rattle.lattices.specs.Greedy.{vectors, reduction}
 use Rattle.lattices.specs.Refusal.{Input, basis, firstOf, vectorChecks, targetChecks, mostVectors, mostCoordinates}
 use Rattle.lattices.specs.Answer.{Nearest, noNearest, nearestGiven, nearestOf, Membership, membershipOf}
 use Rattle.lattices.specs.Laws.Answer.{length-padded}
-use Rattle.exports.specs.Layout.{nearestCount, head, layoutNearest, written}
-use Rattle.exports.specs.Runs.{sets-then, written-long}
+use Rattle.lent_numbers.specs.Layout.{nearestCount, head, layoutNearest, written}
+use Rattle.lent_numbers.specs.Runs.{sets-then, written-long}
 use Rattle.exports.specs.Shape.{first-most}
 
 checks-most : (i : Input) → firstOf (vectorChecks ++ targetChecks) i ≤ 7

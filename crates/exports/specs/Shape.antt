@@ -17,8 +17,8 @@ use Rattle.greedy_reduction.specs.Accepted.{accepted}
 use Rattle.engine.specs.Laws.Begin.{first-fine}
 use Rattle.engine.specs.Laws.Few.{few-passes}
 use Rattle.engine.specs.Laws.Finish.{last-passes}
-use Rattle.exports.specs.Layout.{reductionCount, flat, head, layout, written}
-use Rattle.exports.specs.Runs.{sets-then, written-long}
+use Rattle.lent_numbers.specs.Layout.{reductionCount, flat, head, layout, written}
+use Rattle.lent_numbers.specs.Runs.{sets-then, written-long}
 
 length-table : (h w : ℕ) (rows : List (List ℤ)) → length (flat (table h w rows)) ≡ h * w
 length-table zero w rows = omega arith

@@ -9,8 +9,8 @@ use denote.Ref.{now}
 use borrow.Author.Tests.{le-leb, lt-leb}
 use Rattle.catalogue_rules.specs.Output.{Output}
 use Rattle.fold_rules.specs.Services.{listOf}
-use Rattle.exports.specs.Layout.{head, layoutOutput}
-use Rattle.exports.specs.Runs.{written-short}
+use Rattle.lent_numbers.specs.Layout.{head, layoutOutput}
+use Rattle.lent_numbers.specs.Runs.{written-short}
 use Rattle.exports.specs.CatalogueShape.{list-few, head-stored, beside-short, beside-long}
 use borrow.Author.Needs.{needs}
 use Rattle.exports.proofs.raghymtos_list.Statement.{statement}

@@ -8,8 +8,8 @@ use lib.Seq.{sets}
 use denote.Ref.{now}
 use borrow.Author.Tests.{le-leb, lt-leb}
 use Rattle.fold_rules.specs.Services.{Lookup, lookupOf}
-use Rattle.exports.specs.Layout.{head, layoutLookup}
-use Rattle.exports.specs.Runs.{written-short}
+use Rattle.lent_numbers.specs.Layout.{head, layoutLookup}
+use Rattle.lent_numbers.specs.Runs.{written-short}
 use Rattle.exports.specs.CatalogueShape.{lookup-few, head-stored}
 use borrow.Author.Needs.{needs}
 use Rattle.exports.proofs.raghymtos_lookup.Statement.{statement}

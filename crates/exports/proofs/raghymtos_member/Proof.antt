@@ -10,8 +10,8 @@ use denote.Ref.{now}
 use borrow.Author.Tests.{le-leb, lt-leb}
 use Rattle.lattices.specs.Refusal.{Input}
 use Rattle.lattices.specs.Answer.{Membership, membershipOf}
-use Rattle.exports.specs.Layout.{head, flag, layoutMembership}
-use Rattle.exports.specs.Runs.{written-short}
+use Rattle.lent_numbers.specs.Layout.{head, flag, layoutMembership}
+use Rattle.lent_numbers.specs.Runs.{written-short}
 use Rattle.exports.specs.NearestShape.{member-few}
 use Rattle.exports.specs.CatalogueShape.{head-stored}
 use borrow.Author.Needs.{needs}

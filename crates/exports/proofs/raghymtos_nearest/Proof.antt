@@ -12,8 +12,8 @@ use Rattle.lattices.specs.Refusal.{Input}
 use Rattle.lattices.specs.Answer.{nearestOf}
 use Rattle.engine.specs.declared.NearestVector.{NearestVector}
 use Rattle.engine.specs.Packed.{packedNearest}
-use Rattle.exports.specs.Layout.{nearestCount, head, layoutNearest}
-use Rattle.exports.specs.Runs.{written-short}
+use Rattle.lent_numbers.specs.Layout.{nearestCount, head, layoutNearest}
+use Rattle.lent_numbers.specs.Runs.{written-short}
 use Rattle.exports.specs.NearestShape.{nearest-shape, nearest-stored}
 use borrow.Author.Needs.{needs}
 use Rattle.exports.proofs.raghymtos_nearest.Statement.{statement}

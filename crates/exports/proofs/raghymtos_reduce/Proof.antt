@@ -13,8 +13,8 @@ use borrow.Author.Tests.{le-leb, lt-leb}
 use Rattle.lattices.specs.Refusal.{Input, mostVectors, mostCoordinates}
 use Rattle.lattices.specs.Answer.{reductionOf}
 use Rattle.row_operations.specs.RowStructs.{vectorRow, tableRow}
-use Rattle.exports.specs.Layout.{reductionCount, flat, head, layout}
-use Rattle.exports.specs.Runs.{written-short}
+use Rattle.lent_numbers.specs.Layout.{reductionCount, flat, head, layout}
+use Rattle.lent_numbers.specs.Runs.{written-short}
 use Rattle.exports.specs.Shape.{shape, unpacked, answer-stored}
 use borrow.Author.Needs.{needs}
 use Rattle.exports.proofs.raghymtos_reduce.Statement.{statement}

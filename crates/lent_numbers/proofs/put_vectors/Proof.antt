@@ -3,9 +3,9 @@ use borrow.Author.Needs.{needs}
 use native.Mathlib.Omega.{arith}
 use denote.Ref.{now}
 use Rattle.lattices.specs.Refusal.{mostCoordinates}
-use Rattle.exports.specs.Runs.{rows-stored}
-use Rattle.exports.proofs.put_vectors.Statement.{statement}
-use Rattle.exports.proofs.put_vectors.Tie as tie
+use Rattle.lent_numbers.specs.Runs.{rows-stored}
+use Rattle.lent_numbers.proofs.put_vectors.Statement.{statement}
+use Rattle.lent_numbers.proofs.put_vectors.Tie as tie
 
 array-copy-out-put-vector : tie.Need-array-copy-out-put-vector
 array-copy-out-put-vector c = search needs

@@ -8,8 +8,8 @@ use mir.Facts.{toZ-pos, toZ-ofZ}
 use mir.Val.{toZ, ofZ}
 use denote.Ref.{now}
 use borrow.Author.Needs.{needs}
-use Rattle.exports.proofs.put_head.Statement.{statement}
-use Rattle.exports.proofs.put_head.Tie as tie
+use Rattle.lent_numbers.proofs.put_head.Statement.{statement}
+use Rattle.lent_numbers.proofs.put_head.Tie as tie
 
 cast-out : tie.Need-cast-out
 cast-out c = search needs

@@ -8,9 +8,9 @@ use lib.ListN.{length, getD, set, take}
 use lib.Seq.{sets, length-sets, take-all}
 use mir.Syntax.{w64}
 use mir.Facts.{toZ-ofZ}
-use Rattle.exports.specs.Runs.{sets-more}
-use Rattle.exports.proofs.put_run.Statement.{statement}
-use Rattle.exports.proofs.put_run.Tie as tie
+use Rattle.lent_numbers.specs.Runs.{sets-more}
+use Rattle.lent_numbers.proofs.put_run.Statement.{statement}
+use Rattle.lent_numbers.proofs.put_run.Tie as tie
 
 abbrev Inv-loop : tie.InvT-loop
 Inv-loop out₀ at run i₀ i-end out i = (i ≤ i-end) × (out ≡ sets out₀ at (take i run))

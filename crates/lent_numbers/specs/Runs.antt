@@ -11,7 +11,7 @@ use borrow.Author.Tests.{le-leb, lt-leb}
 use lib.Seq.{sets, sets-eq, take-suc, length-take-le}
 use Rattle.integers.specs.Runs.{sets-append}
 use Rattle.row_operations.specs.Rows.{four}
-use Rattle.exports.specs.Layout.{flat, written}
+use Rattle.lent_numbers.specs.Layout.{flat, written}
 
 -- the second run begins where the first ends
 pub sets-then : (l : List ℤ) (i j : ℕ) (vs rest : List ℤ) {x : List ℤ} → x ≡ sets l i vs → j ≡ i + length vs → sets x j rest ≡ sets l i (vs ++ rest)

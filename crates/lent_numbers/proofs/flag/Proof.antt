@@ -1,8 +1,8 @@
 -- Each way through the test gives its number.
 use mathlib.Core.Path.{sym, ap}
-use Rattle.exports.specs.Layout.{flag}
-use Rattle.exports.proofs.flag.Statement.{statement}
-use Rattle.exports.proofs.flag.Tie as tie
+use Rattle.lent_numbers.specs.Layout.{flag}
+use Rattle.lent_numbers.proofs.flag.Statement.{statement}
+use Rattle.lent_numbers.proofs.flag.Tie as tie
 
 returns : tie.Need-returns
 returns c = sym (ap flag (c .if1 .taken))

@@ -3,9 +3,9 @@ use borrow.Author.Needs.{needs}
 use native.Mathlib.Omega.{arith}
 use denote.Ref.{now}
 use Rattle.lattices.specs.Refusal.{mostVectors}
-use Rattle.exports.specs.Runs.{rows-stored}
-use Rattle.exports.proofs.put_table.Statement.{statement}
-use Rattle.exports.proofs.put_table.Tie as tie
+use Rattle.lent_numbers.specs.Runs.{rows-stored}
+use Rattle.lent_numbers.proofs.put_table.Statement.{statement}
+use Rattle.lent_numbers.proofs.put_table.Tie as tie
 
 array-copy-out-put-row : tie.Need-array-copy-out-put-row
 array-copy-out-put-row c = search needs

@@ -6,9 +6,9 @@ use mir.Syntax.{w64}
 use mir.Facts.{toZ-pos}
 use denote.Ref.{now}
 use borrow.Author.Needs.{needs}
-use Rattle.exports.specs.Layout.{head}
-use Rattle.exports.proofs.put_counts.Statement.{statement}
-use Rattle.exports.proofs.put_counts.Tie as tie
+use Rattle.lent_numbers.specs.Layout.{head}
+use Rattle.lent_numbers.proofs.put_counts.Statement.{statement}
+use Rattle.lent_numbers.proofs.put_counts.Tie as tie
 
 cast-put-head : tie.Need-cast-put-head
 cast-put-head c = search needs
