@@ -34,14 +34,7 @@ fn put_vectors(out: &mut [u8], at: usize, l: Lattice) -> usize
 }
 
 // An entry's line, and its vectors if it stands.
-fn put_entry(
-    out: &mut [u8],
-    at: usize,
-    number: u32,
-    standing: u32,
-    lead: u32,
-    l: Lattice,
-) -> usize
+fn put_entry(out: &mut [u8], at: usize, number: u32, standing: u32, lead: u32, l: Lattice) -> usize
     requires { ⌜ Full (leftIn l) ⌝ }
     requires { ⌜ at + length (entryText number standing lead (l .passes) (vectorsOf (leftIn l))) ≤ length (now out) ⌝ }
     ensures { λ r. ⌜ Puts (entryText number standing lead (l .passes) (vectorsOf (leftIn l))) (now (out .entry)) at (now (out .exit)) r ⌝ }

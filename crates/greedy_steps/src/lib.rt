@@ -26,7 +26,14 @@ fn pass(g: &mut Table, b: &mut Basis, u: &mut Table, v: &mut Table, k: usize)
 }
 
 // Steps 1 to 6 for the first n rows, on one vector fewer at each call of itself. `before` counts the passes made so far.
-pub fn reduce_first(gram: Table, vectors: Basis, us: Table, vs: Table, n: usize, before: u64) -> Work
+pub fn reduce_first(
+    gram: Table,
+    vectors: Basis,
+    us: Table,
+    vs: Table,
+    n: usize,
+    before: u64,
+) -> Work
     requires { ⌜ n ≤ 4 ⌝ }
     requires { ⌜ Reducible n before gram vectors us vs ⌝ }
     ensures { λ r. ⌜ ((p : Reducible n before gram vectors us vs) → Outcome (p .kind) n before (p .rows) r) ⌝ }
