@@ -13,9 +13,15 @@ use Rattle.catalogue_rules.specs.Read.{isNumbered, dependentAt, lostAt}
 use Rattle.catalogue_records.specs.declared.Entry.{Entry}
 use Rattle.catalogue_records.specs.declared.Catalogue.{Catalogue}
 use Rattle.integers.specs.FilledLaws.{any-map}
+use Rattle.catalogue_reader.specs.declared.Fault.{Fault}
 use Rattle.catalogue_reader.specs.Readings.{isNumber}
 use Rattle.catalogue_records.specs.EntriesIn.{seeIn, entryIn, entriesIn}
 use Rattle.catalogue_records.specs.Entries.{placeIf, Says}
+
+-- what a row finds, as the code holds it
+abbrev pub faultOf : Option ℕ → Fault
+faultOf none = record { found = false; at = 0 }
+faultOf (some p) = record { found = true; at = p }
 
 pub dependent-at : (e : Entry) {t : Bool} → t ≡ isDependent (e .m) (entryIn e .vectors) → Says dependentAt (entryIn e) t (e .place)
 dependent-at e h = record { place = ap (λ t. placeIf t (e .place)) h ∙ go (isDependent (e .m) (entryIn e .vectors)) }

@@ -1,7 +1,7 @@
 -- A whole file: what the code finds row by row is what the definition reads.
 use mathlib.Core.Path.{_≡_, refl, sym, ap, ap₂, _∙_, subst}
 use mathlib.Core.Logic.{_≢_}
-use mathlib.Core.Bool.{Bool, not}
+use mathlib.Core.Bool.{Bool, true, false, not, true≢false}
 use mathlib.Core.List.{List, [], _∷_}
 use mathlib.Core.Option.{Option, none, some}
 use Prim.Native.Nat.{ℕ, _%_, _≤_, _<_}
@@ -20,6 +20,8 @@ use Rattle.catalogue_records.specs.declared.Catalogue.{Catalogue}
 use Rattle.catalogue_records.specs.Catalogues.{noCatalogue, catalogueOf, unless}
 use Rattle.catalogue_records.specs.EntriesIn.{entriesIn}
 use Rattle.catalogue_records.specs.Entries.{entries-back}
+use Rattle.catalogue_reader.specs.declared.Fault.{Fault}
+use Rattle.catalogue_reader.specs.Ended.{faultOf}
 
 -- the words' outcome
 abbrev pub words : List ℕ → Outcome
@@ -67,21 +69,33 @@ module _ (o : Outcome) (k : WhenAccepted Entered o) {c : Catalogue} (is : c ≡ 
   pub after-words : c .refusal ≡ 0 → ended c ≡ catalogueOf (afterWords o)
   after-words e = ap ended is ∙ sym (ends o k (sym (ap (λ c. c .refusal) is) ∙ e))
 
--- 5, and 12 when there is no 5
-module _ (c : Catalogue) (e : c .refusal ≡ 0) {d : Catalogue} (is : d ≡ unless 5 (firstPlace dependentAt (entriesIn c)) c) where
-  pub ended-5 : d .refusal ≢ 0 → d ≡ ended c
-  ended-5 h = go (firstPlace dependentAt (entriesIn c)) is
-    where
-      go : (a : Option ℕ) → d ≡ unless 5 a c → d ≡ unless 5 a (unless 12 (firstPlace (lostAt (entriesIn c)) (entriesIn c)) c)
-      go (some p) is = is
-      go none is = absurd (h (ap (λ c. c .refusal) is ∙ e))
+-- 5, and 12 when there is no 5, and what was read when there is neither
+module _ (c : Catalogue) {f g : Fault} (first : f ≡ faultOf (firstPlace dependentAt (entriesIn c))) (second : g ≡ faultOf (firstPlace (lostAt (entriesIn c)) (entriesIn c))) where
+  abbrev by : Option ℕ → Option ℕ → Catalogue
+  by a b = unless 5 a (unless 12 b c)
 
-  pub ended-12 : {r : Catalogue} → d .refusal ≡ 0 → r ≡ unless 12 (firstPlace (lostAt (entriesIn c)) (entriesIn c)) c → r ≡ ended c
-  ended-12 {r} h last = go (firstPlace dependentAt (entriesIn c)) is
-    where
-      go : (a : Option ℕ) → d ≡ unless 5 a c → r ≡ unless 5 a (unless 12 (firstPlace (lostAt (entriesIn c)) (entriesIn c)) c)
-      go (some p) is = absurd (let z : 5 ≡ 0 = sym (ap (λ c. c .refusal) is) ∙ h in omega arith)
-      go none is = last
+  dependent-first : (a b : Option ℕ) → f ≡ faultOf a → f .found ≡ true → noCatalogue 5 (f .at) ≡ by a b
+  dependent-first none b e h = absurd (true≢false (sym h ∙ ap (λ f. f .found) e))
+  dependent-first (some p) b e h = ap (λ f. noCatalogue 5 (f .at)) e
+
+  lost-then : (a b : Option ℕ) → f ≡ faultOf a → g ≡ faultOf b → f .found ≡ false → g .found ≡ true → noCatalogue 12 (g .at) ≡ by a b
+  lost-then (some p) b e d h k = absurd (true≢false (sym (ap (λ f. f .found) e) ∙ h))
+  lost-then none none e d h k = absurd (true≢false (sym k ∙ ap (λ g. g .found) d))
+  lost-then none (some p) e d h k = ap (λ g. noCatalogue 12 (g .at)) d
+
+  neither-left : (a b : Option ℕ) → f ≡ faultOf a → g ≡ faultOf b → f .found ≡ false → g .found ≡ false → c ≡ by a b
+  neither-left (some p) b e d h k = absurd (true≢false (sym (ap (λ f. f .found) e) ∙ h))
+  neither-left none (some p) e d h k = absurd (true≢false (sym (ap (λ g. g .found) d) ∙ k))
+  neither-left none none e d h k = refl
+
+  pub ended-5 : f .found ≡ true → noCatalogue 5 (f .at) ≡ ended c
+  ended-5 h = dependent-first (firstPlace dependentAt (entriesIn c)) (firstPlace (lostAt (entriesIn c)) (entriesIn c)) first h
+
+  pub ended-12 : f .found ≡ false → g .found ≡ true → noCatalogue 12 (g .at) ≡ ended c
+  ended-12 h k = lost-then (firstPlace dependentAt (entriesIn c)) (firstPlace (lostAt (entriesIn c)) (entriesIn c)) first second h k
+
+  pub ended-well : f .found ≡ false → g .found ≡ false → c ≡ ended c
+  ended-well h k = neither-left (firstPlace dependentAt (entriesIn c)) (firstPlace (lostAt (entriesIn c)) (entriesIn c)) first second h k
 
 -- ---- the row "whole file", then the words
 

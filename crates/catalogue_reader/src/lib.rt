@@ -2,6 +2,7 @@
 ghost use mathlib.Core.Path.{_≡_};
 ghost use mathlib.Core.List.{[]};
 ghost use mathlib.Core.Bool.{_&&_, not};
+ghost use mathlib.Core.Option.{none};
 ghost use Prim.Native.Nat.{_≤_};
 ghost use lib.ListN.{length, take};
 ghost use Rattle.integers.specs.All.{All};
@@ -9,10 +10,11 @@ ghost use Rattle.lattices.specs.Volume.{isDependent};
 ghost use Rattle.integers.specs.Every.{any};
 ghost use Rattle.catalogue_rules.specs.Word.{wordsOf};
 ghost use Rattle.catalogue_rules.specs.Read.{read, outside, readWords, firstPlace, dependentAt, lostAt};
-ghost use Rattle.catalogue_records.specs.Catalogues.{catalogueOf, unless};
+ghost use Rattle.catalogue_records.specs.Catalogues.{catalogueOf};
 ghost use Rattle.catalogue_reader.specs.Readings.{isClosed, isNumber};
 ghost use Rattle.catalogue_reader.specs.Words.{wordIn};
 ghost use Rattle.catalogue_reader.specs.Store.{noted, Space};
+ghost use Rattle.catalogue_reader.specs.Ended.{faultOf};
 ghost use Rattle.catalogue_reader.specs.Cells.{Place, placed};
 ghost use Rattle.catalogue_rules.specs.Form.{EntryFits};
 ghost use Rattle.catalogue_records.specs.EntriesIn.{entryIn, entriesIn};
@@ -130,19 +132,38 @@ fn dependent(e: Entry) -> bool
     input_checks::dependent(&b, e.d)
 }
 
-// Row "after reading", 5: at the head of the first dependent entry.
-fn independent(c: Catalogue) -> Catalogue
+// What a row "after reading" finds: whether there is a fault, and the place of the first.
+struct Fault {
+    pub found: bool,
+    pub at: usize,
+}
+
+// No fault.
+fn faultless() -> Fault
+    ensures { λ r. ⌜ r ≡ faultOf none ⌝ }
+{
+    Fault {
+        found: false,
+        at: 0,
+    }
+}
+
+// Row "after reading", 5: the head of the first dependent entry.
+fn first_dependent(c: Catalogue) -> Fault
     requires { ⌜ c .count ≤ mostEntries ⌝ }
     requires { ⌜ All EntryFits (entriesIn c) ⌝ }
-    ensures { λ r. ⌜ r ≡ unless 5 (firstPlace dependentAt (entriesIn c)) c ⌝ }
+    ensures { λ r. ⌜ r ≡ faultOf (firstPlace dependentAt (entriesIn c)) ⌝ }
 {
     for k in 0..c.count {
         let e = c.entries[k];
         if dependent(e) {
-            return Catalogue::refused(5, e.place);
+            return Fault {
+                found: true,
+                at: e.place,
+            };
         }
     }
-    c
+    faultless()
 }
 
 // Whether an entry has a see word that names none of the first count numbers.
@@ -153,19 +174,22 @@ fn lost(e: Entry, numbers: &[u32], count: usize) -> bool
     e.sees && !numbered(numbers, count, e.see)
 }
 
-// Row "after reading", 12: at the first see word that names no entry.
-fn found(c: Catalogue) -> Catalogue
+// Row "after reading", 12: the first see word that names no entry.
+fn first_lost(c: Catalogue) -> Fault
     requires { ⌜ c .count ≤ mostEntries ⌝ }
-    ensures { λ r. ⌜ r ≡ unless 12 (firstPlace (lostAt (entriesIn c)) (entriesIn c)) c ⌝ }
+    ensures { λ r. ⌜ r ≡ faultOf (firstPlace (lostAt (entriesIn c)) (entriesIn c)) ⌝ }
 {
     let numbers = catalogue_records::numbers(c);
     for k in 0..c.count {
         let e = c.entries[k];
         if lost(e, &numbers, c.count) {
-            return Catalogue::refused(12, e.at);
+            return Fault {
+                found: true,
+                at: e.at,
+            };
         }
     }
-    c
+    faultless()
 }
 
 // Reads a catalogue.
@@ -182,10 +206,13 @@ pub fn read(bytes: &[u8]) -> Catalogue
     if c.refusal != 0 {
         return c;
     }
-    let bases = independent(c);
-    let links = found(c);
-    if bases.refusal != 0 {
-        return bases;
+    let bases = first_dependent(c);
+    let links = first_lost(c);
+    if bases.found {
+        return Catalogue::refused(5, bases.at);
     }
-    links
+    if links.found {
+        return Catalogue::refused(12, links.at);
+    }
+    c
 }

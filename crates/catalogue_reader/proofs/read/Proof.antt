@@ -6,7 +6,7 @@ use Rattle.catalogue_rules.specs.Word.{wordsOf}
 use Rattle.catalogue_rules.specs.Laws.WellFormed.{words-entered}
 use Rattle.catalogue_rules.specs.Read.{afterWords, read}
 use Rattle.catalogue_records.specs.Catalogues.{catalogueOf}
-use Rattle.catalogue_reader.specs.Whole.{words, ended, few-entries, entries-fit, stays-refused, after-words, ended-5, ended-12, refused-8, refused-9, by-words}
+use Rattle.catalogue_reader.specs.Whole.{words, ended, few-entries, entries-fit, stays-refused, after-words, ended-5, ended-12, ended-well, refused-8, refused-9, by-words}
 use Rattle.catalogue_rules.specs.Catalogue.{mostEntries}
 use borrow.Author.Needs.{needs}
 use Rattle.catalogue_reader.proofs.read.Statement.{statement}
@@ -48,24 +48,41 @@ returns-3 c =
     let w = c .before .before in
     stays-refused (words (bytes w)) (words-entered (wordsOf (bytes w))) (w .read-words .ensures) (c .if3 .taken) ∙ to-file w
 
-independent-requires : tie.Need-independent-requires
-independent-requires c κs =
+first-dependent-requires : tie.Need-first-dependent-requires
+first-dependent-requires c κs =
     let w = c .before .before in
     (few w, entries-fit (words (bytes w)) (words-entered (wordsOf (bytes w))) (w .read-words .ensures))
 
-found-requires : tie.Need-found-requires
-found-requires c κs = few (c .before .before .before)
+first-lost-requires : tie.Need-first-lost-requires
+first-lost-requires c κs = few (c .before .before .before)
+
+refused-requires-3 : tie.Need-refused-requires-3
+refused-requires-3 c κs = search needs
 
 returns-4 : tie.Need-returns-4
 returns-4 c =
-    let i = c .before .before .before in
-    ended-5 (i .before .before .before .read-words .result) (i .before .if3 .left) (i .independent .ensures) (c .if4 .taken) ∙ closes (i .before)
+    let t = c .before in
+    let l = t .before in
+    let d = l .before in
+    c .refused3 .ensures ∙ ended-5 (d .before .before .before .read-words .result) (d .first-dependent .ensures) (l .first-lost .ensures) (t .if4 .taken) ∙ closes (d .before)
+
+refused-requires-4 : tie.Need-refused-requires-4
+refused-requires-4 c κs = search needs
 
 returns-5 : tie.Need-returns-5
 returns-5 c =
-    let f = c .before .before in
-    let i = f .before in
-    ended-12 (i .before .before .before .read-words .result) (i .before .if3 .left) (i .independent .ensures) (c .if4 .left) (f .found .ensures) ∙ closes (i .before)
+    let t = c .before in
+    let q = t .before in
+    let l = q .before in
+    let d = l .before in
+    c .refused4 .ensures ∙ ended-12 (d .before .before .before .read-words .result) (d .first-dependent .ensures) (l .first-lost .ensures) (q .if4 .left) (t .if5 .taken) ∙ closes (d .before)
+
+returns-6 : tie.Need-returns-6
+returns-6 c =
+    let q = c .before in
+    let l = q .before in
+    let d = l .before in
+    ended-well (d .before .before .before .read-words .result) (d .first-dependent .ensures) (l .first-lost .ensures) (q .if4 .left) (c .if5 .left) ∙ closes (d .before)
 
 pub read-spec : {M : Type 1} → statement M
 read-spec =
@@ -77,7 +94,10 @@ read-spec =
     returns-2
     read-words-requires
     returns-3
-    independent-requires
-    found-requires
+    first-dependent-requires
+    first-lost-requires
+    refused-requires-3
     returns-4
-    returns-5)
+    refused-requires-4
+    returns-5
+    returns-6)

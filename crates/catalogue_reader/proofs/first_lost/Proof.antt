@@ -7,14 +7,13 @@ use lib.ListN.{length, take, drop, length-map}
 use Rattle.integers.specs.Every.{any}
 use Rattle.catalogue_rules.specs.Read.{firstPlace, lostAt}
 use Rattle.catalogue_reader.specs.Readings.{isNumber}
-use Rattle.catalogue_records.specs.Catalogues.{unless}
 use Rattle.catalogue_records.specs.EntriesIn.{entryIn, entriesIn}
 use Rattle.catalogue_records.specs.Entries.{all-stored, entryAt, Says, first-here, first-later, first-end}
-use Rattle.catalogue_reader.specs.Ended.{lost-at}
+use Rattle.catalogue_reader.specs.Ended.{faultOf, lost-at}
 use Rattle.catalogue_rules.specs.Catalogue.{mostEntries}
 use borrow.Author.Needs.{needs}
-use Rattle.catalogue_reader.proofs.found.Statement.{statement}
-use Rattle.catalogue_reader.proofs.found.Tie as tie
+use Rattle.catalogue_reader.proofs.first_lost.Statement.{statement}
+use Rattle.catalogue_reader.proofs.first_lost.Tie as tie
 
 abbrev Inv-loop : tie.InvT-loop
 Inv-loop c numbers k₀ k-end k = firstPlace (lostAt (entriesIn c)) (entriesIn c) ≡ firstPlace (lostAt (entriesIn c)) (drop k (entriesIn c))
@@ -48,9 +47,6 @@ lost-requires c κs =
     let n = c .before .before .before .before in
     omega (arith, many n, n .before .pre)
 
-refused-requires : tie.Need-refused-requires Inv-loop μ-loop
-refused-requires c κs = search needs
-
 says : (c : tie.After-lost Inv-loop μ-loop)
     → let l = c .before .before .before .before in let k = l .before .before .args .t1 in let e = entryAt k (l .loop .k) in Says (lostAt (entriesIn k)) (entryIn e) (c .lost .result) (e .at)
 says c =
@@ -61,11 +57,10 @@ says c =
 
 returns : tie.Need-returns Inv-loop μ-loop
 returns c =
-    let d = c .before .before in
+    let d = c .before in
     let l = d .before .before .before .before in
     let s = l .before .before in
-    c .refused .ensures
-    ∙ sym (ap (λ o. unless 12 o (s .args .t1)) (l .loop .inv ∙ first-here (s .args .t1) (long s) (s .pre) (l .loop .k) (search needs) (says d) (c .before .if1 .taken)))
+    sym (ap faultOf (l .loop .inv ∙ first-here (s .args .t1) (long s) (s .pre) (l .loop .k) (search needs) (says d) (c .if1 .taken)))
 
 add-k : tie.Need-add-k Inv-loop μ-loop
 add-k c = search needs
@@ -80,13 +75,17 @@ loop-again c =
     let s = l .before .before in
     l .loop .inv ∙ first-later (s .args .t1) (long s) (s .pre) (l .loop .k) (search needs) (says d) (c .if1 .left)
 
+faultless-requires : tie.Need-faultless-requires Inv-loop μ-loop
+faultless-requires c κs = search needs
+
 returns-2 : tie.Need-returns-2 Inv-loop μ-loop
 returns-2 c =
-    let s = c .before .before .before in
-    sym (ap (λ o. unless 12 o (s .args .t1)) (c .before .loop .inv ∙ first-end (s .args .t1) (long s) (s .pre) (lostAt (entriesIn (s .args .t1))) _ (c .loop-test .left)))
+    let e = c .before in
+    let s = e .before .before .before in
+    c .faultless .ensures ∙ sym (ap faultOf (e .before .loop .inv ∙ first-end (s .args .t1) (long s) (s .pre) (lostAt (entriesIn (s .args .t1))) _ (e .loop-test .left)))
 
-pub found-spec : {M : Type 1} → statement M
-found-spec =
+pub first-lost-spec : {M : Type 1} → statement M
+first-lost-spec =
     tie.close
     (tie.spec
     Inv-loop
@@ -97,9 +96,9 @@ found-spec =
     element-copy-out-e
     slice-aggregate-lost
     lost-requires
-    refused-requires
     returns
     add-k
     loop-less
     loop-again
+    faultless-requires
     returns-2)

@@ -4,14 +4,13 @@ use Prim.Native.Nat.{_-_}
 use lib.ListN.{length, drop}
 use Rattle.catalogue_rules.specs.Read.{firstPlace, dependentAt}
 use Rattle.catalogue_rules.specs.Form.{EntryFits}
-use Rattle.catalogue_records.specs.Catalogues.{unless}
 use Rattle.catalogue_records.specs.EntriesIn.{entryIn, entriesIn}
 use Rattle.catalogue_records.specs.Entries.{all-stored, entryAt, Says, entry-has, first-here, first-later, first-end}
-use Rattle.catalogue_reader.specs.Ended.{dependent-at}
+use Rattle.catalogue_reader.specs.Ended.{faultOf, dependent-at}
 use Rattle.catalogue_rules.specs.Catalogue.{mostEntries}
 use borrow.Author.Needs.{needs}
-use Rattle.catalogue_reader.proofs.independent.Statement.{statement}
-use Rattle.catalogue_reader.proofs.independent.Tie as tie
+use Rattle.catalogue_reader.proofs.first_dependent.Statement.{statement}
+use Rattle.catalogue_reader.proofs.first_dependent.Tie as tie
 
 abbrev Inv-loop : tie.InvT-loop
 Inv-loop c k₀ k-end k = firstPlace dependentAt (entriesIn c) ≡ firstPlace dependentAt (drop k (entriesIn c))
@@ -36,9 +35,6 @@ dependent-requires c κs =
     let s = c .before .before .before in
     entry-has (s .args .t1) (long s) (s .pre .0) _ (search needs) EntryFits (s .pre .1)
 
-refused-requires : tie.Need-refused-requires Inv-loop μ-loop
-refused-requires c κs = search needs
-
 says : (c : tie.After-dependent Inv-loop μ-loop) → let l = c .before .before .before in let e = entryAt (l .before .args .t1) (l .loop .k) in Says dependentAt (entryIn e) (c .dependent .result) (e .place)
 says c =
     let l = c .before .before .before in
@@ -46,11 +42,10 @@ says c =
 
 returns : tie.Need-returns Inv-loop μ-loop
 returns c =
-    let d = c .before .before in
+    let d = c .before in
     let l = d .before .before .before in
     let s = l .before in
-    c .refused .ensures
-    ∙ sym (ap (λ o. unless 5 o (s .args .t1)) (l .loop .inv ∙ first-here (s .args .t1) (long s) (s .pre .0) (l .loop .k) (search needs) (says d) (c .before .if1 .taken)))
+    sym (ap faultOf (l .loop .inv ∙ first-here (s .args .t1) (long s) (s .pre .0) (l .loop .k) (search needs) (says d) (c .if1 .taken)))
 
 add-k : tie.Need-add-k Inv-loop μ-loop
 add-k c = search needs
@@ -65,13 +60,17 @@ loop-again c =
     let s = l .before in
     l .loop .inv ∙ first-later (s .args .t1) (long s) (s .pre .0) (l .loop .k) (search needs) (says d) (c .if1 .left)
 
+faultless-requires : tie.Need-faultless-requires Inv-loop μ-loop
+faultless-requires c κs = search needs
+
 returns-2 : tie.Need-returns-2 Inv-loop μ-loop
 returns-2 c =
-    let s = c .before .before in
-    sym (ap (λ o. unless 5 o (s .args .t1)) (c .before .loop .inv ∙ first-end (s .args .t1) (long s) (s .pre .0) dependentAt _ (c .loop-test .left)))
+    let e = c .before in
+    let s = e .before .before in
+    c .faultless .ensures ∙ sym (ap faultOf (e .before .loop .inv ∙ first-end (s .args .t1) (long s) (s .pre .0) dependentAt _ (e .loop-test .left)))
 
-pub independent-spec : {M : Type 1} → statement M
-independent-spec =
+pub first-dependent-spec : {M : Type 1} → statement M
+first-dependent-spec =
     tie.close
     (tie.spec
     Inv-loop
@@ -80,9 +79,9 @@ independent-spec =
     mul-e
     element-copy-out-e
     dependent-requires
-    refused-requires
     returns
     add-k
     loop-less
     loop-again
+    faultless-requires
     returns-2)
