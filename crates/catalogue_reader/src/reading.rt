@@ -31,17 +31,18 @@ pub(crate) struct Reading {
     pub part: Part,
 }
 
-// Whether one of the first count numbers is n.
+// Whether one of the first count numbers is n. All are looked at: several at a time.
 pub(crate) fn numbered(numbers: &[u32], count: usize, n: u32) -> bool
     requires { ⌜ count ≤ length (now numbers) ⌝ }
     ensures { λ r. ⌜ r ≡ any (isNumber n) (take count (now (numbers .entry))) ⌝ }
 {
+    let mut found = false;
     for k in 0..count {
         if numbers[k] == n {
-            return true;
+            found = true;
         }
     }
-    false
+    found
 }
 
 // Whether a head may not have the number n: it is zero, or one of the first count numbers.
