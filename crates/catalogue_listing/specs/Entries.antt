@@ -3,7 +3,6 @@ use mathlib.Core.Path.{_≡_, refl, sym, ap, ap₂, _∙_, subst}
 use mathlib.Core.Logic.{_≢_}
 use mathlib.Core.Bool.{true, false}
 use mathlib.Core.List.{List, [], _∷_, _++_, map, append-nil, append-assoc}
-use mathlib.Core.Option.{Option, none, some}
 use Prim.Native.Nat.{ℕ, _≤_, _<_}
 use native.Mathlib.Omega.{arith}
 use lib.Dec.{eqb}
@@ -14,7 +13,7 @@ use Rattle.integers.specs.Decimal.{decimal}
 use Rattle.lattices.specs.Vector.{Vec}
 use Rattle.lattices.specs.Greedy.{reduction}
 use Rattle.catalogue_rules.specs.Catalogue as definition
-use Rattle.catalogue_rules.specs.Catalogue.{See, seeNumber}
+use Rattle.catalogue_rules.specs.Catalogue.{seeNumber}
 use Rattle.fold_rules.specs.Fold.{reducedOf, standing, Stood, stoodOf, closedList, followed, leads}
 use Rattle.text_layout.specs.Fields.{line}
 use Rattle.fold_rules.specs.Listing.{vectorLines, entryLine, vectorsShown, entryLines}

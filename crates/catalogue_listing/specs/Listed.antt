@@ -1,11 +1,11 @@
 -- What `list` hands back: the refusal of reading, 16 where the text does not fit, or the text over the first bytes of the output.
-use mathlib.Core.Path.{_≡_, refl, sym, ap, ap₂, _∙_, subst}
+use mathlib.Core.Path.{_≡_, refl, sym, ap, ap₂, _∙_}
 use mathlib.Core.Logic.{_≢_}
 use mathlib.Core.List.{List, _++_}
 use Prim.Native.Nat.{ℕ, _+_, _≤_, _<_}
 use native.Mathlib.Omega.{arith}
 use lib.ListN.{length, take, drop}
-use lib.Seq.{sets, sets-eq, take-append-seam}
+use lib.Seq.{sets-eq, take-append-seam}
 use Rattle.catalogue_rules.specs.Laws.TextSize.{mostText}
 use Rattle.io.specs.Counts.{Counts}
 use Rattle.catalogue_rules.specs.Catalogue.{Outcome, refused, accepted}

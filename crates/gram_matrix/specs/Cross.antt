@@ -1,17 +1,17 @@
 -- Row and column k of the Gram matrix after a pass: the row that the search leaves, with its own entry k lowered once more.
-use mathlib.Core.Path.{_≡_, refl, sym, ap, ap₂, _∙_, subst}
+use mathlib.Core.Path.{_≡_, refl, sym, ap, ap₂, _∙_}
 use mathlib.Core.List.{List, [], _∷_, map}
 use Prim.Native.Nat.{ℕ, zero, suc, _+_, _≤_, _<_}
 use native.Mathlib.Omega.{arith}
 use native.Mathlib.Decide.{decLt, ℕ-discrete}
-use lib.IntN.{ℤ, pos, negsuc, _+ℤ_, _-ℤ_, _*ℤ_}
+use lib.IntN.{ℤ, pos, _+ℤ_, _-ℤ_, _*ℤ_}
 use lib.ListN.{length, getD, set, take, length-map, length-set, length-take, List·getD-eq-default}
 use lib.Seq.{getD-set-same, getD-set-other, set-set, getD-take, ext-getD}
 use Rattle.integers.specs.Identity.{by-ring, reads}
 use Rattle.integers.specs.AllLaws.{getD-map}
 use Rattle.integers.specs.Ring.{negsuc-zero-*ℤ}
 use Rattle.integers.specs.ListLaws.{entries}
-use Rattle.lattices.specs.Vector.{Vec, nth, dot, comb, _⊕_, _⊙_, _⊖_}
+use Rattle.lattices.specs.Vector.{nth, dot, comb, _⊕_, _⊙_, _⊖_}
 use Rattle.lattices.specs.Laws.Vector.{≈-refl, ≈-dot, nth-≈}
 use Rattle.row_operations.specs.Dot.{dot-suc}
 use Rattle.gram_matrix.specs.Gram.{losing, losingEntry, nth-comb}

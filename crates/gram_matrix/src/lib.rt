@@ -11,7 +11,7 @@ ghost use Rattle.gram_matrix.specs.Lose.{Losable, Gainable, Loses, Gains
 ghost use Rattle.gram_matrix.specs.Gram.{losing};
 ghost use Rattle.gram_matrix.specs.Cross.{entered, crossed};
 ghost use Rattle.integers.specs.Size.{Within};
-ghost use Rattle.gram_matrix.specs.Formed.{products, formed, grown};
+ghost use Rattle.gram_matrix.specs.Formed.{products, formed};
 ghost use Rattle.lattices.specs.Answer.{padded};
 ghost use Rattle.lattices.specs.Greedy.{Row, order};
 ghost use Rattle.gram_matrix.specs.Order.{exchanged, swapped, insertAt};

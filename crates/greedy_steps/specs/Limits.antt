@@ -1,6 +1,6 @@
 -- What the greedy steps may rely on, on every row that they lead to: lengths, and room in 64 bits for a pass. Vectors within the length
 -- limit give it; another list of rows may be reduced by the same code once these limits are proved of it.
-use mathlib.Core.Path.{_≡_, refl, sym, ap, ap₂, _∙_, subst}
+use mathlib.Core.Path.{_≡_, refl, sym, ap, _∙_, subst}
 use mathlib.Core.Bool.{true}
 use mathlib.Core.List.{List, [], _∷_, _++_, map, map-map}
 use Prim.Native.Nat.{ℕ, zero, suc, _+_, _*_, _≤_, _<_}

@@ -8,7 +8,7 @@ use lib.ListN.{length, getD, take, drop, set, length-map}
 use lib.Seq.{split-at, length-take-le, take-append-seam, getD-append-seam, set-append-seam}
 use Rattle.integers.specs.AllLaws.{map-append}
 use Rattle.lattices.specs.Vector.{_⊕_, _⊙_, _⊖_, comb}
-use Rattle.lattices.specs.Greedy.{Row, less, credited, pass}
+use Rattle.lattices.specs.Greedy.{Row, less, credited}
 use Rattle.row_operations.specs.Rows.{rowsOf, gained, rowsOf-parts, credited-columns}
 use Rattle.gram_matrix.specs.Gram.{losing}
 use Rattle.greedy_steps.specs.State.{blank}

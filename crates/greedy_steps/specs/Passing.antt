@@ -1,14 +1,14 @@
 -- A pass for row k in vectors: the coefficients, what is left of the last vector, and room for its inner products.
-use mathlib.Core.Path.{_≡_, refl, sym, ap, ap₂, _∙_, subst, subst₂}
-use mathlib.Core.List.{List, [], _∷_, _++_, map}
+use mathlib.Core.Path.{_≡_, sym, ap, ap₂, _∙_, subst, subst₂}
+use mathlib.Core.List.{List, [], _∷_, _++_}
 use Prim.Native.Nat.{ℕ, zero, suc, _+_, _*_, _≤_, _<_}
 use native.Mathlib.Omega.{arith}
 use native.Mathlib.Decide.{decLt}
 use native.Mathlib.Nat.{le-refl, mul-le-mul}
 use lib.IntN.{ℤ, pos, negsuc, natAbs, _*ℤ_}
 use lib.Signed.{_≤ℤ_, _<ℤ_, <ℤ-irrefl}
-use lib.ListN.{length, getD, take, length-map, List·getD-eq-default}
-use lib.Seq.{getD-take, getD-set-same}
+use lib.ListN.{length, getD, take, List·getD-eq-default}
+use lib.Seq.{getD-take}
 use Rattle.integers.specs.Identity.{by-ring, reads}
 use Rattle.integers.specs.AllLaws.{take-map, getD-map}
 use Rattle.integers.specs.Order.{≤ℤ-trans, ≤ℤ-of-<ℤ}

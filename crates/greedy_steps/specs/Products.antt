@@ -1,18 +1,17 @@
 -- The size of inner products: Cauchy–Schwarz, and what a multiple of a vector may weigh in a row of them.
-use mathlib.Core.Path.{_≡_, refl, sym, ap, ap₂, _∙_, subst}
+use mathlib.Core.Path.{_≡_, sym, ap, _∙_}
 use mathlib.Core.Logic.{⊎-elim}
-use mathlib.Core.List.{List, [], _∷_, map}
-use Prim.Native.Nat.{ℕ, zero, suc, _+_, _*_, _≤_, _<_}
+use mathlib.Core.List.{[], _∷_}
+use Prim.Native.Nat.{ℕ, _+_, _*_, _≤_, _<_}
 use native.Mathlib.Omega.{arith}
-use lib.IntN.{ℤ, pos, negsuc, natAbs, _+ℤ_, _-ℤ_, _*ℤ_, *ℤ-zero}
+use lib.IntN.{ℤ, pos, negsuc, natAbs, _+ℤ_, _-ℤ_, _*ℤ_}
 use lib.Signed.{_≤ℤ_, _<ℤ_}
-use lib.ListN.{length, getD}
 use Rattle.integers.specs.Identity.{by-ring, reads}
 use Rattle.integers.specs.Order.{≤ℤ-trans, ≤ℤ-of-≡, ≤ℤ-or-<ℤ, ≤ℤ-antisymm, *ℤ-cancel-≤}
-use Rattle.integers.specs.Certificate.{NN, nn-sq, _⊞_, _⊠_, le, eq, by-nn, nn-pos}
-use Rattle.integers.specs.Size.{root, load}
-use Rattle.lattices.specs.Vector.{Vec, N, Zero, nth, dot, _⊕_, _⊙_, _⊖_, comb}
-use Rattle.lattices.specs.Laws.Vector.{dot-comm, dot-⊙, dot-⊙ʳ, bilinear, N-nonneg, definite, zero-dot, against}
+use Rattle.integers.specs.Certificate.{_⊞_, _⊠_, eq, by-nn, nn-pos}
+use Rattle.integers.specs.Size.{root}
+use Rattle.lattices.specs.Vector.{Vec, N, dot, _⊕_, _⊙_, _⊖_}
+use Rattle.lattices.specs.Laws.Vector.{dot-comm, dot-⊙ʳ, bilinear, N-nonneg, definite, zero-dot}
 use Rattle.exterior_algebra.specs.Hadamard.{*ℤ-mono-both}
 
 -- N(N(v)·u − <u,v>·v) = N(v)·(N(u)·N(v) − <u,v>²)

@@ -1,7 +1,7 @@
 -- The loop of steps 2 to 6 for the first n rows: what each call asks holds at every turn, and the loop ends at the reduced rows.
 use mathlib.Core.Path.{_≡_, refl, sym, ap, ap₂, _∙_, subst, subst₂}
 use mathlib.Core.Bool.{Bool, true, false}
-use mathlib.Core.List.{List, [], _∷_, map}
+use mathlib.Core.List.{List, [], _∷_}
 use Prim.Native.Nat.{ℕ, zero, suc, _+_, _*_, _-_, _≤_, _<_}
 use native.Mathlib.Omega.{arith}
 use native.Mathlib.Decide.{decLt}
@@ -13,7 +13,7 @@ use Rattle.integers.specs.Size.{size-mul}
 use Rattle.integers.specs.Identity.{by-ring, reads}
 use Rattle.lattices.specs.Vector.{N, nth}
 use Rattle.lattices.specs.Greedy.{Row, shorter, total, greedyBy}
-use Rattle.gram_matrix.specs.Tied.{Kind, Tied, tied-diagonal, tied-length, tied-shorter, shorterIn}
+use Rattle.gram_matrix.specs.Tied.{Kind, Tied, tied-diagonal, tied-shorter, shorterIn}
 use Rattle.gram_matrix.specs.Work.{workOf, vectorsIn, tableIn, vectors-back, table-back}
 use Rattle.gram_matrix.specs.declared.work.Work.{Work}
 use Rattle.greedy_steps.specs.State.{blank, orderRows, passRows, greedyRows, greedyPasses}

@@ -10,7 +10,7 @@ use lib.Seq.{getD-take, take-take}
 use lib.Signed.{_≤ℤ_, ltZ-yes}
 use Rattle.integers.specs.Certificate.{nn-pos}
 use Rattle.integers.specs.Ring.{pos-one-*ℤ}
-use Rattle.lattices.specs.Vector.{Vec, N, nth, dot}
+use Rattle.lattices.specs.Vector.{Vec, N}
 use Rattle.lattices.specs.Laws.Vector.{nil-dot}
 use Rattle.nearest_of_three.specs.Meant.{Products, Gram, Meant}
 use Rattle.nearest_of_three.specs.Searchable.{behind, Searchable}

@@ -3,13 +3,12 @@ use mathlib.Core.Path.{_≡_, refl, sym, ap, _∙_, subst}
 use Prim.Native.Nat.{_≤_}
 use native.Mathlib.Omega.{arith}
 use lib.ListN.{length, take}
-use lib.Seq.{length-take-le}
 use Rattle.catalogue_rules.specs.Laws.TextSize.{mostText}
 use Rattle.fold_rules.specs.Services.{listingText}
 use Rattle.catalogue_records.specs.Catalogues.{writtenOf}
 use Rattle.catalogue_records.specs.EntriesIn.{entriesIn}
 use Rattle.catalogue_standing.specs.ReducedEntries.{ready}
-use Rattle.text_output.specs.Puts.{Puts, puts-length}
+use Rattle.text_output.specs.Puts.{Puts}
 use Rattle.catalogue_listing.specs.Listed.{not-listed, text-small, not-fitting, fitting, put-end, put-first, put-all, put-counts}
 use borrow.Author.Needs.{needs}
 use Rattle.catalogue_listing.proofs.list.Statement.{statement}

@@ -1,5 +1,5 @@
 -- That the finished work packs to the definition's answer: what `reduce` gives.
-use mathlib.Core.Path.{_≡_, refl, sym, ap, ap₂, _∙_, subst}
+use mathlib.Core.Path.{_≡_, refl, sym, ap, _∙_, subst}
 use mathlib.Core.List.{List, [], _∷_, map, map-map}
 use mathlib.Core.Logic.{_≢_}
 use Prim.Native.Nat.{ℕ, zero, suc, _+_, _≤_, _<_}
@@ -17,7 +17,7 @@ use Rattle.lattices.specs.Laws.Vector.{dot-comm, nil-dot, ≈-refl, ≈-dot}
 use Rattle.lattices.specs.Greedy.{Row, vectors, units, reduction}
 use Rattle.lattices.specs.Refusal.{Input, basis, firstOf, vectorChecks, mostVectors, mostCoordinates}
 use Rattle.lattices.specs.Answer as Definition
-use Rattle.lattices.specs.Answer.{padded, table, rowsOfV, reductionGiven, noReduction, reductionOf}
+use Rattle.lattices.specs.Answer.{padded, table, reductionGiven, noReduction, reductionOf}
 use Rattle.lattices.specs.Laws.Answer.{table-rows, padded-≈}
 use Rattle.greedy_reduction.specs.Accepted.{accepted}
 use Rattle.greedy_reduction.specs.Demand.{accepted-reduction}
@@ -39,7 +39,7 @@ use Rattle.engine.specs.Packed.{packed}
 use Rattle.greedy_steps.specs.State.{blank, greedyRows, greedyPasses}
 use Rattle.engine.specs.Laws.Few.{few-passes}
 use Rattle.greedy_steps.specs.Room.{small-rows}
-use Rattle.engine.specs.Laws.Begin.{first, first-is, first-fine, table-is, bs-count, four-rows, unused}
+use Rattle.engine.specs.Laws.Begin.{first, first-fine, table-is, bs-count, four-rows, unused}
 use Rattle.engine.specs.Laws.Finish.{R, outs-count, last-vectors, last-u, last-v, last-squares, last-passes}
 use Rattle.greedy_steps.specs.Tables.{ones}
 use Rattle.greedy_steps.specs.Repeat.{Reducible, Outcome}

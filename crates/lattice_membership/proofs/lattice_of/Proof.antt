@@ -1,8 +1,8 @@
 -- The parts are those that make a lattice known.
 use mathlib.Core.Path.{_≡_, refl, sym, ap, _∙_, subst}
-use mathlib.Core.List.{[], map}
+use mathlib.Core.List.{[]}
 use Prim.Native.Nat.{ℕ, _≤_}
-use lib.ListN.{length, getD, take}
+use lib.ListN.{length, getD}
 use native.Mathlib.Omega.{arith}
 use mir.Facts.{toZ-ofZ}
 use mir.Syntax.{w64}
@@ -11,7 +11,7 @@ use Rattle.lattices.specs.Vector.{nth}
 use Rattle.lattices.specs.Refusal.{mostVectors, mostCoordinates}
 use Rattle.input_checks.specs.FirstMinor.{table-small}
 use Rattle.lattice_membership.specs.Cofactor.{cofactorRows}
-use Rattle.lattice_membership.specs.Laws.Made.{rows-back, first-below, made}
+use Rattle.lattice_membership.specs.Laws.Made.{first-below, made}
 use borrow.Author.Needs.{needs}
 use Rattle.lattice_membership.proofs.lattice_of.Statement.{statement}
 use Rattle.lattice_membership.proofs.lattice_of.Tie as tie
