@@ -12,7 +12,6 @@ use Rattle.lattices.specs.Refusal.{mostVectors, mostCoordinates}
 use Rattle.lattices.specs.Answer.{padded, table, reductionOf}
 use Rattle.successive_minima.specs.Member.{isMember}
 use Rattle.greedy_reduction.specs.Start.{Coordinates}
-use Rattle.row_operations.specs.RowStructs.{vectorRow}
 use Rattle.lattice_membership.specs.Laws.Made.{rows-back}
 use Rattle.catalogue_rules.specs.Catalogue.{Entry, inputOf}
 use Rattle.fold_rules.specs.Fold.{reducedOf, holds, sameLattice}
@@ -20,10 +19,11 @@ use Rattle.integers.specs.Every.{every}
 use Rattle.fold_rules.specs.Laws.SameLattice.{Sound, entry-full}
 use Rattle.fold_rules.specs.Laws.Deciding.{entry-reduction, entry-rows, entry-member, different-m, different-d, different-answers, holds-reduced}
 use Rattle.lattice_membership.specs.Known.{Left}
+use Rattle.reduced_lattices.specs.Left.{leftOf}
 
--- d, m, the engine's rows, squared lengths and count of passes, of an entry
+-- what the reduction of an entry leaves
 abbrev pub reducedEntry : Entry → Left
-reducedEntry e = record { d = e .head .d; m = e .head .m; vectors = map vectorRow (reductionOf (inputOf e) .basis); squares = reductionOf (inputOf e) .squares; passes = reductionOf (inputOf e) .passes }
+reducedEntry e = leftOf (inputOf e)
 
 -- what an array of them gives beyond its end
 abbrev pub noReduced : Left
