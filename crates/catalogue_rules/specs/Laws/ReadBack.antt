@@ -12,7 +12,8 @@ use Rattle.integers.specs.All.{All}
 use Rattle.catalogue_rules.specs.Word.{end, encode, bytesOf}
 use Rattle.catalogue_rules.specs.Laws.Word.{words-bytes, length-bytes}
 use Rattle.catalogue_rules.specs.Catalogue.{See, Entry, refused, accepted, entries, mostBytes, mostEntries}
-use Rattle.catalogue_rules.specs.Read.{State, step, outside, closed, fileRows, isNumbered, firstPlace, dependentAt, lostAt, afterReading, afterWords, readWords, read}
+use Rattle.integers.specs.First.{firstGiven}
+use Rattle.catalogue_rules.specs.Read.{State, step, outside, closed, fileRows, isNumbered, dependentAt, lostAt, afterReading, afterWords, readWords, read}
 use Rattle.catalogue_rules.specs.Write.{entriesWords, catalogueWords, write}
 use Rattle.catalogue_rules.specs.Form.{mostNumber, EntryFits, EntryIndependent, Names, WellFormed, seeAt, pastSee, pastVectors, entryAt, placed}
 use Rattle.catalogue_rules.specs.Laws.Placed.{length-placed}
@@ -48,9 +49,9 @@ numbered-placed : (n i : ℕ) (es : List Entry) → any (isNumbered n) (placed i
 numbered-placed n i [] = refl
 numbered-placed n i (e ∷ es) = ap (λ t. isNumbered n e || t) (numbered-placed n _ es)
 
-nowhere : (f : Entry → Option ℕ) (i : ℕ) (es : List Entry) → All (λ e. (j : ℕ) → f (entryAt j e) ≡ none) es → firstPlace f (placed i es) ≡ none
+nowhere : (f : Entry → Option ℕ) (i : ℕ) (es : List Entry) → All (λ e. (j : ℕ) → f (entryAt j e) ≡ none) es → firstGiven f (placed i es) ≡ none
 nowhere f i [] p = refl
-nowhere f i (e ∷ es) p = ap (λ o. elim o [ some q ↦ some q | none ↦ firstPlace f (placed (pastSee (pastVectors i (e .vectors)) (e .see)) es) ]) (p .0 i) ∙ nowhere f _ es (p .1)
+nowhere f i (e ∷ es) p = ap (λ o. elim o [ some q ↦ some q | none ↦ firstGiven f (placed (pastSee (pastVectors i (e .vectors)) (e .see)) es) ]) (p .0 i) ∙ nowhere f _ es (p .1)
 
 all-independent : (es : List Entry) → All EntryIndependent es → All (λ e. (j : ℕ) → dependentAt (entryAt j e) ≡ none) es
 all-independent [] p = tt
@@ -68,9 +69,9 @@ all-found : (all fs : List Entry) → ((n : ℕ) → any (isNumbered n) fs ≡ a
 all-found all fs same [] p = tt
 all-found all fs same (e ∷ es) p = (found all fs same e (p .0), all-found all fs same es (p .1))
 
-after-passes : (es : List Entry) → firstPlace dependentAt es ≡ none → firstPlace (lostAt es) es ≡ none → afterReading es ≡ accepted es
+after-passes : (es : List Entry) → firstGiven dependentAt es ≡ none → firstGiven (lostAt es) es ≡ none → afterReading es ≡ accepted es
 after-passes es p q =
-    ap (λ o. elim o [ some p ↦ refused 5 p | none ↦ elim (firstPlace (lostAt es) es) [ some p ↦ refused 12 p | none ↦ accepted es ] ]) p
+    ap (λ o. elim o [ some p ↦ refused 5 p | none ↦ elim (firstGiven (lostAt es) es) [ some p ↦ refused 12 p | none ↦ accepted es ] ]) p
     ∙ ap (λ o. elim o [ some p ↦ refused 12 p | none ↦ accepted es ]) q
 
 to-end : (s : State) (es : List Entry) (i n : ℕ) → Between s es → n ≡ length es → n ≤ mostEntries → readWords s i (encode (end n) ∷ []) ≡ accepted es

@@ -21,7 +21,8 @@ use Rattle.integers.specs.All.{All}
 use Rattle.integers.specs.AllLaws.{all-snoc}
 use Rattle.catalogue_rules.specs.Word.{Word, head}
 use Rattle.catalogue_rules.specs.Catalogue.{Head, See, Entry, accepted, mostLoad, mostEntries}
-use Rattle.catalogue_rules.specs.Read.{State, outside, inside, after, closed, isNumbered, withEntry, coordinateOf, withVector, withCoordinate, firstPlace, dependentAt, lostAt, readWords, read}
+use Rattle.integers.specs.First.{firstGiven}
+use Rattle.catalogue_rules.specs.Read.{State, outside, inside, after, closed, isNumbered, withEntry, coordinateOf, withVector, withCoordinate, dependentAt, lostAt, readWords, read}
 use Rattle.catalogue_rules.specs.Form.{mostNumber, HeadFits, VectorFits, EntryFits, Distinct, Entered, EntryIndependent, Names, WellFormed}
 use Rattle.catalogue_rules.specs.Laws.Word.{InRange, decode-range}
 use Rattle.catalogue_rules.specs.Laws.Moves.{Between, between, unreferred, Moves, by-head, by-coordinate, by-see, by-end, WhenAccepted, words-kept, kept-to-end}
@@ -125,11 +126,11 @@ known-moves (by-end b) r k = known-between b k
 
 -- ---- the end
 
-first-none : (f : Entry → Option ℕ) (Q : Entry → Type 0) → ((e : Entry) → f e ≡ none → Q e) → (es : List Entry) → firstPlace f es ≡ none → All Q es
+first-none : (f : Entry → Option ℕ) (Q : Entry → Type 0) → ((e : Entry) → f e ≡ none → Q e) → (es : List Entry) → firstGiven f es ≡ none → All Q es
 first-none f Q q [] e = tt
 first-none f Q q (x ∷ es) e = go (f x) refl e (first-none f Q q es)
   where
-    go : (o : Option ℕ) → f x ≡ o → _≡_ {A = Option ℕ} (elim o [ some p ↦ some p | none ↦ firstPlace f es ]) none → (firstPlace f es ≡ none → All Q es) → Q x × All Q es
+    go : (o : Option ℕ) → f x ≡ o → _≡_ {A = Option ℕ} (elim o [ some p ↦ some p | none ↦ firstGiven f es ]) none → (firstGiven f es ≡ none → All Q es) → Q x × All Q es
     go none r e more = (q x r, more e)
     go (some p) r e more = absurd (Option·some-ne-none p e)
 
