@@ -8,14 +8,15 @@ use lib.Dec.{eqb}
 use lib.ListN.{length}
 use borrow.Author.Tests.{ltb-false}
 use Rattle.integers.specs.All.{All}
-use Rattle.integers.specs.AllLaws.{all-append}
+use Rattle.integers.specs.AllLaws.{all-imp, all-append}
+use Rattle.integers.specs.First.{firstGiven}
+use Rattle.integers.specs.FirstLaws.{given-has}
 use Rattle.lattices.specs.Vector.{Vec}
 use Rattle.lattices.specs.Volume.{isDependent}
 use Rattle.integers.specs.Every.{any}
 use Rattle.catalogue_rules.specs.Word.{Word, head, coordinate, see, end, other, decode, wordsOf}
 use Rattle.catalogue_rules.specs.Laws.Word.{length-words}
 use Rattle.catalogue_rules.specs.Catalogue.{mostWords, mostBytes, Head, See, Entry, Outcome, refused, accepted}
-use Rattle.integers.specs.First.{firstGiven}
 use Rattle.catalogue_rules.specs.Read.{State, outside, inside, after, closed, Step, next, stop, isNumbered, withEntry, headRows, atHead, coordinateOf, withCoordinate, coordinateRows, atCoordinate, endRows, atEnd, step, atLast, readWords, dependentAt, lostAt, afterWords, fileRows, read}
 use Rattle.catalogue_rules.specs.Laws.Moves.{checked-case}
 
@@ -107,12 +108,7 @@ module _ (b : ℕ) where
   PlaceLow (some p) = p ≤ b
 
   first-low : (f : Entry → Option ℕ) → ((e : Entry) → EntryLow e → PlaceLow (f e)) → (es : List Entry) → All EntryLow es → PlaceLow (firstGiven f es)
-  first-low f q [] p = tt
-  first-low f q (e ∷ es) p = go (f e) (q e (p .0)) (first-low f q es (p .1))
-    where
-      go : (o : Option ℕ) → PlaceLow o → PlaceLow (firstGiven f es) → PlaceLow (elim o [ some p ↦ some p | none ↦ firstGiven f es ])
-      go (some p) r more = r
-      go none r more = more
+  first-low f q es p = given-has f PlaceLow tt es (all-imp q es p)
 
   dependent-low : (e : Entry) → EntryLow e → PlaceLow (dependentAt e)
   dependent-low e p = go (isDependent (e .head .m) (e .vectors))

@@ -19,6 +19,16 @@ module _ {A B : Type 0} (f : A → Option B) where
   pub given-none : (l : List A) → All (λ a. f a ≡ none) l → firstGiven f l ≡ none
   given-none l p = given-has (λ o. o ≡ none) refl l p
 
+  -- and where the first is none, nothing is given
+  pub none-given : (l : List A) → firstGiven f l ≡ none → All (λ a. f a ≡ none) l
+  none-given [] e = tt
+  none-given (a ∷ l) e = go (f a) refl e (none-given l)
+    where
+      go : (o : Option B) → f a ≡ o → _≡_ {A = Option B} (elim o as (λ o. Option B) [ some b ↦ some b | none ↦ firstGiven f l ]) none → (firstGiven f l ≡ none → All (λ a. f a ≡ none) l)
+          → (f a ≡ none) × All (λ a. f a ≡ none) l
+      go none q e more = (q, more e)
+      go (some b) q e more = absurd (Option·some-ne-none b e)
+
   -- all that is given is one
   pub given-some : (b : B) (l : List A) → All (λ a. (f a ≡ none) ⊎ (f a ≡ some b)) l → Some (λ a. f a ≡ some b) l → firstGiven f l ≡ some b
   given-some b [] p q = absurd q
