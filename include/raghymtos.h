@@ -18,9 +18,9 @@ extern "C" {
 #endif
 
 #define RAGHYMTOS_VERSION_MAJOR 0
-#define RAGHYMTOS_VERSION_MINOR 2
+#define RAGHYMTOS_VERSION_MINOR 3
 #define RAGHYMTOS_VERSION_PATCH 0
-#define RAGHYMTOS_VERSION "0.2.0"
+#define RAGHYMTOS_VERSION "0.3.0"
 
 /* A name that ends in _AT is an index into an answer, one that ends in _COUNT a number of numbers,
  * one that begins with MOST a limit. */
@@ -161,8 +161,8 @@ bool raghymtos_write_out(const uint8_t *bytes, size_t count, uint8_t *out, size_
                          int64_t *answer, size_t answer_room);
 
 /* Writes the folded catalogue to out: of entries with the same m and the same lattice the first
- * stands, with its number, its reduced vectors, and a see word where its own leads to another
- * standing entry. Otherwise as raghymtos_write_out. */
+ * stands, with its number, its reduced vectors, and the first see word of theirs, in the order of the
+ * file, that leads to another standing entry. Otherwise as raghymtos_write_out. */
 bool raghymtos_fold(const uint8_t *bytes, size_t count, uint8_t *out, size_t room,
                     int64_t *answer, size_t answer_room);
 

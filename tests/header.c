@@ -86,10 +86,11 @@ static void catalogue(void) {
     expect(raghymtos_write_out(bytes, 72, out, 72, answer, 3), "3 lent numbers are enough");
     expect(answer[RAGHYMTOS_REFUSAL_AT] == RAGHYMTOS_ACCEPTED && answer[RAGHYMTOS_WRITTEN_AT] == 72, "72 bytes are written");
     expect(memcmp(out, bytes, 72) == 0 && out[72] == 0x55, "they are those that were read");
-    expect(raghymtos_fold(bytes, 72, out, sizeof out, answer, 3) && answer[RAGHYMTOS_WRITTEN_AT] == 48, "the fold has two entries");
-    expect(out[40] == 7 && out[43] == 0x30, "the see word of entry 9 leads to entry 7");
-    raghymtos_fold(bytes, 72, out, 47, answer, 3);
-    expect(answer[RAGHYMTOS_REFUSAL_AT] == RAGHYMTOS_OUTPUT_SHORT, "47 lent bytes are too few");
+    expect(raghymtos_fold(bytes, 72, out, sizeof out, answer, 3) && answer[RAGHYMTOS_WRITTEN_AT] == 52, "the fold has two entries");
+    expect(out[20] == 9 && out[23] == 0x30, "entry 7 carries the see word of entry 12, to entry 9");
+    expect(out[44] == 7 && out[47] == 0x30, "the see word of entry 9 leads to entry 7");
+    raghymtos_fold(bytes, 72, out, 51, answer, 3);
+    expect(answer[RAGHYMTOS_REFUSAL_AT] == RAGHYMTOS_OUTPUT_SHORT, "51 lent bytes are too few");
     raghymtos_write_out(bytes, 68, out, sizeof out, answer, 3);
     expect(answer[RAGHYMTOS_REFUSAL_AT] == RAGHYMTOS_UNEXPECTED && answer[RAGHYMTOS_PLACE_AT] == 17, "the end word is due");
     expect(raghymtos_lookup(bytes, 72, 12, answer, 3) && answer[RAGHYMTOS_STANDING_AT] == 7, "entry 7 stands for entry 12");

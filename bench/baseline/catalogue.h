@@ -178,6 +178,22 @@ static void own_standing(const own_catalogue *c, int *standing) {
     }
 }
 
+/* For each standing entry the number in the see word that it carries, 0 for none: where the word of the first entry of its lattice leads
+   that leads to another standing entry. */
+static void own_carried(const own_catalogue *c, const int *standing, uint32_t *carried) {
+    for (int i = 0; i < c->count; i++)
+        carried[i] = 0;
+    for (int i = 0; i < c->count; i++) {
+        const own_entry *e = &c->entries[i];
+        int s = standing[i];
+        if (!e->sees || carried[s])
+            continue;
+        int there = standing[own_find(c, e->see)];
+        if (there != s)
+            carried[s] = c->entries[there].number;
+    }
+}
+
 static uint8_t *own_put(uint8_t *out, uint32_t w) {
     memcpy(out, &w, 4);
     return out + 4;
@@ -187,9 +203,11 @@ static uint8_t *own_put(uint8_t *out, uint32_t w) {
 OWN_API size_t own_fold(const uint8_t *bytes, size_t n, uint8_t *out) {
     static own_catalogue c;
     int standing[OWN_ENTRIES];
+    uint32_t carried[OWN_ENTRIES];
     if (own_read(bytes, n, &c))
         return 0;
     own_standing(&c, standing);
+    own_carried(&c, standing, carried);
     uint8_t *at = out;
     int count = 0;
     for (int i = 0; i < c.count; i++) {
@@ -203,11 +221,8 @@ OWN_API size_t own_fold(const uint8_t *bytes, size_t n, uint8_t *out) {
         for (int v = 0; v < e->d; v++)
             for (int k = 0; k < e->m; k++)
                 at = own_put(at, 2u << 28 | (uint32_t)(a.b[v][k] + 20000));
-        if (e->sees) {
-            int s = standing[own_find(&c, e->see)];
-            if (s != i)
-                at = own_put(at, 3u << 28 | c.entries[s].number);
-        }
+        if (carried[i])
+            at = own_put(at, 3u << 28 | carried[i]);
     }
     at = own_put(at, 4u << 28 | (uint32_t)count);
     return (size_t)(at - out);

@@ -88,8 +88,8 @@ pub fn check(bytes: &[u8]) -> Result<(), CatalogueRefusal> {
     write_out_to(bytes, &mut [0; MOST_BYTES]).map(|_| ())
 }
 
-/// The folded catalogue: one entry for each lattice, the first that has it, with its reduced vectors and a see word led to an entry that
-/// is there.
+/// The folded catalogue: one entry for each lattice, the first that has it, with its reduced vectors and the first see word, in the order
+/// of the file, of the entries with that lattice that leads to another entry that is there.
 pub fn fold(bytes: &[u8]) -> Result<Vec<u8>, CatalogueRefusal> {
     let mut out = vec![0; MOST_BYTES];
     let n = fold_to(bytes, &mut out)?;

@@ -52,15 +52,24 @@ fn the_largest_catalogue() {
 
 #[test]
 fn folded_to_a_slice() {
-    let mut out = [0x55; 50];
-    assert_eq!(fold_to(&bytes(&WORDS), &mut out), Ok(48));
-    assert_eq!(fold(&bytes(&WORDS)).unwrap(), out[..48]);
-    assert_eq!(out[48..], [0x55; 2]);
-    let short = fold_to(&bytes(&WORDS), &mut [0x55; 47]).unwrap_err();
+    let mut out = [0x55; 54];
+    assert_eq!(fold_to(&bytes(&WORDS), &mut out), Ok(52));
+    assert_eq!(fold(&bytes(&WORDS)).unwrap(), out[..52]);
+    assert_eq!(out[52..], [0x55; 2]);
+    let short = fold_to(&bytes(&WORDS), &mut [0x55; 51]).unwrap_err();
     assert_eq!(
         (short.refusal, short.place, short.word()),
         (Refusal::OutputShort, 0, None)
     );
+}
+
+/// Entry 12 is folded into 7, which has no see word and carries its.
+#[test]
+fn a_folded_reference() {
+    let folded = entries(&fold(&bytes(&WORDS)).unwrap());
+    let seven = Entry::new(7, [[1, 0], [0, 1]]).seeing(9);
+    let nine = Entry::new(9, [[2, 0], [0, 3]]).seeing(7);
+    assert_eq!(folded, Ok(vec![seven, nine]));
 }
 
 #[test]

@@ -16,7 +16,7 @@ use Rattle.integers.specs.AllLaws.{map-append}
 use Rattle.catalogue_rules.specs.Catalogue as definition
 use Rattle.catalogue_rules.specs.Catalogue.{See, coordinates, seeNumber, mostEntries, mostNumbers}
 use Rattle.catalogue_rules.specs.Form.{WellFormed}
-use Rattle.fold_rules.specs.Fold.{standing, Stood, stoodOf, closedList, stands, standingIn, followed, printed, printedIn}
+use Rattle.fold_rules.specs.Fold.{Stood, stoodOf, closedList, stands, standingIn, carried, printed, printedIn}
 use Rattle.fold_rules.specs.Laws.SameLattice.{Sound}
 use Rattle.catalogue_records.specs.declared.Catalogue.{Catalogue}
 use Rattle.catalogue_records.specs.declared.Entry.{Entry}
@@ -117,13 +117,13 @@ module _ (es : List definition.Entry) (o : definition.Entry) (w : WellFormed es)
       }
 
 -- ---- an entry as the code prints it
-module _ (es : List definition.Entry) (e : Entry) (s : Sound (entryIn e)) (own : standing es (entryIn e) .head .number ≡ e .number) where
+module _ (es : List definition.Entry) (e : Entry) (s : Sound (entryIn e)) where
   made : List ℤ → Option See → Entry
   made l o = record { number = e .number; d = e .d; m = e .m; place = e .place; sees = sees o; see = seeNumber o; at = seePlace o; coordinates = filled (pos 0) mostNumbers l }
 
-  pub printed-is : {k : Left} {w : Way} → k ≡ reducedEntry (entryIn e) → w ≡ wayOf (followed (closedList es) (e .number) (entryIn e .see))
+  pub printed-is : {k : Left} {w : Way} → k ≡ reducedEntry (entryIn e) → w ≡ wayOf (carried (closedList es) (stoodOf es (entryIn e)))
       → printedAs e k w ≡ entryOf (printed (closedList es) (stoodOf es (entryIn e)))
   unfolding made
   printed-is q r =
       ap₂ (printedAs e) q r
-      ∙ ap₂ made (ap coordinates (kept-vectors (entryIn e) s)) (ap (λ n. followed (closedList es) n (entryIn e .see)) (sym own))
+      ∙ ap (λ l. made l (carried (closedList es) (stoodOf es (entryIn e)))) (ap coordinates (kept-vectors (entryIn e) s))

@@ -12,7 +12,7 @@ use Rattle.catalogue_rules.specs.Catalogue as definition
 use Rattle.catalogue_rules.specs.Catalogue.{See, coordinates, seeNumber, mostNumbers}
 use Rattle.catalogue_rules.specs.Form.{WellFormed}
 use Rattle.fold_rules.specs.Fold.{closedList, lookup, led, followed}
-use Rattle.fold_rules.specs.Laws.Lookup.{led-own, led-other}
+use Rattle.fold_rules.specs.Laws.See.{led-own, led-other}
 use Rattle.catalogue_records.specs.declared.Entry.{Entry}
 use Rattle.integers.specs.Filled.{filled}
 use Rattle.catalogue_records.specs.Stored.{sees, seePlace}
@@ -21,7 +21,7 @@ use Rattle.lattice_membership.specs.Known.{Left}
 use Rattle.catalogue_fold.specs.declared.printing.Way.{Way}
 use Rattle.catalogue_standing.specs.ReducedEntry.{basisIn}
 use Rattle.catalogue_standing.specs.Places.{First}
-use Rattle.catalogue_standing.specs.Standing.{Held, Numbers}
+use Rattle.catalogue_standing.specs.Standing.{StandingPlaces, Numbers}
 use Rattle.catalogue_standing.specs.Looking.{lookup-found, lookup-lost}
 
 -- a see word or none in the struct
@@ -43,12 +43,12 @@ printedAs e k w = record {
 
 -- r is the way of e's see word in every list of entries that the numbers and places are of
 pub record Led (e : Entry) (own : ℕ) (numbers places : List ℕ) (count : ℕ) (r : Way) : Type 0 where
-  pub leads : (es : List definition.Entry) (o : definition.Entry) (list : List Left) → WellFormed es → Held es o list places → Numbers es o numbers → length es ≡ count
+  pub leads : (es : List definition.Entry) (o : definition.Entry) → WellFormed es → StandingPlaces es o places → Numbers es o numbers → length es ≡ count
       → r ≡ wayOf (followed (closedList es) own (entryIn e .see))
 
 module _ (e : Entry) (own : ℕ) (numbers places : List ℕ) (count : ℕ) where
   pub no-word : e .sees ≡ false → Led e own numbers places count (wayOf none)
-  no-word h = record { leads = λ es o list w held named n. ap (λ b. wayOf (followed (closedList es) own (seeIn b (e .see) (e .at)))) (sym h) }
+  no-word h = record { leads = λ es o w stood named n. ap (λ b. wayOf (followed (closedList es) own (seeIn b (e .see) (e .at)))) (sym h) }
 
   module _ (word : e .sees ≡ true) {k : ℕ} (first : First (λ k. eqb (getD numbers k 0) (e .see)) count k) where
     goes : (es : List definition.Entry) {o : Option ℕ} → lookup (closedList es) (e .see) ≡ o
@@ -59,7 +59,7 @@ module _ (e : Entry) (own : ℕ) (numbers places : List ℕ) (count : ℕ) where
 
     pub word-lost : k ≡ count → Led e own numbers places count (wayOf none)
     word-lost h = record {
-      leads = λ es o list w held named n.
+      leads = λ es o w stood named n.
           ap wayOf (sym (goes es (lookup-lost es o w named (e .see) (subst (λ n. First (λ k. eqb (getD numbers k 0) (e .see)) n k) (sym n) first) (h ∙ sym n))));
     }
 
@@ -68,12 +68,12 @@ module _ (e : Entry) (own : ℕ) (numbers places : List ℕ) (count : ℕ) where
 
     pub word-own : k < count → there ≡ own → Led e own numbers places count (wayOf none)
     word-own h q = record {
-      leads = λ es o list w held named n.
-          ap wayOf (sym (goes es (lookup-found es o w named (e .see) (subst (λ n. First (λ k. eqb (getD numbers k 0) (e .see)) n k) (sym n) first) (subst (λ n. k < n) (sym n) h) held) ∙ led-own own _ there q));
+      leads = λ es o w stood named n.
+          ap wayOf (sym (goes es (lookup-found es o w named (e .see) (subst (λ n. First (λ k. eqb (getD numbers k 0) (e .see)) n k) (sym n) first) (subst (λ n. k < n) (sym n) h) stood) ∙ led-own own _ there q));
     }
 
     pub word-other : k < count → there ≢ own → Led e own numbers places count (record { sees = true; number = there; at = e .at })
     word-other h q = record {
-      leads = λ es o list w held named n.
-          ap wayOf (sym (goes es (lookup-found es o w named (e .see) (subst (λ n. First (λ k. eqb (getD numbers k 0) (e .see)) n k) (sym n) first) (subst (λ n. k < n) (sym n) h) held) ∙ led-other own _ there q));
+      leads = λ es o w stood named n.
+          ap wayOf (sym (goes es (lookup-found es o w named (e .see) (subst (λ n. First (λ k. eqb (getD numbers k 0) (e .see)) n k) (sym n) first) (subst (λ n. k < n) (sym n) h) stood) ∙ led-other own _ there q));
     }

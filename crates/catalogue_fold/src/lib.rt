@@ -4,13 +4,14 @@ ghost use Rattle.catalogue_standing.specs.Places.{Closed};
 ghost use Rattle.catalogue_standing.specs.SameLattice.{leftsIn};
 ghost use Rattle.catalogue_standing.specs.ReducedEntries.{WasRead, HoldReduced};
 ghost use Rattle.catalogue_fold.specs.Folding.{foldedOf};
+use carrying::carried_ways;
 use lattice_membership::Lattice;
 use printing::printed;
-use printing::way_of;
 
+mod carrying;
 pub mod printing;
 
-// Of a catalogue that was read; the list of standing entries is closed before any see word is led.
+// Of a catalogue that was read; the list of standing entries is closed before any see word is followed.
 pub fn folded(
     c: catalogue_records::Catalogue,
     list: [Lattice; catalogue_records::Catalogue::MOST_ENTRIES],
@@ -22,6 +23,7 @@ pub fn folded(
     ensures { λ r. ⌜ r ≡ foldedOf c ⌝ }
 {
     let numbers = catalogue_records::numbers(c);
+    let ways = carried_ways(c, &numbers, standing);
     let none = catalogue_records::Catalogue::empty();
     let mut entries = none.entries;
     let mut n = 0;
@@ -29,7 +31,7 @@ pub fn folded(
         if standing[k] == k {
             let e = c.entries[k];
             let l = list[k];
-            let w = way_of(e, e.number, &numbers, standing, c.count);
+            let w = ways[k];
             let p = printed(e, l, w);
             entries[n] = p;
             n += 1;

@@ -1,4 +1,4 @@
-// What the fold prints of a standing entry: its reduced vectors, and where its see word leads.
+// What the fold prints of a standing entry: its reduced vectors; and where a see word leads.
 ghost use mathlib.Core.Path.{_≡_};
 ghost use mathlib.Core.Bool.{false};
 ghost use mathlib.Core.List.{map};
@@ -51,7 +51,7 @@ pub struct Way {
 }
 
 // No word.
-fn nowhere() -> Way
+pub(crate) fn nowhere() -> Way
     ensures { λ r. ⌜ r ≡ record { sees = false; number = 0; at = 0 } ⌝ }
 {
     Way {
@@ -71,7 +71,7 @@ pub fn way_of(
 ) -> Way
     requires { ⌜ (count ≤ length (now numbers)) × (count ≤ length (now standing)) ⌝ }
     requires { ⌜ count ≤ mostEntries ⌝ }
-    requires { ⌜ ((k : ℕ) → k < count → getD (now standing) k 0 ≤ k) ⌝ }
+    requires { ⌜ ((k : ℕ) → k < count → getD (now standing) k 0 < count) ⌝ }
     ensures { λ r. ⌜ Led e own (now (numbers .entry)) (now (standing .entry)) count r ⌝ }
 {
     if !e.sees {

@@ -28,8 +28,8 @@ use Rattle.lattice_membership.specs.Known.{Left, leftIn}
 use Rattle.catalogue_standing.specs.ReducedEntry.{basisIn}
 use Rattle.catalogue_standing.specs.SameLattice.{noLattice, leftsIn}
 use Rattle.catalogue_standing.specs.Places.{Closed}
-use Rattle.catalogue_standing.specs.Standing.{Held, place-standing, place-below}
-use Rattle.catalogue_standing.specs.ReducedEntries.{WasRead, HoldReduced, ready-length, ready-numbers, keeps-held}
+use Rattle.catalogue_standing.specs.Standing.{StandingPlaces}
+use Rattle.catalogue_standing.specs.ReducedEntries.{WasRead, HoldReduced, ready-length, ready-numbers, keeps-standing}
 use Rattle.catalogue_fold.specs.declared.printing.Way.{Way}
 use Rattle.catalogue_fold.specs.Spread.{Full, kept-full, kept-vectors}
 use Rattle.catalogue_fold.specs.Printing.{Led}
@@ -79,8 +79,8 @@ module _ (c : Catalogue) (r : WasRead c) {list : List Lattice} {places numbers :
   abbrev e : Entry
   e = entryAt c k
 
-  held : Held es o (leftsIn list) places
-  held = keeps-held c r kept closed
+  stood : StandingPlaces es o places
+  stood = keeps-standing c r kept closed
 
   inside : k < length es
   inside = omega (arith, ready-length c r)
@@ -96,8 +96,8 @@ module _ (c : Catalogue) (r : WasRead c) {list : List Lattice} {places numbers :
 
   own : getD numbers (getD places k 0) 0 ≡ standing es (entryIn e) .head .number
   own =
-      ready-numbers c r named .number (getD places k 0) (omega (arith, place-below es o (r .formed) held k inside, inside))
-      ∙ ap (λ f. f .head .number) (place-standing es o (r .formed) held k inside ∙ ap (standing es) found)
+      ready-numbers c r named .number (getD places k 0) (stood .within k inside)
+      ∙ ap (λ f. f .head .number) (stood .at k inside ∙ ap (standing es) found)
 
   pub entry-shown : {w : Way} → Led e (getD numbers (getD places k 0) 0) numbers places (c .count) w
       → entryText (e .number) (getD numbers (getD places k 0) 0) (w .number) (getD list k noLattice .passes) (vectorsOf (leftIn (getD list k noLattice))) ≡ shown (closedList es) (getD (closedList es) k (stoodOf es o))
@@ -106,7 +106,7 @@ module _ (c : Catalogue) (r : WasRead c) {list : List Lattice} {places numbers :
       let ss = closedList es in
       let there = getD numbers (getD places k 0) 0 in
       let led : w .number ≡ seeNumber (followed ss there (entryIn e .see)) =
-      ap (λ w. w .number) (way .leads es o (leftsIn list) (r .formed) held (ready-numbers c r named) (ready-length c r)) in
+      ap (λ w. w .number) (way .leads es o (r .formed) stood (ready-numbers c r named) (ready-length c r)) in
       ap (λ l. entryText n there l (getD list k noLattice .passes) (vectorsOf (leftIn (getD list k noLattice)))) led
       ∙ ap (λ q. entryText n there (seeNumber (followed ss there (entryIn e .see))) (q .passes) (vectorsOf q)) (kept .at k here .left)
       ∙ ap₂ (entryText n there (seeNumber (followed ss there (entryIn e .see)))) (ap (λ a. a .passes) (entry-reduction (entryIn e) sound)) (kept-vectors (entryIn e) sound)

@@ -13,7 +13,8 @@ use Rattle.integers.specs.All.{All}
 use Rattle.catalogue_rules.specs.Word.{wordsOf}
 use Rattle.catalogue_rules.specs.Catalogue as definition
 use Rattle.catalogue_rules.specs.Catalogue.{Outcome, refused, accepted, mostEntries, mostBytes}
-use Rattle.catalogue_rules.specs.Read.{outside, checked, firstPlace, dependentAt, lostAt, readWords, afterWords, read}
+use Rattle.integers.specs.First.{firstGiven}
+use Rattle.catalogue_rules.specs.Read.{outside, checked, dependentAt, lostAt, readWords, afterWords, read}
 use Rattle.catalogue_rules.specs.Form.{EntryFits, Entered}
 use Rattle.catalogue_rules.specs.Laws.Moves.{WhenAccepted}
 use Rattle.catalogue_records.specs.declared.Catalogue.{Catalogue}
@@ -31,7 +32,7 @@ words bytes = readWords (outside []) 0 (wordsOf bytes)
 
 -- both rows as the code hands catalogues on
 abbrev pub ended : Catalogue → Catalogue
-ended c = unless 5 (firstPlace dependentAt (entriesIn c)) (unless 12 (firstPlace (lostAt (entriesIn c)) (entriesIn c)) c)
+ended c = unless 5 (firstGiven dependentAt (entriesIn c)) (unless 12 (firstGiven (lostAt (entriesIn c)) (entriesIn c)) c)
 
 few : (o : Outcome) → WhenAccepted Entered o → catalogueOf o .count ≤ mostEntries
 few (refused n p) k = omega arith
@@ -48,8 +49,8 @@ stays (accepted es) h = absurd (h refl)
 ends : (o : Outcome) → WhenAccepted Entered o → catalogueOf o .refusal ≡ 0 → catalogueOf (afterWords o) ≡ ended (catalogueOf o)
 ends (refused n p) k e = absurd (k e)
 ends (accepted es) k e =
-    rows (firstPlace dependentAt es) (firstPlace (lostAt es) es)
-    ∙ ap (λ fs. unless 5 (firstPlace dependentAt fs) (unless 12 (firstPlace (lostAt fs) fs) (catalogueOf (accepted es)))) (sym (entries-back es (k .few) (k .fits)))
+    rows (firstGiven dependentAt es) (firstGiven (lostAt es) es)
+    ∙ ap (λ fs. unless 5 (firstGiven dependentAt fs) (unless 12 (firstGiven (lostAt fs) fs) (catalogueOf (accepted es)))) (sym (entries-back es (k .few) (k .fits)))
   where
     rows : (a b : Option ℕ) → catalogueOf (elim a [ some p ↦ refused 5 p | none ↦ elim b [ some p ↦ refused 12 p | none ↦ accepted es ] ]) ≡ unless 5 a (unless 12 b (catalogueOf (accepted es)))
     rows (some p) b = refl
@@ -70,7 +71,7 @@ module _ (o : Outcome) (k : WhenAccepted Entered o) {c : Catalogue} (is : c ≡ 
   after-words e = ap ended is ∙ sym (ends o k (sym (ap (λ c. c .refusal) is) ∙ e))
 
 -- 5, and 12 when there is no 5, and what was read when there is neither
-module _ (c : Catalogue) {f g : Fault} (first : f ≡ faultOf (firstPlace dependentAt (entriesIn c))) (second : g ≡ faultOf (firstPlace (lostAt (entriesIn c)) (entriesIn c))) where
+module _ (c : Catalogue) {f g : Fault} (first : f ≡ faultOf (firstGiven dependentAt (entriesIn c))) (second : g ≡ faultOf (firstGiven (lostAt (entriesIn c)) (entriesIn c))) where
   abbrev by : Option ℕ → Option ℕ → Catalogue
   by a b = unless 5 a (unless 12 b c)
 
@@ -89,13 +90,13 @@ module _ (c : Catalogue) {f g : Fault} (first : f ≡ faultOf (firstPlace depend
   neither-left none none e d h k = refl
 
   pub ended-5 : f .found ≡ true → noCatalogue 5 (f .at) ≡ ended c
-  ended-5 h = dependent-first (firstPlace dependentAt (entriesIn c)) (firstPlace (lostAt (entriesIn c)) (entriesIn c)) first h
+  ended-5 h = dependent-first (firstGiven dependentAt (entriesIn c)) (firstGiven (lostAt (entriesIn c)) (entriesIn c)) first h
 
   pub ended-12 : f .found ≡ false → g .found ≡ true → noCatalogue 12 (g .at) ≡ ended c
-  ended-12 h k = lost-then (firstPlace dependentAt (entriesIn c)) (firstPlace (lostAt (entriesIn c)) (entriesIn c)) first second h k
+  ended-12 h k = lost-then (firstGiven dependentAt (entriesIn c)) (firstGiven (lostAt (entriesIn c)) (entriesIn c)) first second h k
 
   pub ended-well : f .found ≡ false → g .found ≡ false → c ≡ ended c
-  ended-well h k = neither-left (firstPlace dependentAt (entriesIn c)) (firstPlace (lostAt (entriesIn c)) (entriesIn c)) first second h k
+  ended-well h k = neither-left (firstGiven dependentAt (entriesIn c)) (firstGiven (lostAt (entriesIn c)) (entriesIn c)) first second h k
 
 -- ---- the row "whole file", then the words
 

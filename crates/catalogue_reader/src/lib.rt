@@ -9,7 +9,8 @@ ghost use Rattle.integers.specs.All.{All};
 ghost use Rattle.lattices.specs.Volume.{isDependent};
 ghost use Rattle.integers.specs.Every.{any};
 ghost use Rattle.catalogue_rules.specs.Word.{wordsOf};
-ghost use Rattle.catalogue_rules.specs.Read.{read, outside, readWords, firstPlace, dependentAt, lostAt};
+ghost use Rattle.integers.specs.First.{firstGiven};
+ghost use Rattle.catalogue_rules.specs.Read.{read, outside, readWords, dependentAt, lostAt};
 ghost use Rattle.catalogue_records.specs.Catalogues.{catalogueOf};
 ghost use Rattle.catalogue_reader.specs.Readings.{isClosed, isNumber};
 ghost use Rattle.catalogue_reader.specs.Words.{wordIn};
@@ -152,7 +153,7 @@ fn faultless() -> Fault
 fn first_dependent(c: Catalogue) -> Fault
     requires { ⌜ c .count ≤ mostEntries ⌝ }
     requires { ⌜ All EntryFits (entriesIn c) ⌝ }
-    ensures { λ r. ⌜ r ≡ faultOf (firstPlace dependentAt (entriesIn c)) ⌝ }
+    ensures { λ r. ⌜ r ≡ faultOf (firstGiven dependentAt (entriesIn c)) ⌝ }
 {
     for k in 0..c.count {
         let e = c.entries[k];
@@ -177,7 +178,7 @@ fn lost(e: Entry, numbers: &[u32], count: usize) -> bool
 // Row "after reading", 12: the first see word that names no entry.
 fn first_lost(c: Catalogue) -> Fault
     requires { ⌜ c .count ≤ mostEntries ⌝ }
-    ensures { λ r. ⌜ r ≡ faultOf (firstPlace (lostAt (entriesIn c)) (entriesIn c)) ⌝ }
+    ensures { λ r. ⌜ r ≡ faultOf (firstGiven (lostAt (entriesIn c)) (entriesIn c)) ⌝ }
 {
     let numbers = catalogue_records::numbers(c);
     for k in 0..c.count {

@@ -14,7 +14,7 @@ use Rattle.integers.specs.AllLaws.{getD-map, all-at}
 use Rattle.lattices.specs.Refusal.{vectorsOf}
 use Rattle.catalogue_rules.specs.Catalogue as definition
 use Rattle.catalogue_rules.specs.Catalogue.{See, coordinates, seeNumber, mostEntries, mostNumbers}
-use Rattle.catalogue_rules.specs.Read.{firstPlace}
+use Rattle.integers.specs.First.{firstGiven}
 use Rattle.catalogue_rules.specs.Form.{EntryFits}
 use Rattle.catalogue_rules.specs.Laws.EntriesAccepted.{count-coordinates, few-coordinates, vectors-back}
 use Rattle.catalogue_records.specs.declared.Entry.{Entry}
@@ -90,21 +90,21 @@ module _ (c : Catalogue) (long : length (c .entries) ≡ mostEntries) (few : c .
     module _ {f : definition.Entry → Option ℕ} {t : Bool} {p : ℕ} (says : Says f (entryIn (entryAt c k)) t p) where
       -- the place that is told, or the first after it
       told : Bool → Option ℕ
-      told t = elim (placeIf t p) [ some q ↦ some q | none ↦ firstPlace f (drop (suc k) (entriesIn c)) ]
+      told t = elim (placeIf t p) [ some q ↦ some q | none ↦ firstGiven f (drop (suc k) (entriesIn c)) ]
 
-      first-from : firstPlace f (drop k (entriesIn c)) ≡ told t
+      first-from : firstGiven f (drop k (entriesIn c)) ≡ told t
       unfolding told
       first-from =
-          ap (firstPlace f) (drop-cons (entriesIn c) k (entryIn beyond) inside)
-          ∙ ap (λ o. elim o [ some q ↦ some q | none ↦ firstPlace f (drop (suc k) (entriesIn c)) ]) (ap f at-place ∙ sym (says .place))
+          ap (firstGiven f) (drop-cons (entriesIn c) k (entryIn beyond) inside)
+          ∙ ap (λ o. elim o [ some q ↦ some q | none ↦ firstGiven f (drop (suc k) (entriesIn c)) ]) (ap f at-place ∙ sym (says .place))
 
-      pub first-here : t ≡ true → firstPlace f (drop k (entriesIn c)) ≡ some p
+      pub first-here : t ≡ true → firstGiven f (drop k (entriesIn c)) ≡ some p
       unfolding told
       first-here e = first-from ∙ ap told e
 
-      pub first-later : t ≡ false → firstPlace f (drop k (entriesIn c)) ≡ firstPlace f (drop (k + 1) (entriesIn c))
+      pub first-later : t ≡ false → firstGiven f (drop k (entriesIn c)) ≡ firstGiven f (drop (k + 1) (entriesIn c))
       unfolding told
-      first-later e = first-from ∙ ap told e ∙ ap (λ n. firstPlace f (drop n (entriesIn c))) (sym (add-one k))
+      first-later e = first-from ∙ ap told e ∙ ap (λ n. firstGiven f (drop n (entriesIn c))) (sym (add-one k))
 
-  pub first-end : (f : definition.Entry → Option ℕ) (k : ℕ) → c .count ≤ k → firstPlace f (drop k (entriesIn c)) ≡ none
-  first-end f k h = ap (firstPlace f) (drop-of-length-le (entriesIn c) {i = k} (omega (arith, length-entries)))
+  pub first-end : (f : definition.Entry → Option ℕ) (k : ℕ) → c .count ≤ k → firstGiven f (drop k (entriesIn c)) ≡ none
+  first-end f k h = ap (firstGiven f) (drop-of-length-le (entriesIn c) {i = k} (omega (arith, length-entries)))

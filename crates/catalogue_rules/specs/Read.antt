@@ -10,6 +10,7 @@ use lib.ListN.{length}
 use lib.Signed.{ltZ}
 use Rattle.lattices.specs.Vector.{Vec, N}
 use Rattle.lattices.specs.Volume.{isDependent}
+use Rattle.integers.specs.First.{firstGiven}
 use Rattle.integers.specs.Every.{any}
 use Rattle.lattices.specs.Refusal.{oneTo, mostVectors, mostCoordinates, mostSquare, mostSize}
 use Rattle.catalogue_rules.specs.Word.{Word, head, coordinate, see, end, other, decode, wordsOf}
@@ -116,11 +117,6 @@ unfoldable pub readWords : State → ℕ → List ℕ → Outcome
 readWords s i [] = atLast s i
 readWords s i (w ∷ words) = elim (step s i (decode w)) [ next t ↦ readWords t (suc i) words | stop n ↦ refused n i ]
 
--- R8.6, R8.9, R9.5, R9.12: row "after reading": the first place of which a test speaks, entry by entry
-abbrev pub firstPlace : (Entry → Option ℕ) → List Entry → Option ℕ
-firstPlace f [] = none
-firstPlace f (e ∷ es) = elim (f e) [ some p ↦ some p | none ↦ firstPlace f es ]
-
 -- R8.6, R8.9, R9.5, R9.12: 5 stands at the head
 abbrev pub dependentAt : Entry → Option ℕ
 dependentAt e = elim (isDependent (e .head .m) (e .vectors)) [ true ↦ some (e .head .place) | false ↦ none ]
@@ -132,11 +128,11 @@ lostAt es e = elim (e .see) [
   | some s ↦ elim (any (isNumbered (s .number)) es) [ true ↦ none | false ↦ some (s .place) ]
 ]
 
--- R8.6, R8.9, R9.5, R9.12
+-- R8.6, R8.9, R9.5, R9.12: row "after reading": 5 where the first entry has it; where no entry has it, 12 at the first such see word
 abbrev pub afterReading : List Entry → Outcome
-afterReading es = elim (firstPlace dependentAt es) [
+afterReading es = elim (firstGiven dependentAt es) [
   | some p ↦ refused 5 p
-  | none ↦ elim (firstPlace (lostAt es) es) [ some p ↦ refused 12 p | none ↦ accepted es ]
+  | none ↦ elim (firstGiven (lostAt es) es) [ some p ↦ refused 12 p | none ↦ accepted es ]
 ]
 
 -- R8.6, R8.9, R9.5, R9.12: of words that were read to the end

@@ -3,7 +3,7 @@ use mathlib.Core.Path.{_≡_, refl, sym, ap, ap₂, _∙_}
 use mathlib.Core.Bool.{Bool, false, _||_}
 use mathlib.Core.List.{List, [], _∷_}
 use mathlib.Core.Option.{none, some}
-use Prim.Native.Nat.{ℕ, suc, _≤_, _<_}
+use Prim.Native.Nat.{ℕ, suc, _<_}
 use native.Mathlib.Omega.{arith}
 use lib.Dec.{eqb}
 use lib.ListN.{length, getD}
@@ -15,9 +15,8 @@ use Rattle.catalogue_rules.specs.Form.{WellFormed}
 use Rattle.fold_rules.specs.Fold.{sameLattice, standing, closedList, lookup}
 use Rattle.fold_rules.specs.Laws.Lookup.{lookup-finds, lookup-misses}
 use Rattle.fold_rules.specs.Laws.Searching.{among-at}
-use Rattle.lattice_membership.specs.Known.{Left}
 use Rattle.catalogue_standing.specs.Places.{First}
-use Rattle.catalogue_standing.specs.Standing.{Held, Numbers, place-below, place-standing}
+use Rattle.catalogue_standing.specs.Standing.{StandingPlaces, Numbers}
 use Rattle.catalogue_standing.specs.OneEntry.{first-standing}
 
 none-at : {A : Type 0} (f : A → Bool) (l : List A) (d : A) → ((k : ℕ) → k < length l → f (getD l k d) ≡ false) → any f l ≡ false
@@ -26,22 +25,22 @@ none-at f (x ∷ l) d h = ap₂ _||_ (h 0 (omega arith)) (none-at f l d (λ k m.
 
 module _ (es : List Entry) (o : Entry) (w : WellFormed es) {numbers : List ℕ} (named : Numbers es o numbers) (n : ℕ) {k : ℕ} (first : First (λ k. eqb (getD numbers k 0) n) (length es) k) where
   -- r is the place of the standing entry of entry k
-  lookup-at : k < length es → {r : ℕ} → r ≤ k → getD es r o ≡ standing es (getD es k o) → lookup (closedList es) n ≡ some (getD numbers r 0)
+  lookup-at : k < length es → {r : ℕ} → r < length es → getD es r o ≡ standing es (getD es k o) → lookup (closedList es) n ≡ some (getD numbers r 0)
   lookup-at h {r} l s =
       let e = getD es k o in
       let same : e .head .number ≡ n = sym (named .number k h) ∙ eqb-true (getD numbers k 0) n (first .here h) in
       ap (lookup (closedList es)) (sym same)
-      ∙ lookup-finds es es (w .entered .distinct) e (among-at es o k h)
+      ∙ lookup-finds sameLattice es es (w .entered .distinct) e (among-at es o k h)
       ∙ ap (λ f. some (f .head .number)) (sym s)
-      ∙ ap some (sym (named .number r (omega (arith, l, h))))
+      ∙ ap some (sym (named .number r l))
 
   -- as the closed list has it
-  pub lookup-found : k < length es → {list : List Left} {places : List ℕ} → Held es o list places → lookup (closedList es) n ≡ some (getD numbers (getD places k 0) 0)
-  lookup-found h held = lookup-at h (place-below es o w held k h) (place-standing es o w held k h)
+  pub lookup-found : k < length es → {places : List ℕ} → StandingPlaces es o places → lookup (closedList es) n ≡ some (getD numbers (getD places k 0) 0)
+  lookup-found h stood = lookup-at h (stood .within k h) (stood .at k h)
 
   -- as it is found for one entry
   pub lookup-first : (h : k < length es) {r : ℕ} → First (λ j. sameLattice (getD es j o) (getD es k o)) k r → lookup (closedList es) n ≡ some (getD numbers r 0)
-  lookup-first h found = lookup-at h (found .within) (first-standing es o w k h found)
+  lookup-first h found = lookup-at h (omega (arith, found .within)) (first-standing es o w k h found)
 
   pub lookup-lost : k ≡ length es → lookup (closedList es) n ≡ none
-  lookup-lost e = lookup-misses es es n (none-at (isNumbered n) es o (λ j h. ap (λ m. eqb m n) (sym (named .number j h)) ∙ first .before j (omega arith)))
+  lookup-lost e = lookup-misses sameLattice es es n (none-at (isNumbered n) es o (λ j h. ap (λ m. eqb m n) (sym (named .number j h)) ∙ first .before j (omega arith)))

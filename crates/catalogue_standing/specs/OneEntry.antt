@@ -19,7 +19,7 @@ use Rattle.lattice_membership.specs.Known.{vectorsIn}
 use Rattle.catalogue_rules.specs.Catalogue.{Entry}
 use Rattle.catalogue_rules.specs.Form.{WellFormed}
 use Rattle.fold_rules.specs.Fold.{holds, sameLattice, firstEntry, standing}
-use Rattle.fold_rules.specs.Laws.SameLattice.{Sound, sound-entries, entry-basis}
+use Rattle.fold_rules.specs.Laws.SameLattice.{Sound, sound-entries, entry-basis, one-lattice}
 use Rattle.fold_rules.specs.Laws.Adding.{standing-new}
 use Rattle.fold_rules.specs.Laws.Searching.{first-found, first-none}
 use Rattle.catalogue_standing.specs.ReducedEntry.{reducedEntry, held-vectors, held-is}
@@ -68,7 +68,7 @@ module _ (es : List Entry) (o : Entry) (w : WellFormed es) (k : ℕ) (h : k < le
   past-long = length-take-le k es (le-of-lt h)
 
   standing-first : standing es (at k) ≡ firstEntry (λ f. sameLattice f (at k)) (at k) past
-  standing-first = ap (λ l. standing l (at k)) (sym split) ∙ standing-new past (at k) (drop (suc k) es) (all-at Sound es o (sound-entries es w) k h)
+  standing-first = ap (λ l. standing l (at k)) (sym split) ∙ standing-new one-lattice past (at k) (drop (suc k) es) (all-at Sound es o (sound-entries es w) k h)
 
   pub first-standing : {r : ℕ} → First (λ j. sameLattice (at j) (at k)) k r → at r ≡ standing es (at k)
   first-standing {r} found = go (decLt r k)

@@ -22,7 +22,7 @@ use Rattle.lattice_membership.specs.declared.Lattice.{Lattice}
 use Rattle.catalogue_standing.specs.ReducedEntry.{reducedEntry}
 use Rattle.catalogue_standing.specs.SameLattice.{LatticeOf, FairLattice, noLattice, leftsIn, left-at}
 use Rattle.catalogue_standing.specs.Places.{Closed}
-use Rattle.catalogue_standing.specs.Standing.{Held, Numbers}
+use Rattle.catalogue_standing.specs.Standing.{Held, StandingPlaces, Numbers, standing-places}
 
 -- the lattices of the first n entries
 pub record HoldReduced (c : Catalogue) (n : ℕ) (list : List Lattice) : Type 0 where
@@ -72,6 +72,9 @@ module _ (c : Catalogue) (r : WasRead c) where
       kept = λ k h. left-at list k ∙ kept .at k (omega (arith, ready-length)) .left ∙ ap reducedEntry (sym (at-place c (r .long) (r .few) k (omega (arith, ready-length))));
       closed = subst (λ n. Closed (leftsIn list) n places) (sym ready-length) p;
     }
+
+    pub keeps-standing : {places : List ℕ} → Closed (leftsIn list) (c .count) places → StandingPlaces (entriesIn c) (entryIn beyond) places
+    keeps-standing p = standing-places (entriesIn c) (entryIn beyond) (r .formed) (keeps-held p)
 
   pub ready-numbers : {numbers : List ℕ} → numbers ≡ map (λ e. e .number) (c .entries) → Numbers (entriesIn c) (entryIn beyond) numbers
   ready-numbers e = record {

@@ -16,7 +16,7 @@ use Rattle.catalogue_rules.specs.Form.{Distinct, WellFormed}
 use Rattle.integers.specs.AllLaws.{all-at}
 use Rattle.fold_rules.specs.Meaning.{Among}
 use Rattle.fold_rules.specs.Fold.{sameLattice, firstEntry, standing, stoodOf, stands}
-use Rattle.fold_rules.specs.Laws.SameLattice.{Sound, sound-entries}
+use Rattle.fold_rules.specs.Laws.SameLattice.{Sound, sound-entries, one-lattice}
 use Rattle.fold_rules.specs.Laws.Standing.{not-used}
 use Rattle.fold_rules.specs.Laws.Adding.{standing-kept}
 use Rattle.fold_rules.specs.Laws.Searching.{among-at, first-found, first-none, standing-past}
@@ -46,6 +46,11 @@ eqb-same a b c d f g = go (eqb a b) refl (eqb c d) refl
 pub record Held (es : List Entry) (o : Entry) (list : List Left) (places : List ℕ) : Type 0 where
   pub kept : (k : ℕ) → k < length es → getD list k noReduced ≡ reducedEntry (getD es k o)
   pub closed : Closed list (length es) places
+
+-- the places of the standing entries, o standing beyond the end
+pub record StandingPlaces (es : List Entry) (o : Entry) (places : List ℕ) : Type 0 where
+  pub within : (k : ℕ) → k < length es → getD places k 0 < length es
+  pub at : (k : ℕ) → k < length es → getD es (getD places k 0) o ≡ standing es (getD es k o)
 
 -- the numbers of the entries, o standing beyond the end
 pub record Numbers (es : List Entry) (o : Entry) (numbers : List ℕ) : Type 0 where
@@ -97,7 +102,7 @@ module _ (es : List Entry) (o : Entry) (w : WellFormed es) {list : List Left} {p
     has f = stands (stoodOf past f) && sameLattice f (at k)
 
     standing-first : standing es (at k) ≡ firstEntry has (at k) past
-    standing-first = ap (λ l. standing l (at k)) (sym split) ∙ standing-past past (at k) rest sound-split
+    standing-first = ap (λ l. standing l (at k)) (sym split) ∙ standing-past one-lattice past (at k) rest sound-split
 
     -- an entry before k stands when its place is its own
     module _ (before : (j : ℕ) → j < k → at (place j) ≡ standing es (at j)) where
@@ -107,7 +112,7 @@ module _ (es : List Entry) (o : Entry) (w : WellFormed es) {list : List Left} {p
           let below = place-below j (omega arith) in
           let taken : getD past j o ≡ f = getD-take k es j o l in
           let kept : standing past f ≡ at (place j) =
-          sym (standing-kept past (at k ∷ rest) sound-split f (subst (λ g. Among g past) taken (among-at past o j (omega (arith, past-long)))))
+          sym (standing-kept one-lattice past (at k ∷ rest) sound-split f (subst (λ g. Among g past) taken (among-at past o j (omega (arith, past-long)))))
           ∙ ap (λ l. standing l f) split ∙ sym (before j l) in
           ap (λ g. stands (stoodOf past g)) taken ∙ ap (λ g. eqb (f .head .number) (g .head .number)) kept ∙ own-place j (omega arith) (omega arith)
 
@@ -142,3 +147,6 @@ module _ (es : List Entry) (o : Entry) (w : WellFormed es) {list : List Left} {p
   pub stands-place : (k : ℕ) → k < length es → stands (stoodOf es (at k)) ≡ eqb (place k) k
   stands-place k h =
       ap (λ g. eqb (at k .head .number) (g .head .number)) (sym (place-standing k h)) ∙ own-place k (omega (arith, place-below k h)) h
+
+  pub standing-places : StandingPlaces es o places
+  standing-places = record { within = λ k h. omega (arith, place-below k h); at = place-standing }

@@ -3,7 +3,7 @@ use libc::STDERR_FILENO;
 
 // Writes the program's name and version.
 pub(crate) fn version() {
-    cli_output::write(b"raghymtos 0.2.0\n");
+    cli_output::write(b"raghymtos 0.3.0\n");
 }
 
 // Says what may be asked for, on standard error.
@@ -65,7 +65,11 @@ fn usage() {
     );
     go = line(
         go,
-        b"fold [FILE]           a catalogue, from standard input where no file is named; writes the folded catalogue",
+        b"fold [FILE]           a catalogue, from standard input where no file is named; writes the folded catalogue:",
+    );
+    go = line(
+        go,
+        b"                      the standing entries, each with the first see word of its lattice that leads to another",
     );
     go = line(
         go,
@@ -77,7 +81,7 @@ fn usage() {
     );
     go = line(
         go,
-        b"                      number that its see word leads to, passes; under a standing entry lines v",
+        b"                      number that its own see word leads to, passes; under a standing entry lines v",
     );
     go = line(
         go,

@@ -8,14 +8,16 @@ use lib.Dec.{eqb}
 use lib.ListN.{length}
 use borrow.Author.Tests.{ltb-false}
 use Rattle.integers.specs.All.{All}
-use Rattle.integers.specs.AllLaws.{all-append}
+use Rattle.integers.specs.AllLaws.{all-imp, all-append}
+use Rattle.integers.specs.First.{firstGiven}
+use Rattle.integers.specs.FirstLaws.{given-has}
 use Rattle.lattices.specs.Vector.{Vec}
 use Rattle.lattices.specs.Volume.{isDependent}
 use Rattle.integers.specs.Every.{any}
 use Rattle.catalogue_rules.specs.Word.{Word, head, coordinate, see, end, other, decode, wordsOf}
 use Rattle.catalogue_rules.specs.Laws.Word.{length-words}
 use Rattle.catalogue_rules.specs.Catalogue.{mostWords, mostBytes, Head, See, Entry, Outcome, refused, accepted}
-use Rattle.catalogue_rules.specs.Read.{State, outside, inside, after, closed, Step, next, stop, isNumbered, withEntry, headRows, atHead, coordinateOf, withCoordinate, coordinateRows, atCoordinate, endRows, atEnd, step, atLast, readWords, firstPlace, dependentAt, lostAt, afterWords, fileRows, read}
+use Rattle.catalogue_rules.specs.Read.{State, outside, inside, after, closed, Step, next, stop, isNumbered, withEntry, headRows, atHead, coordinateOf, withCoordinate, coordinateRows, atCoordinate, endRows, atEnd, step, atLast, readWords, dependentAt, lostAt, afterWords, fileRows, read}
 use Rattle.catalogue_rules.specs.Laws.Moves.{checked-case}
 
 -- places up to b
@@ -105,13 +107,8 @@ module _ (b : ℕ) where
   PlaceLow none = Unit {0}
   PlaceLow (some p) = p ≤ b
 
-  first-low : (f : Entry → Option ℕ) → ((e : Entry) → EntryLow e → PlaceLow (f e)) → (es : List Entry) → All EntryLow es → PlaceLow (firstPlace f es)
-  first-low f q [] p = tt
-  first-low f q (e ∷ es) p = go (f e) (q e (p .0)) (first-low f q es (p .1))
-    where
-      go : (o : Option ℕ) → PlaceLow o → PlaceLow (firstPlace f es) → PlaceLow (elim o [ some p ↦ some p | none ↦ firstPlace f es ])
-      go (some p) r more = r
-      go none r more = more
+  first-low : (f : Entry → Option ℕ) → ((e : Entry) → EntryLow e → PlaceLow (f e)) → (es : List Entry) → All EntryLow es → PlaceLow (firstGiven f es)
+  first-low f q es p = given-has f PlaceLow tt es (all-imp q es p)
 
   dependent-low : (e : Entry) → EntryLow e → PlaceLow (dependentAt e)
   dependent-low e p = go (isDependent (e .head .m) (e .vectors))
@@ -133,15 +130,15 @@ module _ (b : ℕ) where
 
   after-low : (o : Outcome) → OutcomeLow o → OutcomeLow (afterWords o)
   after-low (refused n p) q = q
-  after-low (accepted es) q = go (firstPlace dependentAt es) (first-low dependentAt dependent-low es q)
+  after-low (accepted es) q = go (firstGiven dependentAt es) (first-low dependentAt dependent-low es q)
     where
       lost : (o : Option ℕ) → PlaceLow o → OutcomeLow (elim o [ some p ↦ refused 12 p | none ↦ accepted es ])
       lost (some p) r = (omega arith, r)
       lost none r = q
 
-      go : (o : Option ℕ) → PlaceLow o → OutcomeLow (elim o [ some p ↦ refused 5 p | none ↦ elim (firstPlace (lostAt es) es) [ some p ↦ refused 12 p | none ↦ accepted es ] ])
+      go : (o : Option ℕ) → PlaceLow o → OutcomeLow (elim o [ some p ↦ refused 5 p | none ↦ elim (firstGiven (lostAt es) es) [ some p ↦ refused 12 p | none ↦ accepted es ] ])
       go (some p) r = (omega arith, r)
-      go none r = lost (firstPlace (lostAt es) es) (first-low (lostAt es) (lost-low es) es q)
+      go none r = lost (firstGiven (lostAt es) es) (first-low (lostAt es) (lost-low es) es q)
 
 pub read-low : (bytes : List ℕ) → OutcomeLow mostWords (read bytes)
 unfolding read

@@ -85,6 +85,62 @@ fn see_words() {
     listed(b);
 }
 
+// Entry 40 is folded into 12, which has no see word: 12 carries its reference.
+fn a_folded_reference() {
+    let b =
+        b"\x11\x0c\x00\x10\x22\x4e\x00\x20\x11\x28\x00\x10\x1e\x4e\x00\x20\x07\x00\x00\x30\x11\x07\x00\x10\x23\x4e\x00\x20\x03\x00\x00\x40";
+    folded(b"a folded reference", b);
+    listed(b);
+}
+
+// The own word of 1 leads back to 1, and 3, which is folded into it, has one that leads to 2.
+fn own_word_back() {
+    let b =
+        b"\x11\x01\x00\x10\x22\x4e\x00\x20\x03\x00\x00\x30\x11\x02\x00\x10\x25\x4e\x00\x20\x11\x03\x00\x10\x1e\x4e\x00\x20\x02\x00\x00\x30\x03\x00\x00\x40";
+    folded(b"an own word that leads back", b);
+    listed(b);
+}
+
+// The word of 2 leads to the entry that it is folded into, and does not hide that of 3.
+fn folded_word_back() {
+    let b =
+        b"\x11\x01\x00\x10\x22\x4e\x00\x20\x11\x02\x00\x10\x1e\x4e\x00\x20\x01\x00\x00\x30\x11\x03\x00\x10\x22\x4e\x00\x20\x04\x00\x00\x30\x11\x04\x00\x10\x25\x4e\x00\x20\x04\x00\x00\x40";
+    folded(b"a folded reference that leads back", b);
+    listed(b);
+}
+
+// Both entries that are folded into 1 have a see word: the first is carried.
+fn two_words() {
+    let b =
+        b"\x11\x01\x00\x10\x22\x4e\x00\x20\x11\x02\x00\x10\x23\x4e\x00\x20\x11\x03\x00\x10\x25\x4e\x00\x20\x11\x04\x00\x10\x1e\x4e\x00\x20\x03\x00\x00\x30\x11\x05\x00\x10\x22\x4e\x00\x20\x02\x00\x00\x30\x05\x00\x00\x40";
+    folded(b"two folded references", b);
+    listed(b);
+}
+
+// The words of two folded entries lead to each other's standing entries.
+fn folded_circle() {
+    let b =
+        b"\x11\x01\x00\x10\x22\x4e\x00\x20\x11\x02\x00\x10\x23\x4e\x00\x20\x11\x03\x00\x10\x1e\x4e\x00\x20\x02\x00\x00\x30\x11\x04\x00\x10\x1d\x4e\x00\x20\x03\x00\x00\x30\x04\x00\x00\x40";
+    folded(b"a circle of folded references", b);
+    listed(b);
+}
+
+// All words lead to entries that are folded into the same lattice: none is carried.
+fn within_one_lattice() {
+    let b =
+        b"\x11\x01\x00\x10\x22\x4e\x00\x20\x11\x02\x00\x10\x1e\x4e\x00\x20\x03\x00\x00\x30\x11\x03\x00\x10\x22\x4e\x00\x20\x01\x00\x00\x30\x03\x00\x00\x40";
+    folded(b"references within one lattice", b);
+    listed(b);
+}
+
+// The own word of 1 leads to 2, so that of 3 is not carried.
+fn own_word_first() {
+    let b =
+        b"\x11\x01\x00\x10\x22\x4e\x00\x20\x02\x00\x00\x30\x11\x02\x00\x10\x23\x4e\x00\x20\x11\x03\x00\x10\x1e\x4e\x00\x20\x04\x00\x00\x30\x11\x04\x00\x10\x25\x4e\x00\x20\x04\x00\x00\x40";
+    folded(b"an own word before a folded one", b);
+    listed(b);
+}
+
 // The same vectors with a zero more are of another m.
 fn other_m() {
     let b =
@@ -158,6 +214,13 @@ fn short() {
 fn main() {
     in_full();
     see_words();
+    a_folded_reference();
+    own_word_back();
+    folded_word_back();
+    two_words();
+    folded_circle();
+    within_one_lattice();
+    own_word_first();
     other_m();
     second_reduced();
     no_entries();

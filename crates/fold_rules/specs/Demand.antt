@@ -19,10 +19,10 @@ use Rattle.catalogue_rules.specs.Write.{write}
 use Rattle.catalogue_rules.specs.Output.{Output, untouched, filledWith, output}
 use Rattle.catalogue_rules.specs.Form.{Names, WellFormed}
 use Rattle.catalogue_rules.specs.Laws.WellFormed.{well-formed}
-use Rattle.fold_rules.specs.Fold.{standing, closedList, lookup, folded}
+use Rattle.fold_rules.specs.Fold.{sameLattice, standing, closedList, lookup, folded}
 use Rattle.fold_rules.specs.Services.{foldedOutcome, foldOf, lookedUp, lookedIn, lookupOf}
 use Rattle.fold_rules.specs.Meaning.{Among, OneLattice, Stands, Sees, Prints, Folds, Finds, LooksUp}
-use Rattle.fold_rules.specs.Laws.SameLattice.{sound-entries, one-trans}
+use Rattle.fold_rules.specs.Laws.SameLattice.{sound-entries, one-trans, one-lattice}
 use Rattle.fold_rules.specs.Laws.Standing.{all-self, one-number, stands-once, standing-is, standing-among, standing-one, standing-twice}
 use Rattle.fold_rules.specs.Laws.Lookup.{numbered, unused, lookup-finds, lookup-misses}
 use Rattle.fold_rules.specs.Laws.FoldedForm.{folded-accepted}
@@ -70,7 +70,7 @@ fold-theorem file es e =
       readable = readable;
       again = λ out. accepted-fold (write fs) fs readable out ∙ ap (λ gs. output (accepted gs) out) (folded-twice es w) ∙ sym (accepted-fold file es e out);
       printing = folded-prints es w;
-      unique = λ a b s t o. stands-once o s t;
+      unique = λ a b s t o. stands-once one-lattice o s t;
       apart = printing-apart fs (folded-prints es w) (w .entered .distinct);
       named = all-imp (word-named fs) fs (well-formed (write fs) fs readable .named);
     }
@@ -82,22 +82,22 @@ module _ (file : List ℕ) (es : List Entry) (e : read file ≡ accepted es) whe
   w = well-formed file es e
 
   looked : (f : Entry) → Among f es → lookupOf file (f .head .number) ≡ lookedUp (some (standing es f .head .number))
-  looked f a = accepted-lookup file es e (f .head .number) ∙ ap lookedUp (lookup-finds es es (w .entered .distinct) f a)
+  looked f a = accepted-lookup file es e (f .head .number) ∙ ap lookedUp (lookup-finds sameLattice es es (w .entered .distinct) f a)
 
   finds : (f : Entry) → Among f es → Finds file es (f .head .number) f
   finds f a =
       let sound = sound-entries es w in
       let s = standing es f in
-      let there = standing-among es sound f a in
+      let there = standing-among one-lattice es sound f a in
       let gives : s .head .number ≡ lookupOf file (f .head .number) .standing = ap (λ r. r .standing) (sym (looked f a)) in
       let same : (g : Entry) → From es es g → g .head .number ≡ lookupOf file (f .head .number) .standing → OneLattice g f =
       λ g p q. one-trans (p .prints .one) (subst (λ x. OneLattice x f)
-      (sym (one-number es (w .entered .distinct) (p .entry) s (p .among) there (sym (p .prints .number) ∙ q ∙ sym gives))) (standing-one es sound f a)) in
+      (sym (one-number es (w .entered .distinct) (p .entry) s (p .among) there (sym (p .prints .number) ∙ q ∙ sym gives))) (standing-one one-lattice es sound f a)) in
       record {
         accepted = ap (λ r. r .refusal) (looked f a);
-        standing = some-imp (λ h q. (ap (λ x. x .head .number) q ∙ gives, subst (Stands es f) (sym q) (standing-is es sound f a))) es there;
+        standing = some-imp (λ h q. (ap (λ x. x .head .number) q ∙ gives, subst (Stands es f) (sym q) (standing-is one-lattice es sound f a))) es there;
         printed = some-imp (λ g (p : Prints es s g). p .number ∙ gives) (folded es)
-            (printing-some (folded es) (folded-prints es w) s there (subst (Stands es s) (standing-twice es sound f a) (standing-is es sound s there)));
+            (printing-some (folded es) (folded-prints es w) s there (subst (Stands es s) (standing-twice one-lattice es sound f a) (standing-is one-lattice es sound s there)));
         one = all-imp same (folded es) (printing-from (folded es) (folded-prints es w));
       }
 
@@ -111,7 +111,7 @@ module _ (file : List ℕ) (es : List Entry) (e : read file ≡ accepted es) whe
   lookup-theorem = record {
     entries = all-imp finds es (all-self es);
     sees = all-imp sees-found es (w .named);
-    others = λ n h. accepted-lookup file es e n ∙ ap lookedUp (lookup-misses es es n (unused n es h));
+    others = λ n h. accepted-lookup file es e n ∙ ap lookedUp (lookup-misses sameLattice es es n (unused n es h));
   }
 
 -- demand 3: every accepted basis is reduced; for every accepted target the nearest vector is named, and whether it is in the lattice; every

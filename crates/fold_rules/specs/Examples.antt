@@ -5,22 +5,22 @@ use Prim.Native.Nat.{ℕ}
 use lib.ListN.{replicate}
 use Rattle.lattices.specs.Vector.{dot, comb, _⊕_, _⊙_}
 use Rattle.lattices.specs.Volume.{squaredVolume, isDependent}
-use Rattle.lattices.specs.Nearest.{least, nearest, leastBy, nearestBy}
-use Rattle.lattices.specs.Greedy.{insert, order, credited, greedy, greedyBy, insertBy, orderBy}
+use Rattle.lattices.specs.Nearest.{leastBy, nearestBy}
+use Rattle.lattices.specs.Greedy.{credited, greedyBy, insertBy, orderBy}
 use Rattle.successive_minima.specs.Member.{isMember}
 use Rattle.catalogue_rules.specs.Word.{decode, encode, bytesOf}
 use Rattle.catalogue_rules.specs.Read.{step, readWords, read}
 use Rattle.catalogue_rules.specs.Write.{write}
 use Rattle.catalogue_rules.specs.Output.{Output, untouched, filledWith}
 use Rattle.catalogue_rules.specs.Examples.{full}
-use Rattle.fold_rules.specs.Fold.{sameLattice, standing, folded}
+use Rattle.fold_rules.specs.Fold.{sameLattice, standingBy, folded}
 use Rattle.fold_rules.specs.Services.{Lookup, nowhere, foldOf, lookupOf}
 use Rattle.fold_rules.specs.Listing.{listingOf}
 
--- entry 12 is folded into 7, so the see word of entry 9 names 7
+-- entry 12 is folded into 7, so 7 carries its see word, and that of entry 9 names 7
 abbrev pub fullFolded : List ℕ
 fullFolded =
-    0x10000722 ∷ 0x20004E21 ∷ 0x20004E20 ∷ 0x20004E20 ∷ 0x20004E21
+    0x10000722 ∷ 0x20004E21 ∷ 0x20004E20 ∷ 0x20004E20 ∷ 0x20004E21 ∷ 0x30000009
     ∷ 0x10000922 ∷ 0x20004E22 ∷ 0x20004E20 ∷ 0x20004E20 ∷ 0x20004E23 ∷ 0x30000007
     ∷ 0x40000002 ∷ []
 
@@ -50,6 +50,55 @@ circle = 0x10000111 ∷ 0x20004E21 ∷ 0x30000003 ∷ 0x10000211 ∷ 0x20004E1F 
 
 abbrev pub circleFolded : List ℕ
 circleFolded = 0x10000111 ∷ 0x20004E21 ∷ 0x30000003 ∷ 0x10000311 ∷ 0x20004E22 ∷ 0x30000001 ∷ 0x10000411 ∷ 0x20004E23 ∷ 0x40000003 ∷ []
+
+-- the request's own story: entry 40 is folded into 12, which has no see word
+abbrev pub story : List ℕ
+story = 0x10000C11 ∷ 0x20004E22 ∷ 0x10002811 ∷ 0x20004E1E ∷ 0x30000007 ∷ 0x10000711 ∷ 0x20004E23 ∷ 0x40000003 ∷ []
+
+abbrev pub storyFolded : List ℕ
+storyFolded = 0x10000C11 ∷ 0x20004E22 ∷ 0x30000007 ∷ 0x10000711 ∷ 0x20004E23 ∷ 0x40000002 ∷ []
+
+-- the own word of 1 leads back to it, and 3, folded into it, has one that leads to 2
+abbrev pub wordBack : List ℕ
+wordBack = 0x10000111 ∷ 0x20004E22 ∷ 0x30000003 ∷ 0x10000211 ∷ 0x20004E25 ∷ 0x10000311 ∷ 0x20004E1E ∷ 0x30000002 ∷ 0x40000003 ∷ []
+
+abbrev pub wordBackFolded : List ℕ
+wordBackFolded = 0x10000111 ∷ 0x20004E22 ∷ 0x30000002 ∷ 0x10000211 ∷ 0x20004E25 ∷ 0x40000002 ∷ []
+
+-- the word of 2 leads to the entry that it is folded into, and does not hide that of 3
+abbrev pub foldedBack : List ℕ
+foldedBack = 0x10000111 ∷ 0x20004E22 ∷ 0x10000211 ∷ 0x20004E1E ∷ 0x30000001 ∷ 0x10000311 ∷ 0x20004E22 ∷ 0x30000004 ∷ 0x10000411 ∷ 0x20004E25 ∷ 0x40000004 ∷ []
+
+abbrev pub foldedBackFolded : List ℕ
+foldedBackFolded = 0x10000111 ∷ 0x20004E22 ∷ 0x30000004 ∷ 0x10000411 ∷ 0x20004E25 ∷ 0x40000002 ∷ []
+
+-- two entries folded into 1, with different words: the first is carried
+abbrev pub twoWords : List ℕ
+twoWords = 0x10000111 ∷ 0x20004E22 ∷ 0x10000211 ∷ 0x20004E23 ∷ 0x10000311 ∷ 0x20004E25 ∷ 0x10000411 ∷ 0x20004E1E ∷ 0x30000003 ∷ 0x10000511 ∷ 0x20004E22 ∷ 0x30000002 ∷ 0x40000005 ∷ []
+
+abbrev pub twoWordsFolded : List ℕ
+twoWordsFolded = 0x10000111 ∷ 0x20004E22 ∷ 0x30000003 ∷ 0x10000211 ∷ 0x20004E23 ∷ 0x10000311 ∷ 0x20004E25 ∷ 0x40000003 ∷ []
+
+-- the words of 3 and 4 lead to each other's standing entries
+abbrev pub foldedCircle : List ℕ
+foldedCircle = 0x10000111 ∷ 0x20004E22 ∷ 0x10000211 ∷ 0x20004E23 ∷ 0x10000311 ∷ 0x20004E1E ∷ 0x30000002 ∷ 0x10000411 ∷ 0x20004E1D ∷ 0x30000003 ∷ 0x40000004 ∷ []
+
+abbrev pub foldedCircleFolded : List ℕ
+foldedCircleFolded = 0x10000111 ∷ 0x20004E22 ∷ 0x30000002 ∷ 0x10000211 ∷ 0x20004E23 ∷ 0x30000001 ∷ 0x40000002 ∷ []
+
+-- words to entries that are folded into the same lattice
+abbrev pub withinOne : List ℕ
+withinOne = 0x10000111 ∷ 0x20004E22 ∷ 0x10000211 ∷ 0x20004E1E ∷ 0x30000003 ∷ 0x10000311 ∷ 0x20004E22 ∷ 0x30000001 ∷ 0x40000003 ∷ []
+
+abbrev pub withinOneFolded : List ℕ
+withinOneFolded = 0x10000111 ∷ 0x20004E22 ∷ 0x40000001 ∷ []
+
+-- the own word of 1 leads to 2, so that of 3 is not carried
+abbrev pub ownFirst : List ℕ
+ownFirst = 0x10000111 ∷ 0x20004E22 ∷ 0x30000002 ∷ 0x10000211 ∷ 0x20004E23 ∷ 0x10000311 ∷ 0x20004E1E ∷ 0x30000004 ∷ 0x10000411 ∷ 0x20004E25 ∷ 0x40000004 ∷ []
+
+abbrev pub ownFirstFolded : List ℕ
+ownFirstFolded = 0x10000111 ∷ 0x20004E22 ∷ 0x30000002 ∷ 0x10000211 ∷ 0x20004E23 ∷ 0x10000411 ∷ 0x20004E25 ∷ 0x40000003 ∷ []
 
 -- the same vector with a zero coordinate more is in another lattice
 abbrev pub wider : List ℕ
@@ -84,11 +133,18 @@ refuses words room number place = record { file = bytesOf words; lent = replicat
 
 abbrev pub examples : List Example
 examples =
-    gives full 50 fullFolded
-    ∷ gives full 48 fullFolded
-    ∷ refuses full 47 16 0
-    ∷ gives fullFolded 48 fullFolded
+    gives full 54 fullFolded
+    ∷ gives full 52 fullFolded
+    ∷ refuses full 51 16 0
+    ∷ gives fullFolded 52 fullFolded
     ∷ gives circle 100 circleFolded
+    ∷ gives story 64 storyFolded
+    ∷ gives wordBack 64 wordBackFolded
+    ∷ gives foldedBack 64 foldedBackFolded
+    ∷ gives twoWords 64 twoWordsFolded
+    ∷ gives foldedCircle 64 foldedCircleFolded
+    ∷ gives withinOne 64 withinOneFolded
+    ∷ gives ownFirst 64 ownFirstFolded
     ∷ gives wider 24 wider
     ∷ gives longBases 44 longBasesFolded
     ∷ gives (0x40000000 ∷ []) 4 (0x40000000 ∷ [])
@@ -96,13 +152,13 @@ examples =
     ∷ []
 
 pub folds-hold : map (λ x. foldOf (x .file) (x .lent)) examples ≡ map (λ x. x .output) examples
-unfolding dot comb _⊕_ _⊙_ squaredVolume isDependent leastBy nearestBy insertBy orderBy credited greedyBy isMember decode encode step readWords read write sameLattice standing folded foldOf
+unfolding dot comb _⊕_ _⊙_ squaredVolume isDependent leastBy nearestBy insertBy orderBy credited greedyBy isMember decode encode step readWords read write sameLattice standingBy folded foldOf
 folds-hold = refl
 
 pub lookups-hold : map (lookupOf (bytesOf full)) (7 ∷ 9 ∷ 12 ∷ 8 ∷ []) ++ (lookupOf [] 7 ∷ []) ≡ finds 7 ∷ finds 9 ∷ finds 7 ∷ nowhere 17 0 ∷ nowhere 10 0 ∷ []
-unfolding dot comb _⊕_ _⊙_ squaredVolume isDependent leastBy nearestBy insertBy orderBy credited greedyBy isMember decode encode step readWords read sameLattice standing lookupOf
+unfolding dot comb _⊕_ _⊙_ squaredVolume isDependent leastBy nearestBy insertBy orderBy credited greedyBy isMember decode encode step readWords read sameLattice standingBy lookupOf
 lookups-hold = refl
 
 pub listings-hold : map listingOf (bytesOf full ∷ [] ∷ []) ≡ fullListing ∷ refusedListing ∷ []
-unfolding dot comb _⊕_ _⊙_ squaredVolume isDependent leastBy nearestBy insertBy orderBy credited greedyBy isMember decode encode step readWords read sameLattice standing listingOf
+unfolding dot comb _⊕_ _⊙_ squaredVolume isDependent leastBy nearestBy insertBy orderBy credited greedyBy isMember decode encode step readWords read sameLattice standingBy listingOf
 listings-hold = refl

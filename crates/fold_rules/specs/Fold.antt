@@ -1,10 +1,12 @@
--- The fold (document 01, "The fold"): one lattice, the standing entry, the closed list, where a see word leads, the folded catalogue.
+-- The fold (document 01, "The fold"; document 02, ask 1): one lattice, the standing entry, the closed list, where a see word leads and which of
+-- them a standing entry carries, the folded catalogue.
 use mathlib.Core.Bool.{Bool, true, false, _&&_}
 use mathlib.Core.List.{List, [], _∷_, map}
 use mathlib.Core.Option.{Option, none, some}
 use Prim.Native.Nat.{ℕ}
 use lib.Dec.{eqb}
 use Rattle.integers.specs.Every.{every}
+use Rattle.integers.specs.First.{firstGiven}
 use Rattle.lattices.specs.Vector.{Vec}
 use Rattle.lattices.specs.Greedy.{vectors, reduction}
 use Rattle.successive_minima.specs.Member.{isMember}
@@ -33,24 +35,34 @@ abbrev pub firstEntry : (Entry → Bool) → Entry → List Entry → Entry
 firstEntry has other [] = other
 firstEntry has other (e ∷ es) = elim (has e) [ true ↦ e | false ↦ firstEntry has other es ]
 
--- R7.1: "The standing entry of an entry is the first in the file with the same m and the same lattice."
-unfoldable pub standing : List Entry → Entry → Entry
-standing es e = firstEntry (λ f. sameLattice f e) e es
-
--- ---- the closed list: every entry has its standing entry before any see word is resolved
-
--- R7.6
+-- R7.6: an entry and its standing entry
 pub record Stood : Type 0 where
   pub entry : Entry
   pub standing : Entry
 
--- R7.6
-abbrev pub stoodOf : List Entry → Entry → Stood
-stoodOf es e = record { entry = e; standing = standing es e }
+-- `same` is the test for one lattice; what follows from the rules asks only that it decides an equivalence
+module _ (same : Entry → Entry → Bool) where
+  -- R7.1: "The standing entry of an entry is the first in the file with the same m and the same lattice."
+  unfoldable pub standingBy : List Entry → Entry → Entry
+  standingBy es e = firstEntry (λ f. same f e) e es
 
--- R7.6
+  -- R7.6
+  abbrev pub stoodBy : List Entry → Entry → Stood
+  stoodBy es e = record { entry = e; standing = standingBy es e }
+
+  -- R7.6: the closed list: every entry has its standing entry before any see word is resolved
+  abbrev pub closedBy : List Entry → List Stood
+  closedBy es = map (stoodBy es) es
+
+-- R7.1, R7.6: the same for the lattices of entries. From the closed list on no rule looks at a lattice
+abbrev pub standing : List Entry → Entry → Entry
+standing = standingBy sameLattice
+
+abbrev pub stoodOf : List Entry → Entry → Stood
+stoodOf = stoodBy sameLattice
+
 abbrev pub closedList : List Entry → List Stood
-closedList es = map (stoodOf es) es
+closedList = closedBy sameLattice
 
 -- R7.1, R7.2: an entry stands when its standing entry is itself
 abbrev pub stands : Stood → Bool
@@ -82,21 +94,30 @@ abbrev pub followed : List Stood → (own : ℕ) → Option See → Option See
 followed ss own none = none
 followed ss own (some w) = elim (lookup ss (w .number)) [ none ↦ none | some there ↦ led own w there ]
 
--- R7.4, R11.4: "a see word if its own see word names an entry whose standing entry is another than the entry that carries the word; the word then
--- names that standing entry"; for the listing, the word of an entry that does not stand counts as carried by its standing entry
+-- R7.4, R11.4: where the see word of an entry leads: it "names an entry whose standing entry is another than the entry that carries the word; the
+-- word then names that standing entry"; the word of an entry that does not stand counts as carried by its standing entry
 abbrev pub leads : List Stood → Stood → Option See
 leads ss s = followed ss (s .standing .head .number) (s .entry .see)
 
+-- R7.4: the same for an entry that is folded into the standing entry with number `own`; none for any other
+abbrev pub leadsFrom : List Stood → (own : ℕ) → Stood → Option See
+leadsFrom ss own s = elim (eqb (s .standing .head .number) own) [ true ↦ leads ss s | false ↦ none ]
+
+-- R7.4: "A standing entry shall carry the first see word, in file order, among all entries folded into it that leads to another standing entry. Its
+-- own comes first, as it is first in the file."
+abbrev pub carried : List Stood → Stood → Option See
+carried ss s = firstGiven (leadsFrom ss (s .entry .head .number)) ss
+
 -- ---- the folded catalogue
 
--- R7.3, R7.4: "each with its number, its reduced vectors, and a see word if …"
+-- R7.3, R7.4: each with "its number, its reduced vectors", and the see word that it carries
 abbrev pub printed : List Stood → Stood → Entry
-printed ss s = record { head = s .entry .head; vectors = reducedOf (s .entry); see = leads ss s }
+printed ss s = record { head = s .entry .head; vectors = reducedOf (s .entry); see = carried ss s }
 
--- R7.2, R7.5
+-- R7.2
 abbrev pub printedIn : List Stood → List Entry
 printedIn ss = map (printed ss) (standingIn ss)
 
--- R7.2, R7.5: "The folded catalogue holds the standing entries in file order", each word at its new place
+-- R7.2: "The folded catalogue holds the standing entries in file order", each word at its new place
 unfoldable pub folded : List Entry → List Entry
 folded es = placed 0 (printedIn (closedList es))

@@ -1,7 +1,9 @@
 -- What is proved about the definitions.
-pub mod SameLattice
 pub mod Standing
 pub mod Lookup
+pub mod See
+pub mod Fixed
+pub mod SameLattice
 pub mod FoldedForm
 pub mod Printing
 pub mod Again

@@ -26,25 +26,46 @@ pub record OneLattice (e f : Entry) : Type 0 where
   pub m : e .head .m ≡ f .head .m
   pub lattice : (v : Vec) → In (e .vectors) v ↔ In (f .vectors) v
 
--- R12.3: f is the standing entry of e: it generates the lattice of e, and no entry before it in the file does
-pub record Stands (es : List Entry) (e f : Entry) : Type 0 where
-  pub before : List Entry
-  pub after : List Entry
-  pub split : es ≡ before ++ (f ∷ after)
-  pub one : OneLattice f e
-  pub none : All (λ g. ¬ OneLattice g e) before
+-- `One` says what one lattice is
+module _ (One : Entry → Entry → Type 0) where
+  -- R12.3: f is the standing entry of e: it generates the lattice of e, and no entry before it in the file does
+  pub record StandsBy (es : List Entry) (e f : Entry) : Type 0 where
+    pub before : List Entry
+    pub after : List Entry
+    pub split : es ≡ before ++ (f ∷ after)
+    pub one : One f e
+    pub none : All (λ g. ¬ One g e) before
 
--- R12.3: the see word of e leads to the number n: it names an entry whose standing entry is another than e and has that number
-pub record Leads (es : List Entry) (e : Entry) (n : ℕ) : Type 0 where
-  pub word : See
-  pub carried : e .see ≡ some word
-  pub named : Entry
-  pub among : Among named es
-  pub number : named .head .number ≡ word .number
-  pub standing : Entry
-  pub stands : Stands es named standing
-  pub other : standing ≢ e
-  pub there : standing .head .number ≡ n
+  -- R12.3: the see word of f leads from the standing entry s to the number n: it names an entry whose standing entry is another than s and has
+  -- that number
+  pub record LeadsBy (es : List Entry) (s f : Entry) (n : ℕ) : Type 0 where
+    pub word : See
+    pub carried : f .see ≡ some word
+    pub named : Entry
+    pub among : Among named es
+    pub number : named .head .number ≡ word .number
+    pub standing : Entry
+    pub stands : StandsBy es named standing
+    pub other : standing ≢ s
+    pub there : standing .head .number ≡ n
+
+  -- R12.3: the standing entry s carries a see word to n: some entry of the file generates the lattice of s and has a word that leads from s to n,
+  -- and no entry of that lattice before it has a word that leads from s to any other standing entry
+  pub record CarriesBy (es : List Entry) (s : Entry) (n : ℕ) : Type 0 where
+    pub before : List Entry
+    pub entry : Entry
+    pub after : List Entry
+    pub split : es ≡ before ++ (entry ∷ after)
+    pub one : One entry s
+    pub leads : LeadsBy es s entry n
+    pub none : All (λ g. One g s → (k : ℕ) → ¬ LeadsBy es s g k) before
+
+-- R12.3: the same for the lattices of entries
+abbrev pub Stands : List Entry → Entry → Entry → Type 0
+Stands = StandsBy OneLattice
+
+abbrev pub Carries : List Entry → Entry → ℕ → Type 0
+Carries = CarriesBy OneLattice
 
 -- ---- what is printed
 
@@ -63,8 +84,8 @@ pub record Prints (es : List Entry) (e g : Entry) : Type 0 where
   pub one : OneLattice g e
   -- whichever independent vectors of that lattice anyone picks, more than k of them: some one is at least as long as vector k printed
   pub minima : (vs : List Vec) → All (In (e .vectors)) vs → Independent vs → (k : ℕ) → k < length vs → k < e .head .d → Some (λ v. N (getD (g .vectors) k []) ≤ℤ N v) vs
-  -- a see word is printed exactly where the rules give one
-  pub see : (n : ℕ) → Sees g n ↔ Leads es e n
+  -- a see word to n is printed exactly when e carries one
+  pub see : (n : ℕ) → Sees g n ↔ Carries es e n
 
 -- from entry to entry of a file, the standing ones are printed and the others passed over
 pub data Printing (all : List Entry) : List Entry → List Entry → Type 0 where

@@ -77,6 +77,11 @@ pub all-map : {A B : Type 0} (P : B → Type 0) (f : A → B) (l : List A) → A
 all-map P f [] p = tt
 all-map P f (a ∷ l) p = (p .0, all-map P f l (p .1))
 
+pub some-map : {A B : Type 0} (P : B → Type 0) (f : A → B) (l : List A) → Some (λ a. P (f a)) l → Some P (map f l)
+some-map P f [] p = p
+some-map P f (a ∷ l) (inl p) = inl p
+some-map P f (a ∷ l) (inr p) = inr (some-map P f l p)
+
 pub all-at : {A : Type 0} (P : A → Type 0) (l : List A) (d : A) → All P l → (k : ℕ) → k < length l → P (getD l k d)
 all-at P [] d p k h = absurd (not-suc-le-zero h)
 all-at P (a ∷ l) d p zero h = p .0

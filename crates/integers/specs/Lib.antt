@@ -1,7 +1,8 @@
--- Integer mathematics over the library's ℤ and its orders. Definitions: Every, All, Lists, Below, Filled, Decimal. Examples shows how the
+-- Integer mathematics over the library's ℤ and its orders. Definitions: Every, All, First, Lists, Below, Filled, Decimal. Examples shows how the
 -- rest is used.
 pub mod Every
 pub mod All
+pub mod First
 pub mod Lists
 pub mod Below
 pub mod Filled
@@ -16,6 +17,7 @@ pub mod Division
 pub mod Sign
 pub mod Size
 pub mod AllLaws
+pub mod FirstLaws
 pub mod Tests
 pub mod ListLaws
 pub mod FilledLaws

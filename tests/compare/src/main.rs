@@ -1,6 +1,6 @@
 //! Compares the compiled engine with the reference on inputs of every kind. Arguments, all optional: how many inputs, the seed to begin
-//! with, how many random catalogues for the library, and how many for the command line. A difference ends the run with the input and
-//! what both gave.
+//! with, how many random catalogues for the library, how many for the command line, and how many with many see words. A difference ends
+//! the run with the input and what both gave.
 
 mod catalogue;
 mod catalogues;
@@ -10,6 +10,7 @@ mod lent;
 mod membership;
 mod nearest;
 mod reduction;
+mod references;
 
 use std::process::ExitCode;
 
@@ -24,6 +25,7 @@ fn main() -> ExitCode {
     let seed = argument(2, 1);
     let compared = lattices::compare(argument(1, 210_000) as usize, seed)
         .and_then(|()| catalogues::compare(argument(3, 100_000) as usize, seed))
+        .and_then(|()| references::compare(argument(5, 100_000) as usize, seed))
         .and_then(|()| commands::compare(argument(4, 1_000) as usize, seed));
     match compared {
         Ok(()) => ExitCode::SUCCESS,

@@ -4,7 +4,7 @@ use reference::catalogue::cases::case;
 use reference::catalogue::fold::{folded, standing};
 use reference::catalogue::hermite::hermite;
 use reference::catalogue::listing::listing;
-use reference::catalogue::reader::read;
+use reference::catalogue::reader::{read, words};
 use reference::catalogue::text::{commented, entries, text};
 use reference::catalogue::writer::{bytes, write};
 use reference::catalogue::{fold, lookup, write_out, Refused};
@@ -34,10 +34,12 @@ fn a_catalogue_in_full() {
     let mut out = [0x55; 76];
     assert_eq!(write_out(&full, &mut out), Ok(72));
     assert_eq!((&out[..72], &out[72..]), (&full[..], &[0x55; 4][..]));
-    assert_eq!(fold(&full, &mut out), Ok(48));
-    let again = out[..48].to_vec();
-    assert_eq!(fold(&again, &mut out), Ok(48));
-    assert_eq!(out[..48], again);
+    // entry 12, which is folded into 7, has a see word to 9
+    assert_eq!(fold(&full, &mut out), Ok(52));
+    let again = out[..52].to_vec();
+    assert_eq!(words(&again)[5], 0x30000009);
+    assert_eq!(fold(&again, &mut out), Ok(52));
+    assert_eq!(out[..52], again);
 }
 
 #[test]
@@ -104,6 +106,49 @@ fn forms_tell_lattices_apart() {
         }
     }
     assert!(counts.iter().all(|&n| n > 5_000), "{counts:?}");
+}
+
+/// Catalogues as text, and as text what they fold to.
+const CARRIED: [(&str, &str); 7] = [
+    // 40 is folded into 12, which has none
+    (
+        "12 1 1 ; 2\n40 1 1 ; -2 ; 7\n7 1 1 ; 3\n",
+        "12 1 1 ; 2 ; 7\n7 1 1 ; 3\n",
+    ),
+    // the own word leads back
+    (
+        "1 1 1 ; 2 ; 3\n2 1 1 ; 5\n3 1 1 ; -2 ; 2\n",
+        "1 1 1 ; 2 ; 2\n2 1 1 ; 5\n",
+    ),
+    // a folded entry's word leads back
+    (
+        "1 1 1 ; 2\n2 1 1 ; -2 ; 1\n3 1 1 ; 2 ; 4\n4 1 1 ; 5\n",
+        "1 1 1 ; 2 ; 4\n4 1 1 ; 5\n",
+    ),
+    // two words of folded entries
+    (
+        "1 1 1 ; 2\n2 1 1 ; 3\n3 1 1 ; 5\n4 1 1 ; 2 ; 3\n5 1 1 ; 2 ; 2\n",
+        "1 1 1 ; 2 ; 3\n2 1 1 ; 3\n3 1 1 ; 5\n",
+    ),
+    // a circle
+    (
+        "1 1 1 ; 2\n2 1 1 ; 3\n3 1 1 ; -2 ; 2\n4 1 1 ; -3 ; 3\n",
+        "1 1 1 ; 2 ; 2\n2 1 1 ; 3 ; 1\n",
+    ),
+    // words to entries of the same lattice only
+    ("1 1 1 ; 2\n2 1 1 ; -2 ; 3\n3 1 1 ; 2 ; 1\n", "1 1 1 ; 2\n"),
+    // the own word comes first
+    (
+        "1 1 1 ; 2 ; 2\n2 1 1 ; 3\n3 1 1 ; -2 ; 4\n4 1 1 ; 5\n",
+        "1 1 1 ; 2 ; 2\n2 1 1 ; 3\n4 1 1 ; 5\n",
+    ),
+];
+
+#[test]
+fn the_first_see_word_that_leads_to_another() {
+    for (lines, wanted) in CARRIED {
+        assert_eq!(text(&folded(&entries(lines).unwrap())), wanted);
+    }
 }
 
 #[test]

@@ -2,7 +2,8 @@
 use mathlib.Core.Path.{_≡_, refl, sym, ap, _∙_}
 use Prim.Native.Nat.{_-_}
 use lib.ListN.{length, drop}
-use Rattle.catalogue_rules.specs.Read.{firstPlace, dependentAt}
+use Rattle.integers.specs.First.{firstGiven}
+use Rattle.catalogue_rules.specs.Read.{dependentAt}
 use Rattle.catalogue_rules.specs.Form.{EntryFits}
 use Rattle.catalogue_records.specs.EntriesIn.{entryIn, entriesIn}
 use Rattle.catalogue_records.specs.Entries.{all-stored, entryAt, Says, entry-has, first-here, first-later, first-end}
@@ -13,7 +14,7 @@ use Rattle.catalogue_reader.proofs.first_dependent.Statement.{statement
 use Rattle.catalogue_reader.proofs.first_dependent.Tie as tie
 
 abbrev Inv-loop : tie.InvT-loop
-Inv-loop c k₀ k-end k = firstPlace dependentAt (entriesIn c) ≡ firstPlace dependentAt (drop k (entriesIn c))
+Inv-loop c k₀ k-end k = firstGiven dependentAt (entriesIn c) ≡ firstGiven dependentAt (drop k (entriesIn c))
 
 abbrev μ-loop : tie.MeasureT-loop
 μ-loop c k₀ k-end k = k-end - k

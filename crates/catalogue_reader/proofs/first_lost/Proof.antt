@@ -5,7 +5,8 @@ use Prim.Native.Nat.{_-_}
 use native.Mathlib.Omega.{arith}
 use lib.ListN.{length, take, drop, length-map}
 use Rattle.integers.specs.Every.{any}
-use Rattle.catalogue_rules.specs.Read.{firstPlace, lostAt}
+use Rattle.integers.specs.First.{firstGiven}
+use Rattle.catalogue_rules.specs.Read.{lostAt}
 use Rattle.catalogue_reader.specs.Readings.{isNumber}
 use Rattle.catalogue_records.specs.EntriesIn.{entryIn, entriesIn}
 use Rattle.catalogue_records.specs.Entries.{all-stored, entryAt, Says, first-here, first-later, first-end}
@@ -16,7 +17,7 @@ use Rattle.catalogue_reader.proofs.first_lost.Statement.{statement}
 use Rattle.catalogue_reader.proofs.first_lost.Tie as tie
 
 abbrev Inv-loop : tie.InvT-loop
-Inv-loop c numbers k₀ k-end k = firstPlace (lostAt (entriesIn c)) (entriesIn c) ≡ firstPlace (lostAt (entriesIn c)) (drop k (entriesIn c))
+Inv-loop c numbers k₀ k-end k = firstGiven (lostAt (entriesIn c)) (entriesIn c) ≡ firstGiven (lostAt (entriesIn c)) (drop k (entriesIn c))
 
 abbrev μ-loop : tie.MeasureT-loop
 μ-loop c numbers k₀ k-end k = k-end - k

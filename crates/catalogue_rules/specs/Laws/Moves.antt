@@ -13,7 +13,8 @@ use Rattle.lattices.specs.Vector.{Vec}
 use Rattle.integers.specs.All.{All}
 use Rattle.catalogue_rules.specs.Word.{Word, head, coordinate, see, end, other, decode, wordsOf}
 use Rattle.catalogue_rules.specs.Catalogue.{Head, See, Entry, Outcome, refused, accepted, refusal, entries, mostBytes}
-use Rattle.catalogue_rules.specs.Read.{State, outside, inside, after, closed, Step, next, stop, checked, headRows, coordinateRows, endRows, fileRows, withEntry, coordinateOf, withCoordinate, atHead, atCoordinate, atEnd, step, firstPlace, dependentAt, lostAt, afterReading, afterWords, atLast, readWords, read}
+use Rattle.integers.specs.First.{firstGiven}
+use Rattle.catalogue_rules.specs.Read.{State, outside, inside, after, closed, Step, next, stop, checked, headRows, coordinateRows, endRows, fileRows, withEntry, coordinateOf, withCoordinate, atHead, atCoordinate, atEnd, step, dependentAt, lostAt, afterReading, afterWords, atLast, readWords, read}
 
 -- ---- rows of the table
 
@@ -91,19 +92,19 @@ WhenAccepted Q (accepted es) = Q es
 
 -- no row of "after reading" applies
 pub record Ended (es : List Entry) : Type 0 where
-  pub independent : firstPlace dependentAt es ≡ none
-  pub found : firstPlace (lostAt es) es ≡ none
+  pub independent : firstGiven dependentAt es ≡ none
+  pub found : firstGiven (lostAt es) es ≡ none
 
 ended : (Q : List Entry → Type 0) (es : List Entry) → (Ended es → Q es) → WhenAccepted Q (afterReading es)
-ended Q es q = go (firstPlace dependentAt es) refl
+ended Q es q = go (firstGiven dependentAt es) refl
   where
-    lost : (o : Option ℕ) → firstPlace dependentAt es ≡ none → firstPlace (lostAt es) es ≡ o → WhenAccepted Q (elim o [ some p ↦ refused 12 p | none ↦ accepted es ])
+    lost : (o : Option ℕ) → firstGiven dependentAt es ≡ none → firstGiven (lostAt es) es ≡ o → WhenAccepted Q (elim o [ some p ↦ refused 12 p | none ↦ accepted es ])
     lost (some p) d e = omega arith
     lost none d e = q (record { independent = d; found = e })
 
-    go : (o : Option ℕ) → firstPlace dependentAt es ≡ o → WhenAccepted Q (elim o [ some p ↦ refused 5 p | none ↦ elim (firstPlace (lostAt es) es) [ some p ↦ refused 12 p | none ↦ accepted es ] ])
+    go : (o : Option ℕ) → firstGiven dependentAt es ≡ o → WhenAccepted Q (elim o [ some p ↦ refused 5 p | none ↦ elim (firstGiven (lostAt es) es) [ some p ↦ refused 12 p | none ↦ accepted es ] ])
     go (some p) e = omega arith
-    go none e = lost (firstPlace (lostAt es) es) e refl
+    go none e = lost (firstGiven (lostAt es) es) e refl
 
 then-ended : {Q R : List Entry → Type 0} (o : Outcome) → ((es : List Entry) → Q es → Ended es → R es) → WhenAccepted Q o → WhenAccepted R (afterWords o)
 then-ended (refused n p) f q = q

@@ -9,13 +9,15 @@ use lib.ListN.{length, getD}
 use borrow.Author.Tests.{eqb-true, eq-eqb, le-ltb}
 use Rattle.integers.specs.Every.{any}
 use Rattle.integers.specs.All.{All}
+use Rattle.integers.specs.First.{firstGiven}
+use Rattle.integers.specs.FirstLaws.{given-none}
 use Rattle.catalogue_rules.specs.Word.{end, encode, bytesOf}
 use Rattle.catalogue_rules.specs.Laws.Word.{words-bytes, length-bytes}
 use Rattle.catalogue_rules.specs.Catalogue.{See, Entry, refused, accepted, entries, mostBytes, mostEntries}
-use Rattle.catalogue_rules.specs.Read.{State, step, outside, closed, fileRows, isNumbered, firstPlace, dependentAt, lostAt, afterReading, afterWords, readWords, read}
+use Rattle.catalogue_rules.specs.Read.{State, step, outside, closed, fileRows, isNumbered, dependentAt, lostAt, afterReading, afterWords, readWords, read}
 use Rattle.catalogue_rules.specs.Write.{entriesWords, catalogueWords, write}
-use Rattle.catalogue_rules.specs.Form.{mostNumber, EntryFits, EntryIndependent, Names, WellFormed, seeAt, pastSee, pastVectors, entryAt, placed}
-use Rattle.catalogue_rules.specs.Laws.Placed.{length-placed}
+use Rattle.catalogue_rules.specs.Form.{mostNumber, EntryFits, EntryIndependent, Names, WellFormed, seeAt, pastVectors, entryAt, placed}
+use Rattle.catalogue_rules.specs.Laws.Placed.{length-placed, all-placed}
 use Rattle.catalogue_rules.specs.Laws.Moves.{Between, between}
 use Rattle.catalogue_rules.specs.Laws.RoundTrip.{same-entries}
 use Rattle.catalogue_rules.specs.Laws.WellFormed.{well-formed}
@@ -48,14 +50,6 @@ numbered-placed : (n i : ℕ) (es : List Entry) → any (isNumbered n) (placed i
 numbered-placed n i [] = refl
 numbered-placed n i (e ∷ es) = ap (λ t. isNumbered n e || t) (numbered-placed n _ es)
 
-nowhere : (f : Entry → Option ℕ) (i : ℕ) (es : List Entry) → All (λ e. (j : ℕ) → f (entryAt j e) ≡ none) es → firstPlace f (placed i es) ≡ none
-nowhere f i [] p = refl
-nowhere f i (e ∷ es) p = ap (λ o. elim o [ some q ↦ some q | none ↦ firstPlace f (placed (pastSee (pastVectors i (e .vectors)) (e .see)) es) ]) (p .0 i) ∙ nowhere f _ es (p .1)
-
-all-independent : (es : List Entry) → All EntryIndependent es → All (λ e. (j : ℕ) → dependentAt (entryAt j e) ≡ none) es
-all-independent [] p = tt
-all-independent (e ∷ es) p = ((λ j. ap (λ t. elim t [ true ↦ some j | false ↦ none ]) (p .0)), all-independent es (p .1))
-
 found : (all fs : List Entry) → ((n : ℕ) → any (isNumbered n) fs ≡ any (isNumbered n) all) → (e : Entry) → Names all (e .see) → (j : ℕ) → lostAt fs (entryAt j e) ≡ none
 found all fs same e p j = go (e .see) p (pastVectors j (e .vectors))
   where
@@ -64,13 +58,19 @@ found all fs same e p j = go (e .see) p (pastVectors j (e .vectors))
     go none p k = refl
     go (some s) p k = ap (λ t. elim t [ true ↦ none | false ↦ some k ]) (same (s .number) ∙ p)
 
-all-found : (all fs : List Entry) → ((n : ℕ) → any (isNumbered n) fs ≡ any (isNumbered n) all) → (es : List Entry) → All (λ e. Names all (e .see)) es → All (λ e. (j : ℕ) → lostAt fs (entryAt j e) ≡ none) es
-all-found all fs same [] p = tt
-all-found all fs same (e ∷ es) p = (found all fs same e (p .0), all-found all fs same es (p .1))
+-- entries that are placed: neither row of "after reading" applies
+none-dependent : (i : ℕ) (es : List Entry) → All EntryIndependent es → firstGiven dependentAt (placed i es) ≡ none
+none-dependent i es p =
+    given-none dependentAt (placed i es) (all-placed EntryIndependent (λ e. dependentAt e ≡ none) (λ j e q. ap (λ t. elim t [ true ↦ some j | false ↦ none ]) q) i es p)
 
-after-passes : (es : List Entry) → firstPlace dependentAt es ≡ none → firstPlace (lostAt es) es ≡ none → afterReading es ≡ accepted es
+none-lost : (i : ℕ) (es : List Entry) → All (λ e. Names es (e .see)) es → firstGiven (lostAt (placed i es)) (placed i es) ≡ none
+none-lost i es p =
+    let fs = placed i es in
+    given-none (lostAt fs) fs (all-placed (λ e. Names es (e .see)) (λ e. lostAt fs e ≡ none) (λ j e q. found es fs (λ n. numbered-placed n i es) e q j) i es p)
+
+after-passes : (es : List Entry) → firstGiven dependentAt es ≡ none → firstGiven (lostAt es) es ≡ none → afterReading es ≡ accepted es
 after-passes es p q =
-    ap (λ o. elim o [ some p ↦ refused 5 p | none ↦ elim (firstPlace (lostAt es) es) [ some p ↦ refused 12 p | none ↦ accepted es ] ]) p
+    ap (λ o. elim o [ some p ↦ refused 5 p | none ↦ elim (firstGiven (lostAt es) es) [ some p ↦ refused 12 p | none ↦ accepted es ] ]) p
     ∙ ap (λ o. elim o [ some p ↦ refused 12 p | none ↦ accepted es ]) q
 
 to-end : (s : State) (es : List Entry) (i n : ℕ) → Between s es → n ≡ length es → n ≤ mostEntries → readWords s i (encode (end n) ∷ []) ≡ accepted es
@@ -92,9 +92,7 @@ words-read es w =
     ∙ to-end (r .state) fs (pastEntries 0 es) (length es) (r .here) (sym (length-placed 0 es)) few
 
 all-pass : (es : List Entry) → WellFormed es → afterReading (placed 0 es) ≡ accepted (placed 0 es)
-all-pass es w =
-    let fs = placed 0 es in
-    after-passes fs (nowhere dependentAt 0 es (all-independent es (w .independent))) (nowhere (lostAt fs) 0 es (all-found es fs (λ n. numbered-placed n 0 es) es (w .named)))
+all-pass es w = after-passes (placed 0 es) (none-dependent 0 es (w .independent)) (none-lost 0 es (w .named))
 
 -- ---- the file
 

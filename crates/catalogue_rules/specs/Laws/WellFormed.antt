@@ -18,10 +18,11 @@ use Rattle.integers.specs.Every.{any}
 use Rattle.lattices.specs.Refusal.{oneTo, mostSquare, mostSize}
 use Rattle.integers.specs.Tests.{neither}
 use Rattle.integers.specs.All.{All}
-use Rattle.integers.specs.AllLaws.{all-snoc}
+use Rattle.integers.specs.AllLaws.{all-imp, all-snoc}
+use Rattle.integers.specs.FirstLaws.{none-given}
 use Rattle.catalogue_rules.specs.Word.{Word, head}
 use Rattle.catalogue_rules.specs.Catalogue.{Head, See, Entry, accepted, mostLoad, mostEntries}
-use Rattle.catalogue_rules.specs.Read.{State, outside, inside, after, closed, isNumbered, withEntry, coordinateOf, withVector, withCoordinate, firstPlace, dependentAt, lostAt, readWords, read}
+use Rattle.catalogue_rules.specs.Read.{State, outside, inside, after, closed, isNumbered, withEntry, coordinateOf, withVector, withCoordinate, dependentAt, lostAt, readWords, read}
 use Rattle.catalogue_rules.specs.Form.{mostNumber, HeadFits, VectorFits, EntryFits, Distinct, Entered, EntryIndependent, Names, WellFormed}
 use Rattle.catalogue_rules.specs.Laws.Word.{InRange, decode-range}
 use Rattle.catalogue_rules.specs.Laws.Moves.{Between, between, unreferred, Moves, by-head, by-coordinate, by-see, by-end, WhenAccepted, words-kept, kept-to-end}
@@ -125,14 +126,6 @@ known-moves (by-end b) r k = known-between b k
 
 -- ---- the end
 
-first-none : (f : Entry → Option ℕ) (Q : Entry → Type 0) → ((e : Entry) → f e ≡ none → Q e) → (es : List Entry) → firstPlace f es ≡ none → All Q es
-first-none f Q q [] e = tt
-first-none f Q q (x ∷ es) e = go (f x) refl e (first-none f Q q es)
-  where
-    go : (o : Option ℕ) → f x ≡ o → _≡_ {A = Option ℕ} (elim o [ some p ↦ some p | none ↦ firstPlace f es ]) none → (firstPlace f es ≡ none → All Q es) → Q x × All Q es
-    go none r e more = (q x r, more e)
-    go (some p) r e more = absurd (Option·some-ne-none p e)
-
 not-dependent : (e : Entry) → dependentAt e ≡ none → EntryIndependent e
 not-dependent e h = go (isDependent (e .head .m) (e .vectors)) h
   where
@@ -163,6 +156,6 @@ well-formed bytes es e =
     let k = kept-to-end (λ past s. Known s) (λ past s t i w p m. known-moves m (decode-range w) p) bytes es nothing-read e in
     record {
       entered = k .kept;
-      independent = first-none dependentAt EntryIndependent not-dependent es (k .ended .independent);
-      named = first-none (lostAt es) (λ x. Names es (x .see)) (not-lost es) es (k .ended .found);
+      independent = all-imp not-dependent es (none-given dependentAt es (k .ended .independent));
+      named = all-imp (not-lost es) es (none-given (lostAt es) es (k .ended .found));
     }

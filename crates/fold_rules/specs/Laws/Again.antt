@@ -1,24 +1,22 @@
--- Folding a folded catalogue gives the same catalogue: its vectors are reduced already, each of its entries stands, and its see words lead
--- where they say.
+-- Folding a folded catalogue gives the same catalogue: its vectors are reduced already, each of its entries stands and carries its own see word.
 use mathlib.Core.Path.{_≡_, refl, sym, ap, ap₂, _∙_, subst}
 use mathlib.Core.Logic.{_≢_, inl, inr}
 use mathlib.Core.Bool.{true≢false}
 use mathlib.Core.List.{List, [], _∷_}
-use mathlib.Core.Option.{Option, none, some}
 use Prim.Native.Nat.{ℕ}
 use Rattle.integers.specs.All.{All}
 use Rattle.lattices.specs.Greedy.{vectors, reduction}
 use Rattle.greedy_reduction.specs.Again.{reduction-again}
-use Rattle.catalogue_rules.specs.Catalogue.{See, Entry}
+use Rattle.catalogue_rules.specs.Catalogue.{Entry}
 use Rattle.catalogue_rules.specs.Write.{write}
 use Rattle.catalogue_rules.specs.Form.{Names, WellFormed, placed}
 use Rattle.catalogue_rules.specs.Laws.Placed.{all-placed, placed-again}
 use Rattle.catalogue_rules.specs.Laws.WellFormed.{well-formed}
-use Rattle.fold_rules.specs.Fold.{reducedOf, standing, stoodOf, closedList, followed, printed, printedIn, folded}
+use Rattle.fold_rules.specs.Fold.{reducedOf, sameLattice, standing, stoodOf, closedList, printed, printedIn, folded}
 use Rattle.fold_rules.specs.Meaning.{Among, OneLattice, Sees, Apart}
-use Rattle.fold_rules.specs.Laws.SameLattice.{Sound, sound-entries, entry-basis, one-sym}
+use Rattle.fold_rules.specs.Laws.SameLattice.{Sound, sound-entries, entry-basis, one-sym, one-lattice}
 use Rattle.fold_rules.specs.Laws.Standing.{all-self, all-among, standing-among, standing-one, stands-itself}
-use Rattle.fold_rules.specs.Laws.Lookup.{numbered, led-other, followed-to}
+use Rattle.fold_rules.specs.Laws.Fixed.{carried-same}
 use Rattle.fold_rules.specs.Laws.FoldedForm.{shown-ind, folded-accepted}
 use Rattle.fold_rules.specs.Laws.Printing.{folded-prints, printing-apart, printing-other}
 
@@ -48,29 +46,15 @@ module _ (all : List Entry) (w : WellFormed all) (apart : Apart all) where
   stays : (g : Entry) → Among g all → standing all g ≡ g
   stays g a =
       let sound = sound-entries all w in
-      apart-one all apart (standing all g) g (standing-among all sound g a) a (standing-one all sound g a)
-
-  see-same : (g : Entry) → Fixed all g → followed (closedList all) (standing all g .head .number) (g .see) ≡ g .see
-  see-same g f = go (g .see) refl (f .named)
-    where
-      go : (o : Option See) → g .see ≡ o → Names all o → followed (closedList all) (standing all g .head .number) o ≡ o
-      go none q m = refl
-      go (some v) q m =
-          let h = numbered (v .number) all m in
-          let there : standing all (h .entry) .head .number ≡ v .number = ap (λ x. x .head .number) (stays (h .entry) (h .among)) ∙ h .number in
-          let own : standing all g .head .number ≡ g .head .number = ap (λ x. x .head .number) (stays g (f .among)) in
-          followed-to all (w .entered .distinct) (standing all g .head .number) v (h .entry) (h .among) (h .number)
-          ∙ led-other (standing all g .head .number) v (standing all (h .entry) .head .number)
-          (λ r. f .other (v .number) (record { word = v; carried = q; number = refl }) (sym there ∙ r ∙ own))
-          ∙ ap (λ n. some (record { number = n; place = v .place })) there
+      apart-one all apart (standing all g) g (standing-among one-lattice all sound g a) a (standing-one one-lattice all sound g a)
 
   entry-same : (g : Entry) → Fixed all g → printed (closedList all) (stoodOf all g) ≡ g
-  entry-same g f = ap₂ (λ vs o. record { head = g .head; vectors = vs; see = o }) (f .reduced) (see-same g f)
+  entry-same g f = ap₂ (λ vs o. record { head = g .head; vectors = vs; see = o }) (f .reduced) (carried-same sameLattice all (w .entered .distinct) stays g (f .among) (f .named) (f .other))
 
   prints-same : All (Fixed all) all → printedIn (closedList all) ≡ all
   prints-same = shown-ind all (λ es gs. All (Fixed all) es → gs ≡ es) (λ p. refl)
       (λ e es gs t h p. ap₂ _∷_ (entry-same e (p .0)) (h (p .1)))
-      (λ e es gs t h p. absurd (true≢false (sym (stands-itself all (sound-entries all w) e (stays e (p .0 .among))) ∙ t))) all
+      (λ e es gs t h p. absurd (true≢false (sym (stands-itself one-lattice all (sound-entries all w) e (stays e (p .0 .among))) ∙ t))) all
 
 -- ---- the folded catalogue
 all-fixed : (all es : List Entry) → All (λ g. Among g all) es → All (λ g. reducedOf g ≡ g .vectors) es → All (λ g. Names all (g .see)) es

@@ -10,7 +10,8 @@ use lib.Dec.{eqb}
 use lib.ListN.{length}
 use borrow.Author.Tests.{eq-eqb}
 use Rattle.integers.specs.All.{All}
-use Rattle.integers.specs.AllLaws.{all-imp}
+use Rattle.integers.specs.AllLaws.{all-imp, all-map}
+use Rattle.integers.specs.FirstLaws.{given-has}
 use Rattle.integers.specs.Order.{<ℤ-leZ}
 use Rattle.integers.specs.Tests.{neither}
 use Rattle.lattices.specs.Vector.{Vec}
@@ -27,11 +28,12 @@ use Rattle.catalogue_rules.specs.Form.{VectorFits, Distinct, Names, WellFormed}
 use Rattle.catalogue_rules.specs.Laws.Placed.{write-placed}
 use Rattle.catalogue_rules.specs.Laws.WrittenSize.{length-written}
 use Rattle.catalogue_rules.specs.Laws.ReadBack.{read-written}
-use Rattle.fold_rules.specs.Fold.{reducedOf, standing, Stood, stoodOf, closedList, stands, standingIn, unlessOwn, led, followed, printed, printedIn, folded}
-use Rattle.fold_rules.specs.Laws.SameLattice.{Sound, sound-entries, entry-basis, entry-count, entry-full}
+use Rattle.fold_rules.specs.Fold.{reducedOf, sameLattice, standing, Stood, stoodOf, closedList, stands, standingIn, unlessOwn, led, followed, leads, leadsFrom, carried, printed, printedIn, folded}
+use Rattle.fold_rules.specs.Laws.SameLattice.{Sound, sound-entries, entry-basis, entry-count, entry-full, one-lattice}
 use Rattle.fold_rules.specs.Meaning.{Among}
 use Rattle.fold_rules.specs.Laws.Standing.{standing-among, standing-twice, stands-itself}
-use Rattle.fold_rules.specs.Laws.Lookup.{numbered, followed-to}
+use Rattle.fold_rules.specs.Laws.Lookup.{numbered}
+use Rattle.fold_rules.specs.Laws.See.{followed-to}
 
 -- ---- an entry printed
 
@@ -116,7 +118,7 @@ module _ (all : List Entry) where
 
     -- the standing entry of every entry is printed
     pub standing-printed : (e : Entry) → Among e all → any (isNumbered (standing all e .head .number)) (printedIn ss) ≡ true
-    standing-printed e a = shown-numbered all (standing all e) (standing-among all sound e a) (stands-itself all sound (standing all e) (standing-twice all sound e a))
+    standing-printed e a = shown-numbered all (standing all e) (standing-among one-lattice all sound e a) (stands-itself one-lattice all sound (standing all e) (standing-twice one-lattice all sound e a))
 
     -- so a see word that is printed names an entry that is printed
     led-names : (own : ℕ) (v : See) (there : ℕ) → any (isNumbered there) (printedIn ss) ≡ true → Names (printedIn ss) (led own v there)
@@ -130,12 +132,22 @@ module _ (all : List Entry) where
     followed-names own none n = tt
     followed-names own (some v) n =
         let f = numbered (v .number) all n in
-        subst (Names (printedIn ss)) (sym (followed-to all (w .entered .distinct) own v (f .entry) (f .among) (f .number)))
+        subst (Names (printedIn ss)) (sym (followed-to sameLattice all (w .entered .distinct) own v (f .entry) (f .among) (f .number)))
         (led-names own v (standing all (f .entry) .head .number) (standing-printed (f .entry) (f .among)))
 
-    shown-names : (es : List Entry) → All (λ e. Names all (e .see)) es → All (λ e. Names (printedIn ss) (e .see)) (shown es)
-    shown-names = shown-ind (λ es gs. All (λ e. Names all (e .see)) es → All (λ e. Names (printedIn ss) (e .see)) gs) (λ p. tt)
-        (λ e es gs q h p. (followed-names (standing all e .head .number) (e .see) (p .0), h (p .1))) (λ e es gs q h p. h (p .1))
+    leads-from-names : (own : ℕ) (e : Entry) → Names all (e .see) → Names (printedIn ss) (leadsFrom ss own (stoodOf all e))
+    leads-from-names own e n = go (eqb (standing all e .head .number) own)
+      where
+        go : (b : Bool) → Names (printedIn ss) (elim b as (λ b. Option See) [ true ↦ leads ss (stoodOf all e) | false ↦ none ])
+        go true = followed-names (standing all e .head .number) (e .see) n
+        go false = tt
+
+    carried-names : (e : Entry) → Names (printedIn ss) (carried ss (stoodOf all e))
+    carried-names e = given-has (leadsFrom ss (e .head .number)) (Names (printedIn ss)) tt ss
+        (all-map (λ s. Names (printedIn ss) (leadsFrom ss (e .head .number) s)) (stoodOf all) all (all-imp (leads-from-names (e .head .number)) all (w .named)))
+
+    shown-names : (es : List Entry) → All (λ e. Names (printedIn ss) (e .see)) (shown es)
+    shown-names = shown-ind (λ es gs. All (λ e. Names (printedIn ss) (e .see)) gs) tt (λ e es gs q h. (carried-names e, h)) (λ e es gs q h. h)
 
     pub prints-form : WellFormed (printedIn ss)
     prints-form =
@@ -143,7 +155,7 @@ module _ (all : List Entry) where
         record {
           entered = record { few = omega (arith, shown-few all, w .entered .few); fits = all-imp (λ e p. p .fits) (printedIn ss) s; distinct = shown-distinct all .1 (w .entered .distinct) };
           independent = all-imp (λ e p. p .independent) (printedIn ss) s;
-          named = shown-names all (w .named);
+          named = shown-names all;
         }
 
 -- writing asks for no places

@@ -34,7 +34,7 @@ use Rattle.fold_rules.specs.Fold.{reducedOf, standing, Stood, stoodOf, c
 use Rattle.fold_rules.specs.Listing.{vectorLines, entryLine, vectorsShown, entryLines}
 use Rattle.fold_rules.specs.Services.{listingText}
 use Rattle.fold_rules.specs.Meaning.{Among}
-use Rattle.fold_rules.specs.Laws.SameLattice.{Sound, sound-entries, entry-basis}
+use Rattle.fold_rules.specs.Laws.SameLattice.{Sound, sound-entries, entry-basis, one-lattice}
 use Rattle.fold_rules.specs.Laws.Standing.{all-self, all-among, standing-among}
 use Rattle.fold_rules.specs.Laws.FoldedForm.{reduced-sound}
 
@@ -148,7 +148,7 @@ module _ (file : List ℕ) (es : List Entry) (e : read file ≡ accepted es) whe
   sound = sound-entries es (well-formed file es e)
 
   standing-short : (f : Entry) → Among f es → Short (standing es f .head .number)
-  standing-short f a = number-short (standing es f) (all-among Sound es sound (standing es f) (standing-among es sound f a))
+  standing-short f a = number-short (standing es f) (all-among Sound es sound (standing es f) (standing-among one-lattice es sound f a))
 
   entry-listed : (f : Entry) → Among f es → Listed (stoodOf es f)
   entry-listed f a =

@@ -1,23 +1,20 @@
 -- The folded catalogue prints the standing entries and no others, each as promised; what follows from that for numbers and lattices.
 use mathlib.Core.Path.{_≡_, refl, sym, ap, _∙_, subst}
 use mathlib.Core.Logic.{_≢_, _↔_, inl, inr}
-use mathlib.Core.Bool.{Bool, true, false, true≢false}
 use mathlib.Core.List.{List, _∷_}
 use mathlib.Core.Option.{Option, none, some, Option·some-ne-none}
 use Prim.Native.Nat.{ℕ}
 use native.Mathlib.Omega.{arith}
-use lib.Dec.{eqb}
-use borrow.Author.Tests.{eqb-true, eqb-false}
 use Rattle.integers.specs.All.{All, Some}
 use Rattle.integers.specs.AllLaws.{all-imp}
 use Rattle.successive_minima.specs.Laws.Minima.{successive}
 use Rattle.catalogue_rules.specs.Catalogue.{See, Entry, seeNumber}
-use Rattle.catalogue_rules.specs.Form.{Distinct, Names, WellFormed, seeAt, entryAt, placed, pastVectors}
-use Rattle.fold_rules.specs.Fold.{reducedOf, standing, stoodOf, closedList, stands, followed, led, printed, printedIn, folded}
-use Rattle.fold_rules.specs.Meaning.{Among, OneLattice, Stands, Leads, Sees, Prints, Printing, done, print, pass, Apart}
-use Rattle.fold_rules.specs.Laws.SameLattice.{Sound, sound-entries, entry-basis, entry-lattice, entry-reduced, entry-count, one-refl, one-sym, one-trans}
-use Rattle.fold_rules.specs.Laws.Standing.{all-self, all-among, stands-among, stands-once, one-number, not-used, standing-is, standing-among, stands-itself, itself-stands}
-use Rattle.fold_rules.specs.Laws.Lookup.{numbered, led-own, led-other, followed-to}
+use Rattle.catalogue_rules.specs.Form.{Distinct, WellFormed, seeAt, entryAt, placed, pastVectors}
+use Rattle.fold_rules.specs.Fold.{reducedOf, standing, stoodOf, closedList, printed, printedIn, folded}
+use Rattle.fold_rules.specs.Meaning.{Among, OneLattice, Stands, Carries, Sees, Prints, Printing, done, print, pass, Apart}
+use Rattle.fold_rules.specs.Laws.SameLattice.{Sound, sound-entries, entry-basis, entry-lattice, entry-reduced, entry-count, one-sym, one-trans, one-lattice}
+use Rattle.fold_rules.specs.Laws.Standing.{all-self, all-among, stands-among, stands-once, one-number, not-used, itself-stands, stands-here, stands-not}
+use Rattle.fold_rules.specs.Laws.See.{carried-means, means-carried}
 use Rattle.fold_rules.specs.Laws.FoldedForm.{shown-ind}
 
 module _ (all : List Entry) (w : WellFormed all) where
@@ -29,62 +26,17 @@ module _ (all : List Entry) (w : WellFormed all) where
 
   -- ---- an entry that stands
   module _ (e : Entry) (a : Among e all) (own : standing all e ≡ e) where
-    abbrev there : Entry → ℕ
-    there f = standing all f .head .number
+    see-carries : (n : ℕ) → Sees (printed (closedList all) (stoodOf all e)) n → Carries all e n
+    see-carries n s = subst (Carries all e) (s .number) (carried-means one-lattice all sound distinct e a own (s .word) (s .carried))
 
-    -- where another standing entry has another number
-    apart : (f : Entry) → Among f all → standing all f ≢ e → there f ≢ there e
-    apart f b n q = n (one-number all distinct (standing all f) e (standing-among all sound f b) a (q ∙ ap (λ h. h .head .number) own))
-
-    leads-see : (n : ℕ) → Leads all e n → Sees (printed (closedList all) (stoodOf all e)) n
-    leads-see n l =
-        let f = l .named in
-        let q : l .standing ≡ standing all f = stands-once (one-refl f) (l .stands) (standing-is all sound f (l .among)) in
-        record {
-          word = record { number = there f; place = l .word .place };
-          carried = ap (followed (closedList all) (there e)) (l .carried)
-              ∙ followed-to all distinct (there e) (l .word) f (l .among) (l .number)
-              ∙ led-other (there e) (l .word) (there f) (apart f (l .among) (λ r. l .other (q ∙ r)));
-          number = ap (λ h. h .head .number) (sym q) ∙ l .there;
-        }
-
-    see-leads : Names all (e .see) → (n : ℕ) → Sees (printed (closedList all) (stoodOf all e)) n → Leads all e n
-    see-leads m n s = go (e .see) refl m (s .carried)
-      where
-        go : (o : Option See) → e .see ≡ o → Names all o → followed (closedList all) (there e) o ≡ some (s .word) → Leads all e n
-        go none q m h = absurd (Option·some-ne-none (s .word) (sym h))
-        go (some v) q m h = pick (eqb (there f) (there e)) refl
-          where
-            f : Entry
-            f = numbered (v .number) all m .entry
-
-            b : Among f all
-            b = numbered (v .number) all m .among
-
-            to : led (there e) v (there f) ≡ some (s .word)
-            to = sym (followed-to all distinct (there e) v f b (numbered (v .number) all m .number)) ∙ h
-
-            pick : (t : Bool) → eqb (there f) (there e) ≡ t → Leads all e n
-            pick true r = absurd (Option·some-ne-none (s .word) (sym to ∙ led-own (there e) v (there f) (eqb-true (there f) (there e) r)))
-            pick false r =
-                let z : there f ≢ there e = eqb-false (there f) (there e) r in
-                record {
-                  word = v;
-                  carried = q;
-                  named = f;
-                  among = b;
-                  number = numbered (v .number) all m .number;
-                  standing = standing all f;
-                  stands = standing-is all sound f b;
-                  other = λ p. z (ap (λ h. h .head .number) (p ∙ sym own));
-                  there = ap seeNumber (sym (led-other (there e) v (there f) z) ∙ to) ∙ s .number;
-                }
+    carries-see : (n : ℕ) → Carries all e n → Sees (printed (closedList all) (stoodOf all e)) n
+    carries-see n c = record { word = record { number = n; place = c .leads .word .place }; carried = means-carried one-lattice all sound distinct e a own n c; number = refl }
 
     sound-here : Sound e
     sound-here = all-among Sound all sound e a
 
-    pub entry-prints : Names all (e .see) → Prints all e (printed (closedList all) (stoodOf all e))
-    entry-prints m =
+    pub entry-prints : Prints all e (printed (closedList all) (stoodOf all e))
+    entry-prints =
         let B = entry-basis e sound-here in
         record {
           number = refl;
@@ -93,21 +45,16 @@ module _ (all : List Entry) (w : WellFormed all) where
           one = record { m = refl; lattice = λ v. (entry-lattice e sound-here v .1, entry-lattice e sound-here v .0) };
           minima = λ vs h i k p q. successive (reducedOf e) (entry-reduced e sound-here) (omega (arith, entry-count e sound-here, B .four)) vs
               (all-imp (λ v. entry-lattice e sound-here v .0) vs h) i k p (omega (arith, entry-count e sound-here, sound-here .fits .count));
-          see = λ n. (see-leads m n, leads-see n);
+          see = λ n. (see-carries n, carries-see n);
         }
 
   -- ---- all entries, before they are placed
-  stands-here : (e : Entry) (a : Among e all) → stands (stoodOf all e) ≡ true → Stands all e e
-  stands-here e a t = subst (Stands all e) (itself-stands all sound distinct e a t) (standing-is all sound e a)
-
-  stands-not : (e : Entry) (a : Among e all) → stands (stoodOf all e) ≡ false → ¬ Stands all e e
-  stands-not e a t s = true≢false (sym (stands-itself all sound e (stands-once (one-refl e) (standing-is all sound e a) s)) ∙ t)
-
   prints-all : Printing all all (printedIn (closedList all))
-  prints-all = shown-ind all (λ es gs. All (λ e. Among e all) es → All (λ e. Names all (e .see)) es → Printing all es gs) (λ p q. done)
-      (λ e es gs t h p q. print e (printed (closedList all) (stoodOf all e)) (stands-here e (p .0) t) (entry-prints e (p .0) (itself-stands all sound distinct e (p .0) t) (q .0)) (h (p .1) (q .1)))
-      (λ e es gs t h p q. pass e (stands-not e (p .0) t) (h (p .1) (q .1)))
-      all (all-self all) (w .named)
+  prints-all = shown-ind all (λ es gs. All (λ e. Among e all) es → Printing all es gs) (λ p. done)
+      (λ e es gs t h p. print e (printed (closedList all) (stoodOf all e)) (stands-here one-lattice all sound distinct e (p .0) t)
+      (entry-prints e (p .0) (itself-stands one-lattice all sound distinct e (p .0) t)) (h (p .1)))
+      (λ e es gs t h p. pass e (stands-not one-lattice all sound e (p .0) t) (h (p .1)))
+      all (all-self all)
 
 -- ---- placed entries print the same
 one-placed : (i : ℕ) (g : Entry) {e : Entry} → OneLattice g e → OneLattice (entryAt i g) e
@@ -175,7 +122,7 @@ module _ {all : List Entry} where
     where
       other : (h : Entry) → From all es h → ¬ OneLattice g h
       other h f o =
-          let q : e ≡ f .entry = stands-once (one-trans (one-sym (p .one)) (one-trans o (f .prints .one))) s (f .stands) in
+          let q : e ≡ f .entry = stands-once one-lattice (one-trans (one-sym (p .one)) (one-trans o (f .prints .one))) s (f .stands) in
           not-used (e .head .number) es (d .0) (f .entry) (f .among) (ap (λ x. x .head .number) (sym q))
   printing-apart gs (pass e s r) d = printing-apart gs r (d .1)
 
@@ -185,5 +132,5 @@ module _ {all : List Entry} where
     where
       other : (g : Entry) → From all all g → (n : ℕ) → Sees g n → n ≢ g .head .number
       other g f n s q =
-          let l = f .prints .see n .0 s in
+          let l = f .prints .see n .0 s .leads in
           l .other (one-number all d (l .standing) (f .entry) (stands-among (l .stands)) (f .among) (l .there ∙ q ∙ f .prints .number))

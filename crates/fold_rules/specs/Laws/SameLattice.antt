@@ -1,7 +1,7 @@
 -- The test for one lattice is exact: for entries of accepted catalogues it says yes exactly when m is the same and the same vectors are in both lattices.
 use mathlib.Core.Path.{_≡_, refl, sym, ap, ap₂, _∙_, subst}
 use mathlib.Core.Logic.{_↔_}
-use mathlib.Core.Bool.{Bool, true, false, _&&_, true≢false}
+use mathlib.Core.Bool.{Bool, true, false, _&&_}
 use mathlib.Core.List.{List, [], _∷_}
 use lib.Dec.{eqb}
 use lib.ListN.{length}
@@ -25,6 +25,7 @@ use Rattle.catalogue_rules.specs.Laws.EntriesAccepted.{vectors-back, is-basis}
 use Rattle.fold_rules.specs.Fold.{reducedOf, holds, sameLattice}
 use Rattle.integers.specs.Every.{every}
 use Rattle.fold_rules.specs.Meaning.{OneLattice}
+use Rattle.fold_rules.specs.Laws.Standing.{Decides}
 
 -- ---- entries of an accepted catalogue
 
@@ -115,5 +116,6 @@ module _ (e f : Entry) (s : Sound e) (t : Sound f) where
       go true q = absurd (h (same-exactly .0 q))
       go false q = refl
 
-  pub not-same : sameLattice e f ≡ false → ¬ OneLattice e f
-  not-same q o = true≢false (sym (same-exactly .1 o) ∙ q)
+-- so all that is proved of a test that decides an equivalence holds of it
+pub one-lattice : Decides sameLattice OneLattice Sound
+one-lattice = record { one-refl = one-refl; one-sym = one-sym; one-trans = one-trans; exactly = same-exactly }

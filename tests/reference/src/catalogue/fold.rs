@@ -26,7 +26,14 @@ pub fn leads(entries: &[Entry], standing: &[usize]) -> Vec<Option<usize>> {
     (0..entries.len()).map(led).collect()
 }
 
-/// The standing entries in their order, with reduced vectors and see words led to standing entries.
+/// The standing entry that entry i, which stands, names in its see word: where the first see word leads, in file order, among the entries
+/// of its lattice whose words lead to another.
+pub fn carried(standing: &[usize], leads: &[Option<usize>], i: usize) -> Option<usize> {
+    let of_its_lattice = (0..standing.len()).filter(|&k| standing[k] == i);
+    of_its_lattice.filter_map(|k| leads[k]).next()
+}
+
+/// The standing entries in their order, with reduced vectors and the see words that they carry.
 pub fn folded(entries: &[Entry]) -> Vec<Entry> {
     let standing = standing(entries);
     let leads = leads(entries, &standing);
@@ -35,7 +42,7 @@ pub fn folded(entries: &[Entry]) -> Vec<Entry> {
         .map(|i| Entry {
             number: entries[i].number,
             vectors: reduce(&entries[i].vectors.concat(), entries[i].d(), entries[i].m()).vectors,
-            see: leads[i].map(|k| entries[k].number),
+            see: carried(&standing, &leads, i).map(|k| entries[k].number),
         })
         .collect()
 }

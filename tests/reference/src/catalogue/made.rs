@@ -45,6 +45,47 @@ pub fn largest(random: &mut Random) -> Vec<Entry> {
         .collect()
 }
 
+/// A catalogue with many see words on entries that do not stand: up to 32 entries of few lattices of small vectors, most with a see word; the
+/// first of a lattice has one half the time, and often one that leads to itself.
+pub fn referring(random: &mut Random) -> Vec<Entry> {
+    let count = 2 + random.index(31);
+    let numbers = numbers(count, random);
+    let lattices: Vec<i64> = (0..1 + random.index(6)).map(|k| k as i64 + 2).collect();
+    let of: Vec<usize> = (0..count).map(|_| random.index(lattices.len())).collect();
+    let alike = |i: usize, random: &mut Random| {
+        let others: Vec<u32> = (0..count)
+            .filter(|&k| of[k] == of[i])
+            .map(|k| numbers[k])
+            .collect();
+        random.pick(&others)
+    };
+    (0..count)
+        .map(|i| {
+            let is_first = (0..i).all(|k| of[k] != of[i]);
+            let see = match (is_first, random.between(0, 7)) {
+                (true, 0..=3) | (false, 0) => None,
+                (true, 4..=6) | (false, 1..=2) => Some(alike(i, random)),
+                _ => Some(random.pick(&numbers)),
+            };
+            Entry {
+                number: numbers[i],
+                vectors: line_or_square(lattices[of[i]], random),
+                see,
+            }
+        })
+        .collect()
+}
+
+/// The lattice of the multiples of a, or that of the pairs of them, which is told by whether a is even.
+fn line_or_square(a: i64, random: &mut Random) -> Vec<Vec<i64>> {
+    let sign = random.pick(&[-1, 1]);
+    if a % 2 == 0 {
+        return vec![vec![sign * a]];
+    }
+    let k = random.between(-9, 9);
+    vec![vec![sign * a, 0], vec![k * a, a]]
+}
+
 /// A basis that is accepted.
 pub fn independent(random: &mut Random) -> Vec<Vec<i64>> {
     loop {

@@ -53,17 +53,19 @@ shared-slice-read-there c =
 nowhere-requires-3 : tie.Need-nowhere-requires-3
 nowhere-requires-3 c κs = search needs
 
-returns-3 : tie.Need-returns-3
-returns-3 c =
-    let p = c .before .before .before .before .before in
-    let a = p .before .before .before .before .before .args in
-    subst (Led (a .e) (a .own) (a .numbers .now) (a .standing .now) (a .count)) (sym (c .nowhere3 .ensures)) (word-own (a .e) (a .own) (a .numbers .now) (a .standing .now) (a .count) (not-false _ (p .before .if1 .left)) (p .place-of .ensures) (below (c .before .before .before .before)) (c .before .if3 .taken))
-
+-- a word that is given leads to another
 returns-4 : tie.Need-returns-4
 returns-4 c =
     let p = c .before .before .before .before in
     let a = p .before .before .before .before .before .args in
     word-other (a .e) (a .own) (a .numbers .now) (a .standing .now) (a .count) (not-false _ (p .before .if1 .left)) (p .place-of .ensures) (below (c .before .before .before)) (c .if3 .left)
+
+-- and one that leads back is not given
+returns-3 : tie.Need-returns-3
+returns-3 c =
+    let p = c .before .before .before .before .before in
+    let a = p .before .before .before .before .before .args in
+    subst (Led (a .e) (a .own) (a .numbers .now) (a .standing .now) (a .count)) (sym (c .nowhere3 .ensures)) (word-own (a .e) (a .own) (a .numbers .now) (a .standing .now) (a .count) (not-false _ (p .before .if1 .left)) (p .place-of .ensures) (below (c .before .before .before .before)) (c .before .if3 .taken))
 
 pub way-of-spec : {M : Type 1} → statement M
 way-of-spec =

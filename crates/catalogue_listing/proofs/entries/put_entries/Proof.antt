@@ -67,7 +67,7 @@ way-of-requires c κs =
     let l = c .before .before .before .before .before in
     let s = l .before .before .before .before in
     let closed = s .pre .1 .1 .0 in
-    ((omega (arith, s .pre .0 .few, all (l .before)), omega (arith, s .pre .0 .few, closed .long)), (s .pre .0 .few, λ k h. closed .first k h .within))
+    ((omega (arith, s .pre .0 .few, all (l .before)), omega (arith, s .pre .0 .few, closed .long)), (s .pre .0 .few, λ k h. omega (arith, closed .first k h .within, h)))
 
 -- the output is as long as at first
 long : (c : tie.At-loop Inv-loop μ-loop) → length (c .loop .out) ≡ length (c .before .before .before .before .args .out .now)
