@@ -15,10 +15,10 @@ use Rattle.lattices.specs.Answer.{reductionOf}
 use Rattle.row_operations.specs.RowStructs.{vectorRow, tableRow}
 use Rattle.lent_numbers.specs.Layout.{reductionCount, flat, head, layout}
 use Rattle.lent_numbers.specs.Runs.{written-short}
-use Rattle.exports.specs.Shape.{shape, unpacked, answer-stored}
+use Rattle.lent_engine.specs.Shape.{shape, unpacked, answer-stored}
 use borrow.Author.Needs.{needs}
-use Rattle.exports.proofs.raghymtos_reduce.Statement.{statement}
-use Rattle.exports.proofs.raghymtos_reduce.Tie as tie
+use Rattle.lent_engine.proofs.reduce.Statement.{statement}
+use Rattle.lent_engine.proofs.reduce.Tie as tie
 
 abbrev input : tie.Start → Input
 input s = record { numbers = now (s .args .numbers); d = s .args .d; m = s .args .m; target = [] }
@@ -94,8 +94,8 @@ returns-2 c =
           (v .put-table2 .ensures ∙ ap (λ t. sets (u .put-table .last .0) (7 + mostVectors * mostCoordinates + mostVectors * mostVectors) (flat t)) x),
     )
 
-pub raghymtos-reduce-spec : {M : Type 1} → statement M
-raghymtos-reduce-spec =
+pub reduce-spec : {M : Type 1} → statement M
+reduce-spec =
     tie.close
     (tie.spec
     returns

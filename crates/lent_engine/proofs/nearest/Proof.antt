@@ -14,10 +14,10 @@ use Rattle.engine.specs.declared.NearestVector.{NearestVector}
 use Rattle.engine.specs.Packed.{packedNearest}
 use Rattle.lent_numbers.specs.Layout.{nearestCount, head, layoutNearest}
 use Rattle.lent_numbers.specs.Runs.{written-short}
-use Rattle.exports.specs.NearestShape.{nearest-shape, nearest-stored}
+use Rattle.lent_engine.specs.NearestShape.{nearest-shape, nearest-stored}
 use borrow.Author.Needs.{needs}
-use Rattle.exports.proofs.raghymtos_nearest.Statement.{statement}
-use Rattle.exports.proofs.raghymtos_nearest.Tie as tie
+use Rattle.lent_engine.proofs.nearest.Statement.{statement}
+use Rattle.lent_engine.proofs.nearest.Tie as tie
 
 abbrev input : tie.Start → Input
 input s = record { numbers = now (s .args .numbers); d = s .args .d; m = s .args .m; target = now (s .args .target) }
@@ -67,7 +67,7 @@ returns-2 c =
           (v .put-vector .ensures .0 ∙ ap (λ a. sets (q .put-row .last .0) 7 (a .vector)) e),
     )
 
-pub raghymtos-nearest-spec : {M : Type 1} → statement M
-raghymtos-nearest-spec =
+pub nearest-spec : {M : Type 1} → statement M
+nearest-spec =
     tie.close
     (tie.spec returns nearest-requires put-head-requires put-row-requires put-vector-requires same-length returns-2)

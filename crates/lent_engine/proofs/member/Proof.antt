@@ -11,12 +11,11 @@ use borrow.Author.Tests.{le-leb, lt-leb}
 use Rattle.lattices.specs.Refusal.{Input}
 use Rattle.lattices.specs.Answer.{Membership, membershipOf}
 use Rattle.lent_numbers.specs.Layout.{head, flag, layoutMembership}
-use Rattle.lent_numbers.specs.Runs.{written-short}
-use Rattle.exports.specs.NearestShape.{member-few}
-use Rattle.exports.specs.CatalogueShape.{head-stored}
+use Rattle.lent_numbers.specs.Runs.{written-short, head-stored}
+use Rattle.lent_engine.specs.NearestShape.{member-few}
 use borrow.Author.Needs.{needs}
-use Rattle.exports.proofs.raghymtos_member.Statement.{statement}
-use Rattle.exports.proofs.raghymtos_member.Tie as tie
+use Rattle.lent_engine.proofs.member.Statement.{statement}
+use Rattle.lent_engine.proofs.member.Tie as tie
 
 abbrev input : tie.Start → Input
 input s = record { numbers = now (s .args .numbers); d = s .args .d; m = s .args .m; target = now (s .args .target) }
@@ -61,8 +60,8 @@ put-head-requires c κs =
     subst (λ a. (a .refusal ≤ 1000000000000) × (a .place ≤ 1000000000000)) (sym (w .membership .ensures)) (omega (arith, n .0), omega (arith, n .1)) in
     (search needs, small)
 
-pub raghymtos-member-spec : {M : Type 1} → statement M
-raghymtos-member-spec =
+pub member-spec : {M : Type 1} → statement M
+member-spec =
     tie.close
     (tie.spec
     returns

@@ -16,7 +16,7 @@ use Rattle.lattices.specs.Answer.{Nearest, noNearest, nearestGiven, nearestOf, 
 use Rattle.lattices.specs.Laws.Answer.{length-padded}
 use Rattle.lent_numbers.specs.Layout.{nearestCount, head, layoutNearest, written}
 use Rattle.lent_numbers.specs.Runs.{sets-then, written-long}
-use Rattle.exports.specs.Shape.{first-most}
+use Rattle.lent_engine.specs.Shape.{first-most}
 
 checks-most : (i : Input) → firstOf (vectorChecks ++ targetChecks) i ≤ 7
 checks-most i =

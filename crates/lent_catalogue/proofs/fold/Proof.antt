@@ -8,16 +8,16 @@ use lib.Seq.{sets}
 use denote.Ref.{now}
 use borrow.Author.Tests.{le-leb, lt-leb}
 use Rattle.catalogue_rules.specs.Output.{Output}
-use Rattle.fold_rules.specs.Services.{listOf}
+use Rattle.fold_rules.specs.Services.{foldOf}
 use Rattle.lent_numbers.specs.Layout.{head, layoutOutput}
-use Rattle.lent_numbers.specs.Runs.{written-short}
-use Rattle.exports.specs.CatalogueShape.{list-few, head-stored, beside-short, beside-long}
+use Rattle.lent_numbers.specs.Runs.{written-short, head-stored}
+use Rattle.lent_catalogue.specs.CatalogueShape.{fold-few, beside-short, beside-long}
 use borrow.Author.Needs.{needs}
-use Rattle.exports.proofs.raghymtos_list.Statement.{statement}
-use Rattle.exports.proofs.raghymtos_list.Tie as tie
+use Rattle.lent_catalogue.proofs.fold.Statement.{statement}
+use Rattle.lent_catalogue.proofs.fold.Tie as tie
 
 abbrev given : tie.Start → Output
-given s = listOf (now (s .args .bytes)) (now (s .args .out))
+given s = foldOf (now (s .args .bytes)) (now (s .args .out))
 
 returns : tie.Need-returns
 returns c =
@@ -26,8 +26,8 @@ returns c =
     let h : length l < 3 = c .if1 .taken in
     (sym (lt-leb 3 (length l) h), (written-short l 3 (layoutOutput (given s)) h, beside-short l (now (s .args .out)) (given s .lent) h))
 
-list-requires : tie.Need-list-requires
-list-requires c κs = search needs
+fold-requires : tie.Need-fold-requires
+fold-requires c κs = search needs
 
 same-length : tie.Need-same-length
 same-length c = search needs
@@ -42,22 +42,22 @@ returns-2 c =
     let s = w .before .before .before .before .before in
     let l = now (s .args .answer) in
     let h : 3 ≤ length l = search needs in
-    let e = p .put-counts .ensures ∙ ap (λ a. sets l 0 (head (a .refusal) (a .place) (pos (a .length)))) (w .list .ensures .0) in
-    (sym (le-leb 3 (length l) h), (head-stored l (given s .refusal) (given s .place) (pos (given s .written)) h e, beside-long l (now (s .args .out)) (given s .lent) h (w .list .ensures .1 .0)))
+    let e = p .put-counts .ensures ∙ ap (λ a. sets l 0 (head (a .refusal) (a .place) (pos (a .length)))) (w .fold .ensures .0) in
+    (sym (le-leb 3 (length l) h), (head-stored l (given s .refusal) (given s .place) (pos (given s .written)) h e, beside-long l (now (s .args .out)) (given s .lent) h (w .fold .ensures .1)))
 
 put-counts-requires : tie.Need-put-counts-requires
 put-counts-requires c κs =
     let w = c .before .before .before in
     let s = w .before .before .before .before .before in
-    let n = list-few (now (s .args .bytes)) (now (s .args .out)) in
-    (search needs, subst (λ a. (a .refusal ≤ 1000000000000) × (a .place ≤ 1000000000000) × (a .length ≤ 1000000000000)) (sym (w .list .ensures .0)) (omega (arith, n .refusal), omega (arith, n .place), omega (arith, n .written)))
+    let n = fold-few (now (s .args .bytes)) (now (s .args .out)) in
+    (search needs, subst (λ a. (a .refusal ≤ 1000000000000) × (a .place ≤ 1000000000000) × (a .length ≤ 1000000000000)) (sym (w .fold .ensures .0)) (omega (arith, n .refusal), omega (arith, n .place), omega (arith, n .written)))
 
-pub raghymtos-list-spec : {M : Type 1} → statement M
-raghymtos-list-spec =
+pub fold-spec : {M : Type 1} → statement M
+fold-spec =
     tie.close
     (tie.spec
     returns
-    list-requires
+    fold-requires
     put-counts-requires
     same-length
     same-length-2

@@ -9,11 +9,11 @@ use denote.Ref.{now}
 use borrow.Author.Tests.{le-leb, lt-leb}
 use Rattle.fold_rules.specs.Services.{Lookup, lookupOf}
 use Rattle.lent_numbers.specs.Layout.{head, layoutLookup}
-use Rattle.lent_numbers.specs.Runs.{written-short}
-use Rattle.exports.specs.CatalogueShape.{lookup-few, head-stored}
+use Rattle.lent_numbers.specs.Runs.{written-short, head-stored}
+use Rattle.lent_catalogue.specs.CatalogueShape.{lookup-few}
 use borrow.Author.Needs.{needs}
-use Rattle.exports.proofs.raghymtos_lookup.Statement.{statement}
-use Rattle.exports.proofs.raghymtos_lookup.Tie as tie
+use Rattle.lent_catalogue.proofs.lookup.Statement.{statement}
+use Rattle.lent_catalogue.proofs.lookup.Tie as tie
 
 abbrev given : tie.Start → Lookup
 given s = lookupOf (now (s .args .bytes)) (s .args .number)
@@ -53,8 +53,8 @@ put-counts-requires c κs =
     subst (λ a. (a .refusal ≤ 1000000000000) × (a .place ≤ 1000000000000)) (sym (w .lookup .ensures)) (omega (arith, n .0), omega (arith, n .1)) in
     (search needs, (small .0, small .1, omega arith))
 
-pub raghymtos-lookup-spec : {M : Type 1} → statement M
-raghymtos-lookup-spec =
+pub lookup-spec : {M : Type 1} → statement M
+lookup-spec =
     tie.close
     (tie.spec
     returns

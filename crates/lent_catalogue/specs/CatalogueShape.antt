@@ -1,4 +1,4 @@
--- The numbers in an answer about a catalogue are small, so they fit signed numbers; and how the answer is stored.
+-- The numbers in an answer about a catalogue are small, so they fit signed numbers; and the output lent beside the answer.
 use mathlib.Core.Path.{_≡_, refl, sym, ap, _∙_}
 use mathlib.Core.Bool.{Bool, true, false, cond}
 use mathlib.Core.List.{List}
@@ -8,7 +8,6 @@ use native.Mathlib.Omega.{arith}
 use lib.Dec.{ltb}
 use lib.IntN.{ℤ}
 use lib.ListN.{length}
-use lib.Seq.{sets}
 use borrow.Author.Tests.{le-leb, lt-leb}
 use Rattle.catalogue_rules.specs.Laws.TextSize.{mostText}
 use Rattle.catalogue_rules.specs.Catalogue.{mostWords, Entry, Outcome, refused, accepted}
@@ -21,9 +20,10 @@ use Rattle.fold_rules.specs.Fold.{closedList, lookup}
 use Rattle.fold_rules.specs.Services.{Lookup, foldedOutcome, foldOf, lookedUp, lookedIn, lookupOf, listingText, listOf}
 use Rattle.fold_rules.specs.Laws.FoldedForm.{folded-size}
 use Rattle.fold_rules.specs.Laws.ListingSize.{listing-size}
-use Rattle.lent_numbers.specs.Layout.{written, beside, head}
-use Rattle.lent_numbers.specs.Runs.{written-long}
-use Rattle.exports.specs.Places.{OutcomeLow, read-low}
+use Rattle.separation_rules.specs.Separation.{same, differentM, differentD, firstOutside, secondOutside, Separated, refusedAt, told, withNumber, separatedBy, separatedIn, separateOf}
+use Rattle.lent_numbers.specs.Layout.{beside, layoutSeparation}
+use Rattle.lent_numbers.specs.Small.{Small}
+use Rattle.lent_catalogue.specs.Places.{OutcomeLow, read-low}
 
 -- ---- writing
 
@@ -95,10 +95,31 @@ pub lookup-few : (bytes : List ℕ) (number : ℕ) → FewFound (lookupOf bytes 
 unfolding lookupOf
 lookup-few bytes number = in-few (read bytes) number (read-low bytes)
 
--- ---- the answer, and the output lent beside it
+-- ---- what separates two entries
 
-pub head-stored : (l : List ℤ) (refusal place : ℕ) (number : ℤ) {x : List ℤ} → 3 ≤ length l → x ≡ sets l 0 (head refusal place number) → x ≡ written l 3 (head refusal place number)
-head-stored l refusal place number h e = e ∙ written-long l 3 (head refusal place number) refl h
+both-small : (first second : Option Entry) → Small (separatedBy first second)
+both-small none second = (omega arith, omega arith)
+both-small (some e) none = (omega arith, omega arith)
+both-small (some e) (some f) = tt
+
+separated-small : (o : Outcome) (first second : ℕ) → OutcomeLow mostWords o → Small (separatedIn o first second)
+separated-small (refused n p) first second q = (omega (arith, q .0), omega (arith, q .1))
+separated-small (accepted es) first second q = both-small (withNumber first es) (withNumber second es)
+
+pub separate-small : (bytes : List ℕ) (first second : ℕ) → Small (separateOf bytes first second)
+unfolding separateOf
+separate-small bytes first second = separated-small (read bytes) first second (read-low bytes)
+
+-- its answer has five numbers
+pub five-numbers : (s : Separated) → length (layoutSeparation s) ≡ 5
+five-numbers (refusedAt number place) = refl
+five-numbers (told same) = refl
+five-numbers (told differentM) = refl
+five-numbers (told differentD) = refl
+five-numbers (told (firstOutside position square)) = refl
+five-numbers (told (secondOutside position square)) = refl
+
+-- ---- the output lent beside the answer
 
 pub beside-short : (l : List ℤ) (before after : List ℕ) → length l < 3 → before ≡ beside l 3 before after
 beside-short l before after h = sym (ap (λ b. cond b after before) (lt-leb 3 (length l) h))
