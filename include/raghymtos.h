@@ -18,9 +18,9 @@ extern "C" {
 #endif
 
 #define RAGHYMTOS_VERSION_MAJOR 0
-#define RAGHYMTOS_VERSION_MINOR 3
+#define RAGHYMTOS_VERSION_MINOR 4
 #define RAGHYMTOS_VERSION_PATCH 0
-#define RAGHYMTOS_VERSION "0.3.0"
+#define RAGHYMTOS_VERSION "0.4.0"
 
 /* A name that ends in _AT is an index into an answer, one that ends in _COUNT a number of numbers,
  * one that begins with MOST a limit. */
@@ -63,9 +63,24 @@ extern "C" {
 #define RAGHYMTOS_WRITTEN_AT 2  /* of a writing: the bytes written */
 #define RAGHYMTOS_STANDING_AT 2 /* of a lookup: the standing number */
 
+/* The answer of a separation. */
+#define RAGHYMTOS_SEPARATION_COUNT 5
+#define RAGHYMTOS_CASE_AT 2     /* what separates the entries: one of those below, or 0 with a refusal */
+#define RAGHYMTOS_POSITION_AT 3 /* in the last two cases: which vector, from 1; otherwise 0 */
+#define RAGHYMTOS_DISTANCE_AT 4 /* its squared distance to the lattice that it is outside; otherwise 0 */
+
+/* What separates two entries. One of these is always true, and the first that is true is given. */
+enum raghymtos_separation {
+    RAGHYMTOS_SAME = 1,          /* nothing: the same m and the same lattice */
+    RAGHYMTOS_DIFFERENT_M = 2,
+    RAGHYMTOS_DIFFERENT_D = 3,
+    RAGHYMTOS_FIRST_OUTSIDE = 4, /* a vector of the first entry is outside the second's lattice */
+    RAGHYMTOS_SECOND_OUTSIDE = 5 /* a vector of the second entry is outside the first's lattice */
+};
+
 /* The refusals. The first that applies is given. A reduction gives 1 to 5, a nearest vector and
- * a membership 1 to 7, a catalogue 1, 2, 4, 5 and 8 to 15, a writing 16 and a lookup 17 besides. Later
- * versions may have more: whatever is not 0 is a refusal. */
+ * a membership 1 to 7, a catalogue 1, 2, 4, 5 and 8 to 15; a writing gives 16 besides, a lookup and
+ * a separation 17. Later versions may have more: whatever is not 0 is a refusal. */
 enum raghymtos_refusal {
     RAGHYMTOS_ACCEPTED = 0,
     RAGHYMTOS_BAD_D = 1,         /* place: the head */
@@ -186,6 +201,21 @@ bool raghymtos_list(const uint8_t *bytes, size_t count, uint8_t *out, size_t roo
  * raghymtos_write_out. */
 bool raghymtos_lookup(const uint8_t *bytes, size_t count, uint32_t number,
                       int64_t *answer, size_t answer_room);
+
+/* Says what separates the entries with these two numbers. The position is the lowest, among the
+ * vectors as entered, of a vector outside the other entry's lattice; the distance is that to the
+ * nearest vector of that lattice. The same number twice is the same lattice.
+ *
+ * bytes, count          the catalogue, as for raghymtos_write_out
+ * first, second         any numbers; refused as for raghymtos_lookup where no entry has one of them
+ * answer, answer_room   where refusal, place, case, position and squared distance go, and how many
+ *                       numbers are lent there
+ *
+ * Gives true and writes the first 5 numbers of answer; those behind them keep their values. If
+ * answer_room is less than 5, gives false and writes nothing. The pointers are as for
+ * raghymtos_write_out. */
+bool raghymtos_separate(const uint8_t *bytes, size_t count, uint32_t first, uint32_t second,
+                        int64_t *answer, size_t answer_room);
 
 #ifdef __cplusplus
 }

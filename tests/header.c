@@ -1,5 +1,5 @@
-/* The header used from C: a reduction, a nearest vector, a membership, a catalogue, refusals with their texts, lent numbers that are too few, and the
- * version. */
+/* The header used from C: a reduction, a nearest vector, a membership, a catalogue, what separates two entries, refusals with their texts, lent
+ * numbers that are too few, and the version. */
 #include <stdio.h>
 #include <string.h>
 
@@ -99,6 +99,46 @@ static void catalogue(void) {
     expect(!raghymtos_lookup(bytes, 72, 12, answer, 2), "2 lent numbers are too few");
 }
 
+/* entry 1: (4,0),(0,4); 2: (3,3),(0,4); 3: (4,0),(0,8); 4: (4,0); 5: (4) */
+static const uint32_t five[] = {
+    0x10000122, 0x20004E24, 0x20004E20, 0x20004E20, 0x20004E24, 0x10000222, 0x20004E23, 0x20004E23, 0x20004E20,
+    0x20004E24, 0x10000322, 0x20004E24, 0x20004E20, 0x20004E20, 0x20004E28, 0x10000412, 0x20004E24, 0x20004E20,
+    0x10000511, 0x20004E24, 0x40000005};
+
+/* whether the answer about two entries of the five holds these numbers, and no other was written */
+static bool separates(uint32_t first, uint32_t second, int64_t refusal, int64_t what, int64_t position, int64_t distance) {
+    uint8_t bytes[sizeof five];
+    int64_t answer[RAGHYMTOS_SEPARATION_COUNT + 1];
+    for (size_t i = 0; i < sizeof five; i++)
+        bytes[i] = (uint8_t)(five[i / 4] >> 8 * (i % 4));
+    memset(answer, 0x55, sizeof answer);
+    const int64_t mark = answer[0];
+    if (raghymtos_separate(bytes, sizeof five, first, second, answer, RAGHYMTOS_SEPARATION_COUNT - 1) || answer[0] != mark)
+        return false;
+    return raghymtos_separate(bytes, sizeof five, first, second, answer, RAGHYMTOS_SEPARATION_COUNT + 1) &&
+           answer[RAGHYMTOS_REFUSAL_AT] == refusal && answer[RAGHYMTOS_PLACE_AT] == 0 && answer[RAGHYMTOS_CASE_AT] == what &&
+           answer[RAGHYMTOS_POSITION_AT] == position && answer[RAGHYMTOS_DISTANCE_AT] == distance &&
+           answer[RAGHYMTOS_SEPARATION_COUNT] == mark;
+}
+
+static void separation(void) {
+    uint8_t bytes[sizeof words];
+    int64_t answer[RAGHYMTOS_SEPARATION_COUNT];
+    fill(bytes);
+    expect(raghymtos_separate(bytes, 72, 7, 12, answer, RAGHYMTOS_SEPARATION_COUNT), "5 lent numbers are enough");
+    expect(answer[RAGHYMTOS_REFUSAL_AT] == 0 && answer[RAGHYMTOS_CASE_AT] == RAGHYMTOS_SAME, "7 and 12 have one lattice");
+    raghymtos_separate(bytes, 4, 8, 8, answer, RAGHYMTOS_SEPARATION_COUNT);
+    expect(answer[RAGHYMTOS_REFUSAL_AT] == RAGHYMTOS_UNEXPECTED && answer[RAGHYMTOS_PLACE_AT] == 1, "a coordinate is due");
+    expect(separates(1, 1, 0, RAGHYMTOS_SAME, 0, 0), "an entry has its own lattice");
+    expect(separates(1, 5, 0, RAGHYMTOS_DIFFERENT_M, 0, 0), "entry 5 has another m than 1, and another d");
+    expect(separates(4, 1, 0, RAGHYMTOS_DIFFERENT_D, 0, 0), "entry 4 has another d than 1");
+    expect(separates(2, 1, 0, RAGHYMTOS_FIRST_OUTSIDE, 1, 2), "(3,3) is outside, nearest to (4,4)");
+    expect(separates(1, 3, 0, RAGHYMTOS_FIRST_OUTSIDE, 2, 16), "(0,4) is outside, at position 2");
+    expect(separates(3, 1, 0, RAGHYMTOS_SECOND_OUTSIDE, 2, 16), "the same with the two exchanged");
+    expect(separates(1, 6, RAGHYMTOS_NO_ENTRY, 0, 0, 0), "no second entry has the number 6");
+    expect(separates(6, 1, RAGHYMTOS_NO_ENTRY, 0, 0, 0), "no first entry has the number 6");
+}
+
 /* every refusal has a text of its own, and a number that is none has one too */
 static void texts(void) {
     for (int64_t i = RAGHYMTOS_ACCEPTED; i <= RAGHYMTOS_NO_ENTRY + 1; i++)
@@ -122,5 +162,6 @@ int main(void) {
     member();
     catalogue();
     listing();
+    separation();
     return wrong;
 }

@@ -157,5 +157,5 @@ pub fn member(numbers: &[i64], d: usize, m: usize, target: &[i64]) -> Result<boo
     Ok(out[MEMBER_AT] == 1)
 }
 
-/// What is said where an answer wants more numbers than this version lends.
+/// What is said where an answer wants more numbers than this version lends, or has a case that this version does not know.
 pub(crate) const OTHER_ARCHIVE: &str = "libraghymtos.a is of another version than this crate";

@@ -1,4 +1,5 @@
-//! Catalogues of bases: made from entries and read into them, folded to one entry for each lattice, looked up, and listed.
+//! Catalogues of bases: made from entries and read into them, folded to one entry for each lattice, looked up, listed, and asked what
+//! separates two entries.
 //!
 //! ```
 //! use raghymtos::catalogue::{entries, fold, from_entries, list, lookup, Entry};
@@ -21,16 +22,18 @@
 //! # Ok::<(), Box<dyn std::error::Error>>(())
 //! ```
 //!
-//! A catalogue is bytes, as the engine takes and writes them. Which bytes are accepted, what is refused and where, the fold, the lookup
-//! and the listing are the engine's and proved. [`from_entries`] and [`entries`] are plain Rust on top: the first writes words and lets the engine
-//! read them, the second lets the engine read and then takes the words apart. So a mistake of theirs could mix up entries, but could not
-//! make a catalogue that the engine does not accept.
+//! A catalogue is bytes, as the engine takes and writes them. Which bytes are accepted, what is refused and where, the fold, the lookup,
+//! the separation and the listing are the engine's and proved. [`from_entries`] and [`entries`] are plain Rust on top: the first writes
+//! words and lets the engine read them, the second lets the engine read and then takes the words apart. So a mistake of theirs could mix
+//! up entries, but could not make a catalogue that the engine does not accept.
 
 mod entry;
+mod separation;
 
 use std::fmt;
 
 pub use entry::{entries, from_entries, Entry, NoCatalogue};
+pub use separation::{separate, Separation};
 
 use crate::answer::OTHER_ARCHIVE;
 use crate::raw::{self, ANSWER_NUMBERS};
@@ -109,33 +112,39 @@ pub fn list(bytes: &[u8]) -> Result<String, CatalogueRefusal> {
 
 /// The number of the standing entry: the first with the lattice of the entry that has this number.
 pub fn lookup(bytes: &[u8], number: u32) -> Result<u32, CatalogueRefusal> {
-    answer(|answer| raw::lookup(bytes, number, answer)).map(|n| n as u32)
+    last(|answer| raw::lookup(bytes, number, answer)).map(|n| n as u32)
 }
 
 /// Writes the entries of a catalogue to `out`, unfolded. Gives the length written; what is behind it keeps its bytes, and on refusal all
 /// does.
 pub fn write_out_to(bytes: &[u8], out: &mut [u8]) -> Result<usize, CatalogueRefusal> {
-    answer(|answer| raw::write_out(bytes, out, answer)).map(|n| n as usize)
+    last(|answer| raw::write_out(bytes, out, answer)).map(|n| n as usize)
 }
 
 /// As [`fold`], to `out`. Gives the length written; what is behind it keeps its bytes, and on refusal all does.
 pub fn fold_to(bytes: &[u8], out: &mut [u8]) -> Result<usize, CatalogueRefusal> {
-    answer(|answer| raw::fold(bytes, out, answer)).map(|n| n as usize)
+    last(|answer| raw::fold(bytes, out, answer)).map(|n| n as usize)
 }
 
 /// As [`list`], to `out`. Gives the length written; what is behind it keeps its bytes, and on refusal all does.
 pub fn list_to(bytes: &[u8], out: &mut [u8]) -> Result<usize, CatalogueRefusal> {
-    answer(|answer| raw::list(bytes, out, answer)).map(|n| n as usize)
+    last(|answer| raw::list(bytes, out, answer)).map(|n| n as usize)
 }
 
-/// The last number of an answer, or the refusal that its first ones are.
-fn answer(call: impl FnOnce(&mut [i64]) -> bool) -> Result<i64, CatalogueRefusal> {
-    let mut answer = [0; ANSWER_NUMBERS];
+/// The last number of an answer of three, or the refusal that its first ones are.
+fn last(call: impl FnOnce(&mut [i64]) -> bool) -> Result<i64, CatalogueRefusal> {
+    answer::<ANSWER_NUMBERS>(call).map(|[_, _, last]| last)
+}
+
+/// The numbers of an answer, or the refusal that its first ones are.
+fn answer<const N: usize>(
+    call: impl FnOnce(&mut [i64]) -> bool,
+) -> Result<[i64; N], CatalogueRefusal> {
+    let mut answer = [0; N];
     assert!(call(&mut answer), "{OTHER_ARCHIVE}");
-    let [number, place, last] = answer;
-    Refusal::check(number).map_err(|refusal| CatalogueRefusal {
+    Refusal::check(answer[0]).map_err(|refusal| CatalogueRefusal {
         refusal,
-        place: place as usize,
+        place: answer[1] as usize,
     })?;
-    Ok(last)
+    Ok(answer)
 }

@@ -13,6 +13,9 @@ pub const MEMBER_NUMBERS: usize = 3;
 /// How many numbers the answer about a catalogue takes: the refusal, its place, and the length written or the standing number.
 pub const ANSWER_NUMBERS: usize = 3;
 
+/// How many numbers the answer of a separation takes: the refusal, its place, the case, the position and the squared distance.
+pub const SEPARATION_NUMBERS: usize = 5;
+
 extern "C" {
     fn raghymtos_reduce(
         numbers: *const i64,
@@ -76,6 +79,15 @@ extern "C" {
         bytes: *const u8,
         count: usize,
         number: u32,
+        answer: *mut i64,
+        answer_room: usize,
+    ) -> bool;
+
+    fn raghymtos_separate(
+        bytes: *const u8,
+        count: usize,
+        first: u32,
+        second: u32,
         answer: *mut i64,
         answer_room: usize,
     ) -> bool;
@@ -181,6 +193,20 @@ pub fn lookup(bytes: &[u8], number: u32, answer: &mut [i64]) -> bool {
             bytes.as_ptr(),
             bytes.len(),
             number,
+            answer.as_mut_ptr(),
+            answer.len(),
+        )
+    }
+}
+
+/// Writes the answer of a separation to the first 5 numbers of `answer`. A shorter `answer` is left as it is, and false is given.
+pub fn separate(bytes: &[u8], first: u32, second: u32, answer: &mut [i64]) -> bool {
+    unsafe {
+        raghymtos_separate(
+            bytes.as_ptr(),
+            bytes.len(),
+            first,
+            second,
             answer.as_mut_ptr(),
             answer.len(),
         )

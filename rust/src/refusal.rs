@@ -135,8 +135,9 @@ mod tests {
     #[test]
     fn texts_are_those_of_the_header() {
         let header = include_str!("../../include/raghymtos.h");
+        let refusals = header.split("enum raghymtos_refusal {").nth(1).unwrap();
         for (refusal, text) in KNOWN {
-            let name = header
+            let name = refusals
                 .lines()
                 .filter_map(|line| line.trim().strip_prefix("RAGHYMTOS_"))
                 .find(|line| {

@@ -17,6 +17,7 @@ fn the_same_numbers() {
         ("NEAREST_COUNT", raw::NEAREST_NUMBERS),
         ("MEMBER_COUNT", raw::MEMBER_NUMBERS),
         ("CATALOGUE_COUNT", raw::ANSWER_NUMBERS),
+        ("SEPARATION_COUNT", raw::SEPARATION_NUMBERS),
         ("MOST_VECTORS", raghymtos::MOST_VECTORS),
         ("MOST_COORDINATES", raghymtos::MOST_COORDINATES),
         ("MOST_ENTRIES", catalogue::MOST_ENTRIES),

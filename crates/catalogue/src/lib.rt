@@ -1,10 +1,14 @@
-// The services on catalogues: reading, writing out, fold and lookup.
+// The services on catalogues: reading, writing out, fold, lookup, and what separates two entries.
 ghost use mathlib.Core.Path.{_≡_};
 ghost use Rattle.catalogue_rules.specs.Read.{read};
 ghost use Rattle.catalogue_rules.specs.Output.{output};
 ghost use Rattle.catalogue_records.specs.Catalogues.{catalogueOf, writtenOf};
 ghost use Rattle.fold_rules.specs.Services.{foldOf, lookupOf};
+ghost use Rattle.separation_rules.specs.Separation.{separateOf};
+ghost use Rattle.separation_answers.specs.Said.{saidBy};
 ghost use Rattle.catalogue.specs.Finding.{foundOf};
+use catalogue_standing::standing_places::place_of;
+use separation_answers::Separation;
 
 // What lookup says: a refusal and its place, or the standing number.
 pub struct Found {
@@ -49,7 +53,7 @@ pub fn lookup(bytes: &[u8], number: u32) -> Found
         };
     }
     let numbers = catalogue_records::numbers(c);
-    let k = catalogue_standing::standing_places::place_of(&numbers, c.count, number);
+    let k = place_of(&numbers, c.count, number);
     if k == c.count {
         return Found {
             refusal: 17,
@@ -82,4 +86,26 @@ pub fn fold(bytes: &[u8], out: &mut [u8]) -> catalogue_records::Written
     let standing = catalogue_standing::standing_places::closed(list, c.count);
     let f = catalogue_fold::folded(c, list, &standing);
     catalogue_writer::write_entries(f, out)
+}
+
+// What separates the entries with these numbers; the catalogue's own refusals first, then 17 where no entry has one of them.
+pub fn separate(bytes: &[u8], first: u32, second: u32) -> Separation
+    ensures { λ r. ⌜ saidBy r ≡ separateOf (now (bytes .entry)) first second ⌝ }
+{
+    let c = read(bytes);
+    if c.refusal != 0 {
+        return Separation::Refused(c.refusal, c.place);
+    }
+    let numbers = catalogue_records::numbers(c);
+    let j = place_of(&numbers, c.count, first);
+    if j == c.count {
+        return Separation::Refused(17, 0);
+    }
+    let k = place_of(&numbers, c.count, second);
+    if k == c.count {
+        return Separation::Refused(17, 0);
+    }
+    let e = c.entries[j];
+    let f = c.entries[k];
+    catalogue_separation::separated(e, f)
 }

@@ -24,12 +24,19 @@ none-at f [] d h = refl
 none-at f (x ∷ l) d h = ap₂ _||_ (h 0 (omega arith)) (none-at f l d (λ k m. h (suc k) (omega arith)))
 
 module _ (es : List Entry) (o : Entry) (w : WellFormed es) {numbers : List ℕ} (named : Numbers es o numbers) (n : ℕ) {k : ℕ} (first : First (λ k. eqb (getD numbers k 0) n) (length es) k) where
+  -- the entry at a place that was found has the number
+  pub number-there : k < length es → getD es k o .head .number ≡ n
+  number-there h = sym (named .number k h) ∙ eqb-true (getD numbers k 0) n (first .here h)
+
+  -- and where none was found, no entry has it
+  pub number-nowhere : k ≡ length es → any (isNumbered n) es ≡ false
+  number-nowhere e = none-at (isNumbered n) es o (λ j h. ap (λ m. eqb m n) (sym (named .number j h)) ∙ first .before j (omega arith))
+
   -- r is the place of the standing entry of entry k
   lookup-at : k < length es → {r : ℕ} → r < length es → getD es r o ≡ standing es (getD es k o) → lookup (closedList es) n ≡ some (getD numbers r 0)
   lookup-at h {r} l s =
       let e = getD es k o in
-      let same : e .head .number ≡ n = sym (named .number k h) ∙ eqb-true (getD numbers k 0) n (first .here h) in
-      ap (lookup (closedList es)) (sym same)
+      ap (lookup (closedList es)) (sym (number-there h))
       ∙ lookup-finds sameLattice es es (w .entered .distinct) e (among-at es o k h)
       ∙ ap (λ f. some (f .head .number)) (sym s)
       ∙ ap some (sym (named .number r l))
@@ -43,4 +50,4 @@ module _ (es : List Entry) (o : Entry) (w : WellFormed es) {numbers : List ℕ} 
   lookup-first h found = lookup-at h (omega (arith, found .within)) (first-standing es o w k h found)
 
   pub lookup-lost : k ≡ length es → lookup (closedList es) n ≡ none
-  lookup-lost e = lookup-misses sameLattice es es n (none-at (isNumbered n) es o (λ j h. ap (λ m. eqb m n) (sym (named .number j h)) ∙ first .before j (omega arith)))
+  lookup-lost e = lookup-misses sameLattice es es n (number-nowhere e)

@@ -12,6 +12,8 @@ use Rattle.text_output.specs.Joined.{joined}
 use Rattle.engine.specs.declared.Reduction.{Reduction}
 use Rattle.engine.specs.declared.NearestVector.{NearestVector}
 use Rattle.engine.specs.declared.members.MemberAnswer.{MemberAnswer}
+use Rattle.separation_answers.specs.declared.Separation.{Separation}
+use Rattle.separation_answers.specs.declared.Separation.the-variants.{Refused, Same, DifferentM, DifferentD, FirstOutside, SecondOutside}
 use Rattle.cli_output.specs.Rows.{rowLine}
 
 -- "refused", the number and the place
@@ -66,3 +68,34 @@ yesOrNo member = cond member (121 ∷ 101 ∷ 115 ∷ 10 ∷ []) (110 ∷ 111 �
 
 abbrev pub membershipText : MemberAnswer → List ℕ
 membershipText a = cond (eqb (a .refusal) 0) (yesOrNo (a .member)) (refusedText (a .refusal) (a .place))
+
+-- ---- what separates two entries
+
+-- "same"
+abbrev pub sameWord : List ℕ
+sameWord = 115 ∷ 97 ∷ 109 ∷ 101 ∷ []
+
+-- "different"
+abbrev pub differentWord : List ℕ
+differentWord = 100 ∷ 105 ∷ 102 ∷ 102 ∷ 101 ∷ 114 ∷ 101 ∷ 110 ∷ 116 ∷ []
+
+-- "first"
+abbrev pub firstWord : List ℕ
+firstWord = 102 ∷ 105 ∷ 114 ∷ 115 ∷ 116 ∷ []
+
+-- "second"
+abbrev pub secondWord : List ℕ
+secondWord = 115 ∷ 101 ∷ 99 ∷ 111 ∷ 110 ∷ 100 ∷ []
+
+-- which entry has a vector that the other's lattice does not hold, its position and the squared distance to that lattice
+abbrev pub outsideText : List ℕ → ℕ → ℤ → List ℕ
+outsideText word position square = line word (decimal position ∷ signed square ∷ [])
+
+-- "m" or "d" behind the word says which of the two differs
+abbrev pub separationText : Separation → List ℕ
+separationText (Refused number place) = refusedText number place
+separationText Same = line sameWord []
+separationText DifferentM = line differentWord ((109 ∷ []) ∷ [])
+separationText DifferentD = line differentWord ((100 ∷ []) ∷ [])
+separationText (FirstOutside position square) = outsideText firstWord position square
+separationText (SecondOutside position square) = outsideText secondWord position square

@@ -17,3 +17,11 @@ reductionRoom = 8 + numberRoom + rowRoom + 3 * linesRoom
 -- "nearest", the squared distance and the end of the line; coefficients and vector
 abbrev pub nearestRoom : ℕ
 nearestRoom = 7 + fieldRoom + 1 + 2 * lineRoom
+
+-- a blank, the position, the squared distance and the end of the line; the word comes to it
+abbrev pub outsideRoom : ℕ
+outsideRoom = 1 + numberRoom + fieldRoom + 1
+
+-- a refusal is the longest: its word is longer than "second", and its numbers may be as long
+abbrev pub separationRoom : ℕ
+separationRoom = refusedRoom

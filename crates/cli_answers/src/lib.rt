@@ -9,6 +9,7 @@ ghost use Rattle.cli_answers.specs.Room.{refusedRoom, errorRoom, reducti
 use row_operations::WIDTH;
 
 pub mod refusals;
+pub mod separations;
 
 // The most bytes of a number, and of a row: a blank and a number for each coordinate, and the end of the line.
 const NUMBER: usize = 20;

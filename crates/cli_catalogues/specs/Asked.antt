@@ -1,4 +1,4 @@
--- The number that a lookup asks for: a written number that no entry can have becomes 0, which no entry has.
+-- The number that is asked for: a written number that no entry can have becomes 0, which no entry has.
 use mathlib.Core.Path.{_≡_, refl, sym, ap}
 use mathlib.Core.Bool.{cond}
 use Prim.Native.Nat.{ℕ, _≤_, _<_}

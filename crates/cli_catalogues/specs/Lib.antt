@@ -1,2 +1,2 @@
--- The number that a lookup asks for.
+-- The number that is asked for.
 pub mod Asked

@@ -1,11 +1,17 @@
-// Whole catalogues from a file or standard input: folded, looked up, listed, and turned into text and back. What is no answer goes to standard
-// error, but for the listing, whose text is that of a refusal then. What is written, no contract can say: the answers themselves are under
-// contract in the catalogue.
+// Whole catalogues from a file or standard input: folded, looked up, listed, two entries held against each other, and turned into text and
+// back. What is no answer goes to standard error, but for the listing and the separation, whose text is that of a refusal then. What is
+// written, no contract can say: the answers themselves are under contract in the catalogue.
 ghost use mathlib.Core.Path.{_≡_};
 ghost use Rattle.cli_catalogues.specs.Asked.{askedNumber};
 use catalogue_records::Catalogue;
 
 mod mistakes;
+
+// What a word asks for.
+enum Wanted {
+    Entry(u32),
+    NoNumber,
+}
 
 // Room for a word more than a catalogue can have, so that too many words are seen.
 const MOST_TOLD: usize = Catalogue::MOST_BYTES + 4;
@@ -39,7 +45,7 @@ pub fn fold(fd: i32) {
     write_first(&out, w.length);
 }
 
-// A number as lookup takes it. What is no entry's number becomes 0, which is none either.
+// A number as it is asked for. What is no entry's number becomes 0, which is none either.
 fn asked(n: i64) -> u32
     ensures { λ r. ⌜ r ≡ askedNumber n ⌝ }
 {
@@ -48,6 +54,17 @@ fn asked(n: i64) -> u32
         return 0;
     }
     k as u32
+}
+
+// The number that a word writes.
+fn entry_in(word: &[u8]) -> Wanted {
+    let mut numbers = [0i64; 1];
+    let p = text_parts::read_part(word, &mut numbers);
+    let stop = p.stop;
+    if p.count != 1 || !text_parts::is_end(stop) {
+        return Wanted::NoNumber;
+    }
+    Wanted::Entry(asked(numbers[0]))
 }
 
 // Writes the standing number of the entry with this number.
@@ -71,17 +88,50 @@ fn look_up(fd: i32, number: u32) {
 
 // The lookup of the number that a word writes.
 pub fn lookup(fd: i32, word: &[u8]) {
-    let mut numbers = [0i64; 1];
-    let p = text_parts::read_part(word, &mut numbers);
-    let stop = p.stop;
-    if p.count != 1 || !text_parts::is_end(stop) {
-        io::write_all(
-            libc::STDERR_FILENO,
-            b"error: lookup wants the number of an entry\n",
-        );
+    match entry_in(word) {
+        Wanted::Entry(number) => look_up(fd, number),
+        Wanted::NoNumber => {
+            io::write_all(
+                libc::STDERR_FILENO,
+                b"error: lookup wants the number of an entry\n",
+            );
+        }
+    }
+}
+
+// Writes what separates the entries with these numbers.
+fn write_separation(fd: i32, first: u32, second: u32) {
+    let mut bytes = [0u8; cli_input::MOST_KEPT];
+    let f = cli_input::read_catalogue(fd, &mut bytes);
+    if !f.is_open {
         return;
     }
-    look_up(fd, asked(numbers[0]));
+    let n = f.end;
+    let s = catalogue::separate(&bytes[..n], first, second);
+    let mut text = [0u8; 64];
+    let end = cli_answers::separations::put_separation(&mut text, 0, s);
+    write_first(&text, end);
+}
+
+// Says that two words are not the numbers of two entries.
+fn say_no_numbers() {
+    io::write_all(
+        libc::STDERR_FILENO,
+        b"error: separate wants the numbers of two entries\n",
+    );
+}
+
+// What separates the entries whose numbers two words write.
+pub fn separate(fd: i32, first: &[u8], second: &[u8]) {
+    let Wanted::Entry(one) = entry_in(first) else {
+        say_no_numbers();
+        return;
+    };
+    let Wanted::Entry(other) = entry_in(second) else {
+        say_no_numbers();
+        return;
+    };
+    write_separation(fd, one, other);
 }
 
 // Writes the listing.

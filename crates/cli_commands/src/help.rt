@@ -3,14 +3,14 @@ use libc::STDERR_FILENO;
 
 // Writes the program's name and version.
 pub(crate) fn version() {
-    cli_output::write(b"raghymtos 0.3.0\n");
+    cli_output::write(b"raghymtos 0.4.0\n");
 }
 
 // Says what may be asked for, on standard error.
 pub(crate) fn say_usage() {
     io::write_all(
         STDERR_FILENO,
-        b"usage: raghymtos reduce [-n] | nearest [-n] [-r] | member [-n] | fold [FILE] | lookup NUMBER [FILE] | list [FILE] | encode [FILE] | decode [FILE] | refusals | help [COMMAND] | --version\n",
+        b"usage: raghymtos reduce [-n] | nearest [-n] [-r] | member [-n] | fold [FILE] | lookup NUMBER [FILE] | separate FIRST SECOND [FILE] | list [FILE] | encode [FILE] | decode [FILE] | refusals | help [COMMAND] | --version\n",
     );
 }
 
@@ -77,6 +77,14 @@ fn usage() {
     );
     go = line(
         go,
+        b"separate FIRST SECOND [FILE]  writes what separates two entries: same, different m, different d, first POSITION SQUARE",
+    );
+    go = line(
+        go,
+        b"                      or second POSITION SQUARE: a vector of that entry outside the other's lattice, its squared distance",
+    );
+    go = line(
+        go,
         b"list [FILE]           writes entries and standing entries, then each entry: number, standing number,",
     );
     go = line(
@@ -101,7 +109,7 @@ fn usage() {
     );
     go = line(
         go,
-        b"What is no answer is said on standard error; list, reduce, nearest and member have refused NUMBER PLACE for an answer.",
+        b"What is no answer is said on standard error; list, separate, reduce, nearest and member have refused NUMBER PLACE for an answer.",
     );
     line(
         go,
@@ -166,6 +174,11 @@ fn catalogue_example(command: &[u8]) -> bool {
     if check::same(command, b"lookup") {
         let go = line(true, b"$ raghymtos lookup 9 two.catalogue");
         line(go, b"9");
+        return true;
+    }
+    if check::same(command, b"separate") {
+        let go = line(true, b"$ raghymtos separate 9 7 two.catalogue");
+        line(go, b"second 1 1");
         return true;
     }
     if check::same(command, b"list") {

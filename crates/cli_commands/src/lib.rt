@@ -77,13 +77,17 @@ fn member(first: &[u8], second: &[u8]) {
 
 // Does what is done with a whole catalogue. False where the word is no such command. It is called from two places, so that its arrays do not
 // become part of the stack that the streams need.
-fn catalogue(word: &[u8], number: &[u8], fd: i32) -> bool {
+fn catalogue(word: &[u8], first: &[u8], second: &[u8], fd: i32) -> bool {
     if check::same(word, b"fold") {
         cli_catalogues::fold(fd);
         return true;
     }
     if check::same(word, b"lookup") {
-        cli_catalogues::lookup(fd, number);
+        cli_catalogues::lookup(fd, first);
+        return true;
+    }
+    if check::same(word, b"separate") {
+        cli_catalogues::separate(fd, first, second);
         return true;
     }
     if check::same(word, b"list") {
@@ -104,15 +108,16 @@ fn catalogue(word: &[u8], number: &[u8], fd: i32) -> bool {
 fn is_catalogue(word: &[u8]) -> bool {
     check::same(word, b"fold")
         || check::same(word, b"lookup")
+        || check::same(word, b"separate")
         || check::same(word, b"list")
         || check::same(word, b"encode")
         || check::same(word, b"decode")
 }
 
 // The same from the file that is named, or from standard input where none is.
-fn from_source(word: &[u8], number: &[u8], path: &[u8]) {
+fn from_source(word: &[u8], first: &[u8], second: &[u8], path: &[u8]) {
     if path.len() == 0 {
-        if !catalogue(word, number, STDIN_FILENO) {
+        if !catalogue(word, first, second, STDIN_FILENO) {
             help::say_usage();
         }
         return;
@@ -126,7 +131,7 @@ fn from_source(word: &[u8], number: &[u8], path: &[u8]) {
         os::fail(path);
         return;
     }
-    catalogue(word, number, fd);
+    catalogue(word, first, second, fd);
 }
 
 // What the program says of itself. False where the word asks for something else.
@@ -146,9 +151,17 @@ fn about(word: &[u8], first: &[u8]) -> bool {
     false
 }
 
-// Does what the sub-command says. Two words may follow it; words are empty where there are none, and `more` says that there are others.
-pub fn run(word: &[u8], first: &[u8], second: &[u8], more: bool) {
+// Does what the sub-command says. Three words may follow it; words are empty where there are none, and `more` says that there are others.
+pub fn run(word: &[u8], first: &[u8], second: &[u8], third: &[u8], more: bool) {
     if more {
+        help::say_usage();
+        return;
+    }
+    if check::same(word, b"separate") {
+        from_source(word, first, second, third);
+        return;
+    }
+    if third.len() != 0 {
         help::say_usage();
         return;
     }
@@ -165,7 +178,7 @@ pub fn run(word: &[u8], first: &[u8], second: &[u8], more: bool) {
         return;
     }
     if check::same(word, b"lookup") {
-        from_source(word, first, second);
+        from_source(word, first, b"", second);
         return;
     }
     if second.len() != 0 {
@@ -175,5 +188,5 @@ pub fn run(word: &[u8], first: &[u8], second: &[u8], more: bool) {
     if about(word, first) {
         return;
     }
-    from_source(word, b"", first);
+    from_source(word, b"", b"", first);
 }

@@ -129,13 +129,8 @@ fn searched(g: &Table, b: &Basis, d: usize, t: Vector) -> NearestVector
     requires { ⌜ GramOf (take d (now b)) (now g) ⌝ }
     ensures { λ r. ⌜ Answered d (now (b .entry)) t r ⌝ }
 {
-    let mut r = [0; 4];
-    gram_matrix::products(b, d, t, &mut r);
-    let n = row_operations::dot(t, t);
-    let mut x = [0; 4];
-    nearest_of_four::among(g, d, n, &mut r, &mut x);
     let mut rest = t;
-    row_operations::minus_combination(&mut rest, b, d, x);
+    let x = nearest_vectors::lose_nearest(g, b, d, &mut rest);
     named(t, x, rest)
 }
 

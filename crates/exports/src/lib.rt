@@ -1,4 +1,4 @@
-// The services for callers in other languages. Answers are written to lent numbers; include/raghymtos.h gives their order.
+// The services for callers in other languages. include/raghymtos.h declares them.
 ghost use mathlib.Core.Path.{_≡_};
 ghost use mathlib.Core.List.{[]};
 ghost use lib.Dec.{leb};
@@ -7,29 +7,8 @@ ghost use Rattle.lattices.specs.Answer.{reductionOf, nearestOf, membershipOf};
 ghost use Rattle.catalogue_rules.specs.Read.{read};
 ghost use Rattle.catalogue_rules.specs.Output.{output};
 ghost use Rattle.fold_rules.specs.Services.{foldOf, lookupOf, listOf};
-ghost use Rattle.lent_numbers.specs.Layout.{reductionCount, nearestCount, layout, layoutNearest, layoutMembership, layoutOutput, layoutLookup, written, beside};
-use row_operations::WIDTH;
-
-// Where the parts of a reduction's answer begin, and how many numbers it takes.
-const VECTORS_AT: usize = 7;
-
-const U_AT: usize = VECTORS_AT + 4 * WIDTH;
-
-const V_AT: usize = U_AT + 16;
-
-const REDUCTION: usize = V_AT + 16;
-
-// How many numbers the answer with a nearest vector takes.
-const NEAREST: usize = 7 + WIDTH;
-
-// How many numbers the answer of a membership takes.
-const MEMBER: usize = 3;
-
-// How many numbers the answer of a writing takes.
-const WRITING: usize = 3;
-
-// How many numbers the answer of a lookup takes.
-const LOOKUP: usize = 3;
+ghost use Rattle.separation_rules.specs.Separation.{separateOf};
+ghost use Rattle.lent_numbers.specs.Layout.{reductionCount, nearestCount, layout, layoutNearest, layoutMembership, layoutOutput, layoutLookup, layoutSeparation, written, beside};
 
 // Reduces d vectors of m coordinates each. The answer is written to the first numbers of `out`; one with too few stays as it is.
 #[no_mangle]
@@ -37,20 +16,7 @@ pub extern "C" fn raghymtos_reduce(numbers: &[i64], d: usize, m: usize, out: &mu
     ensures { λ r. ⌜ r ≡ leb reductionCount (length (now (out .entry))) ⌝ }
     ensures { λ _. ⌜ now (out .exit) ≡ written (now (out .entry)) reductionCount (layout (reductionOf (record { numbers = now (numbers .entry); d = d; m = m; target = [] }))) ⌝ }
 {
-    if out.len() < REDUCTION {
-        return false;
-    }
-    let a = engine::reduce(numbers, d, m);
-    let vectors = a.vectors;
-    let u = a.u;
-    let v = a.v;
-    let squares = a.squares;
-    lent_numbers::put_head(out, a.refusal, a.place, a.passes as i64);
-    lent_numbers::put_row(out, 3, squares);
-    lent_numbers::put_vectors(out, VECTORS_AT, row_operations::vectors_of(vectors));
-    lent_numbers::put_table(out, U_AT, row_operations::tables_of(u));
-    lent_numbers::put_table(out, V_AT, row_operations::tables_of(v));
-    true
+    lent_engine::reduce(numbers, d, m, out)
 }
 
 // Finds the vector nearest to the target in the lattice of d vectors of m coordinates each. The answer is written to the first
@@ -66,16 +32,7 @@ pub extern "C" fn raghymtos_nearest(
     ensures { λ r. ⌜ r ≡ leb nearestCount (length (now (out .entry))) ⌝ }
     ensures { λ _. ⌜ now (out .exit) ≡ written (now (out .entry)) nearestCount (layoutNearest (nearestOf (record { numbers = now (numbers .entry); d = d; m = m; target = now (target .entry) }))) ⌝ }
 {
-    if out.len() < NEAREST {
-        return false;
-    }
-    let a = engine::nearest(numbers, d, m, target);
-    let coefficients = a.coefficients;
-    let vector = a.vector;
-    lent_numbers::put_head(out, a.refusal, a.place, a.square);
-    lent_numbers::put_row(out, 3, coefficients);
-    lent_numbers::put_vector(out, 7, vector);
-    true
+    lent_engine::nearest(numbers, d, m, target, out)
 }
 
 // Whether the target is in the lattice of d vectors of m coordinates each. The answer is written to the first 3 numbers of `out`; a
@@ -91,12 +48,7 @@ pub extern "C" fn raghymtos_member(
     ensures { λ r. ⌜ r ≡ leb 3 (length (now (out .entry))) ⌝ }
     ensures { λ _. ⌜ now (out .exit) ≡ written (now (out .entry)) 3 (layoutMembership (membershipOf (record { numbers = now (numbers .entry); d = d; m = m; target = now (target .entry) }))) ⌝ }
 {
-    if out.len() < MEMBER {
-        return false;
-    }
-    let a = engine::membership(numbers, d, m, target);
-    lent_numbers::put_head(out, a.refusal, a.place, lent_numbers::flag(a.member));
-    true
+    lent_engine::member(numbers, d, m, target, out)
 }
 
 // Reads a catalogue and writes its entries, unfolded, to `out`. The answer is written to the first 3 numbers of `answer`; where that is
@@ -107,12 +59,7 @@ pub extern "C" fn raghymtos_write_out(bytes: &[u8], out: &mut [u8], answer: &mut
     ensures { λ _. ⌜ now (answer .exit) ≡ written (now (answer .entry)) 3 (layoutOutput (output (read (now (bytes .entry))) (now (out .entry)))) ⌝ }
     ensures { λ _. ⌜ now (out .exit) ≡ beside (now (answer .entry)) 3 (now (out .entry)) (output (read (now (bytes .entry))) (now (out .entry)) .lent) ⌝ }
 {
-    if answer.len() < WRITING {
-        return false;
-    }
-    let w = catalogue::write_out(bytes, out);
-    lent_numbers::put_counts(answer, w.refusal, w.place, w.length);
-    true
+    lent_catalogue::write_out(bytes, out, answer)
 }
 
 // Writes the folded catalogue to `out`. The answer is written to the first 3 numbers of `answer`; where that is shorter, both stay as
@@ -123,12 +70,7 @@ pub extern "C" fn raghymtos_fold(bytes: &[u8], out: &mut [u8], answer: &mut [i64
     ensures { λ _. ⌜ now (answer .exit) ≡ written (now (answer .entry)) 3 (layoutOutput (foldOf (now (bytes .entry)) (now (out .entry)))) ⌝ }
     ensures { λ _. ⌜ now (out .exit) ≡ beside (now (answer .entry)) 3 (now (out .entry)) (foldOf (now (bytes .entry)) (now (out .entry)) .lent) ⌝ }
 {
-    if answer.len() < WRITING {
-        return false;
-    }
-    let f = catalogue::fold(bytes, out);
-    lent_numbers::put_counts(answer, f.refusal, f.place, f.length);
-    true
+    lent_catalogue::fold(bytes, out, answer)
 }
 
 // Writes the listing of a catalogue to `out`. The answer is written to the first 3 numbers of `answer`; where that is shorter, both stay as
@@ -139,12 +81,7 @@ pub extern "C" fn raghymtos_list(bytes: &[u8], out: &mut [u8], answer: &mut [i64
     ensures { λ _. ⌜ now (answer .exit) ≡ written (now (answer .entry)) 3 (layoutOutput (listOf (now (bytes .entry)) (now (out .entry)))) ⌝ }
     ensures { λ _. ⌜ now (out .exit) ≡ beside (now (answer .entry)) 3 (now (out .entry)) (listOf (now (bytes .entry)) (now (out .entry)) .lent) ⌝ }
 {
-    if answer.len() < WRITING {
-        return false;
-    }
-    let l = catalogue_listing::list(bytes, out);
-    lent_numbers::put_counts(answer, l.refusal, l.place, l.length);
-    true
+    lent_catalogue::list(bytes, out, answer)
 }
 
 // The standing number of the entry with this number. The answer is written to the first 3 numbers of `answer`; a shorter one stays as it
@@ -154,10 +91,19 @@ pub extern "C" fn raghymtos_lookup(bytes: &[u8], number: u32, answer: &mut [i64]
     ensures { λ r. ⌜ r ≡ leb 3 (length (now (answer .entry))) ⌝ }
     ensures { λ _. ⌜ now (answer .exit) ≡ written (now (answer .entry)) 3 (layoutLookup (lookupOf (now (bytes .entry)) number)) ⌝ }
 {
-    if answer.len() < LOOKUP {
-        return false;
-    }
-    let s = catalogue::lookup(bytes, number);
-    lent_numbers::put_counts(answer, s.refusal, s.place, s.standing as usize);
-    true
+    lent_catalogue::lookup(bytes, number, answer)
+}
+
+// What separates the entries with these numbers. The answer is written to the first 5 numbers of `answer`; a shorter one stays as it is.
+#[no_mangle]
+pub extern "C" fn raghymtos_separate(
+    bytes: &[u8],
+    first: u32,
+    second: u32,
+    answer: &mut [i64],
+) -> bool
+    ensures { λ r. ⌜ r ≡ leb 5 (length (now (answer .entry))) ⌝ }
+    ensures { λ _. ⌜ now (answer .exit) ≡ written (now (answer .entry)) 5 (layoutSeparation (separateOf (now (bytes .entry)) first second)) ⌝ }
+{
+    lent_catalogue::separate(bytes, first, second, answer)
 }

@@ -1,18 +1,14 @@
--- Demand 3 whole, in one statement: `every-service`. What it promises of a reduction and of a nearest vector is said in `Reduces` and `Nears`
--- (greedy_reduction/specs/Demand.antt), of membership in `Belongs` (Membership.antt there), of a fold and of lookups in `Folds` and `LooksUp` (Meaning.antt).
+-- Demand 3 for fold and lookup: `Folds` and `LooksUp` (Meaning.antt) hold of every accepted file. The statement for every service is
+-- `every-service` (promises/specs/Demand.antt).
 use mathlib.Core.Path.{_≡_, sym, ap, _∙_, subst}
 use mathlib.Core.Bool.{Bool, true, false}
-use mathlib.Core.List.{List, _++_}
+use mathlib.Core.List.{List}
 use mathlib.Core.Option.{some}
 use Prim.Native.Nat.{ℕ, _≤_, _<_}
 use lib.ListN.{length}
 use borrow.Author.Tests.{le-ltb, lt-ltb}
 use Rattle.integers.specs.All.{Some}
 use Rattle.integers.specs.AllLaws.{all-imp, some-imp}
-use Rattle.lattices.specs.Refusal.{Input, firstOf, vectorChecks, targetChecks}
-use Rattle.lattices.specs.Answer.{reductionOf, nearestOf, membershipOf}
-use Rattle.greedy_reduction.specs.Demand.{Reduces, Nears, both-services}
-use Rattle.greedy_reduction.specs.Membership.{Belongs, membership-theorem}
 use Rattle.catalogue_rules.specs.Catalogue.{Entry, accepted}
 use Rattle.catalogue_rules.specs.Read.{read}
 use Rattle.catalogue_rules.specs.Write.{write}
@@ -113,13 +109,3 @@ module _ (file : List ℕ) (es : List Entry) (e : read file ≡ accepted es) whe
     sees = all-imp sees-found es (w .named);
     others = λ n h. accepted-lookup file es e n ∙ ap lookedUp (lookup-misses sameLattice es es n (unused n es h));
   }
-
--- demand 3: every accepted basis is reduced; for every accepted target the nearest vector is named, and whether it is in the lattice; every
--- accepted file is folded; and every number of an entry and in a see word is looked up
-pub every-service : (i : Input) (file : List ℕ) (es : List Entry)
-    → (firstOf vectorChecks i ≡ 0 → Reduces i (reductionOf i))
-    × (firstOf (vectorChecks ++ targetChecks) i ≡ 0 → Nears i (nearestOf i))
-    × (firstOf (vectorChecks ++ targetChecks) i ≡ 0 → Belongs i (membershipOf i))
-    × (read file ≡ accepted es → Folds file es)
-    × (read file ≡ accepted es → LooksUp file es)
-every-service i file es = (both-services i .0, both-services i .1, membership-theorem i, fold-theorem file es, lookup-theorem file es)

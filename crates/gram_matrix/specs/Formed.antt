@@ -77,7 +77,7 @@ nth-filled f z (suc n) [] (suc m) j h p q = nth-filled f z n [] m j (omega arith
 nth-filled f z (suc n) (x ∷ l) zero j h p q = refl
 nth-filled f z (suc n) (x ∷ l) (suc m) j h p q = nth-filled f z n l m j (omega arith) p q
 
-nth-formed : (bs : List Vec) → length bs ≤ 4 → (m j : ℕ) → nth (getD (formed bs) m []) j ≡ dot (getD bs j []) (getD bs m [])
+pub nth-formed : (bs : List Vec) → length bs ≤ 4 → (m j : ℕ) → nth (getD (formed bs) m []) j ≡ dot (getD bs j []) (getD bs m [])
 nth-formed bs h m j = nth-filled (products bs) (padded 4 []) 4 bs m j h (nth-padded 4 [] (omega arith) j) (nth-products bs [] h j ∙ dot-nil (getD bs j [])) ∙ nth-products bs (getD bs m []) h j
 
 rows-wide : (f : Vec → List ℤ) (z : List ℤ) (n : ℕ) (l : List Vec) (m : ℕ) → m < n → length z ≡ 4 → ((v : Vec) → length (f v) ≡ 4) → length (getD (filled z n (map f l)) m []) ≡ 4
@@ -87,7 +87,7 @@ rows-wide f z (suc n) [] (suc m) h p q = rows-wide f z n [] m (omega arith) p q
 rows-wide f z (suc n) (x ∷ l) zero h p q = q x
 rows-wide f z (suc n) (x ∷ l) (suc m) h p q = rows-wide f z n l m (omega arith) p q
 
-formed-wide : (bs : List Vec) (m : ℕ) → m < 4 → length (getD (formed bs) m []) ≡ 4
+pub formed-wide : (bs : List Vec) (m : ℕ) → m < 4 → length (getD (formed bs) m []) ≡ 4
 formed-wide bs m h = rows-wide (products bs) (padded 4 []) 4 bs m h refl (λ v. length-padded 4 (map (λ w. dot w v) bs))
 
 -- the row behind the last is still of zeros

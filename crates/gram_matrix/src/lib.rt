@@ -56,7 +56,7 @@ fn enter(g: &mut Table, k: usize, r: &[i64; 4])
 pub fn formed(b: &Basis, d: usize, g: &mut Table)
     requires { ⌜ d ≤ 4 ⌝ }
     requires { ⌜ length (now b) ≡ 4 ⌝ }
-    requires { ⌜ ((i j : ℕ) → Within 100000 (nth (getD (now b) i []) j)) ⌝ }
+    requires { ⌜ ((i j : ℕ) → i < d → Within 100000 (nth (getD (now b) i []) j)) ⌝ }
     requires { ⌜ now g ≡ formed [] ⌝ }
     ensures { λ _. ⌜ now (g .exit) ≡ formed (take d (now (b .entry))) ⌝ }
 {

@@ -13,7 +13,7 @@ use Rattle.lattices.specs.Nearest.{nearest}
 use Rattle.lattices.specs.Greedy.{vectors, reduction}
 use Rattle.lattices.specs.Refusal.{Input, basis, firstOf, vectorChecks, targetChecks}
 use Rattle.lattices.specs.Answer.{padded, Membership, membershipOf, nearestOf}
-use Rattle.successive_minima.specs.Member.{isMember}
+use Rattle.successive_minima.specs.Member.{squaredTo, isMember}
 use Rattle.successive_minima.specs.Laws.Members.{member-is, is-member, member-in, in-member}
 use Rattle.greedy_reduction.specs.Start.{Coordinates, comb-places, minus-places}
 use Rattle.greedy_reduction.specs.Exactness.{comb-full}
@@ -35,13 +35,17 @@ member-exactly m bs B v places =
       λ h. is-member outs (reduction-reduced m bs (B .full) (B .some) (B .four) (B .volume)) (omega (arith, count, B .four)) v (in-member outs v (lattice .0 h)),
     )
 
-pub member-padded : (n m : ℕ) → m ≤ n → (bs : List Vec) → Coordinates m bs → (v : Vec) → length v ≡ m → isMember (map (padded n) bs) (padded n v) ≡ isMember bs v
-unfolding isMember
-member-padded n m h bs c v e =
-    let x = nearest bs v in
-    ap (λ y. leZ (N (padded n v ⊖ comb y (map (padded n) bs))) (pos 0)) (nearest-padded n m h bs c v e)
-    ∙ ap (λ w. leZ (N w) (pos 0)) (sym (padded-minus n m h v (omega arith) x bs c))
-    ∙ ap (λ z. leZ z (pos 0)) (padded-N n (v ⊖ comb x bs) (omega (arith, minus-places m v (comb x bs) e (comb-places m x bs c))))
+module _ (n m : ℕ) (h : m ≤ n) (bs : List Vec) (c : Coordinates m bs) (v : Vec) (e : length v ≡ m) where
+  pub squared-padded : squaredTo (map (padded n) bs) (padded n v) ≡ squaredTo bs v
+  squared-padded =
+      let x = nearest bs v in
+      ap (λ y. N (padded n v ⊖ comb y (map (padded n) bs))) (nearest-padded n m h bs c v e)
+      ∙ ap N (sym (padded-minus n m h v (omega arith) x bs c))
+      ∙ padded-N n (v ⊖ comb x bs) (omega (arith, minus-places m v (comb x bs) e (comb-places m x bs c)))
+
+  pub member-padded : isMember (map (padded n) bs) (padded n v) ≡ isMember bs v
+  unfolding isMember
+  member-padded = ap (λ z. leZ z (pos 0)) squared-padded
 
 -- ---- what holds of a membership
 

@@ -9,6 +9,7 @@ use Rattle.lattices.specs.Refusal.{mostVectors, mostCoordinates}
 use Rattle.lattices.specs.Answer.{Reduction, Nearest, Membership}
 use Rattle.catalogue_rules.specs.Output.{Output}
 use Rattle.fold_rules.specs.Services.{Lookup}
+use Rattle.separation_rules.specs.Separation.{Separation, same, differentM, differentD, firstOutside, secondOutside, rank, Separated, refusedAt, told}
 
 -- R16.2: how many numbers a reduction's answer has: a head, the squared lengths, the vectors, and the tables U and V
 abbrev pub reductionCount : ℕ
@@ -50,6 +51,19 @@ layoutOutput o = head (o .refusal) (o .place) (pos (o .written))
 -- R16.4: the answer of a lookup: head with the standing number
 abbrev pub layoutLookup : Lookup → List ℤ
 layoutLookup l = head (l .refusal) (l .place) (pos (l .standing))
+
+-- R16.6: of a vector outside its position and its squared distance; zeros for the others
+abbrev pub outsideNumbers : Separation → List ℤ
+outsideNumbers same = pos 0 ∷ pos 0 ∷ []
+outsideNumbers differentM = pos 0 ∷ pos 0 ∷ []
+outsideNumbers differentD = pos 0 ∷ pos 0 ∷ []
+outsideNumbers (firstOutside position square) = pos position ∷ square ∷ []
+outsideNumbers (secondOutside position square) = pos position ∷ square ∷ []
+
+-- R16.6: the answer about two entries: head with which of the five it is, 0 with a refusal; position and squared distance
+abbrev pub layoutSeparation : Separated → List ℤ
+layoutSeparation (refusedAt number place) = head number place (pos 0) ++ (pos 0 ∷ pos 0 ∷ [])
+layoutSeparation (told s) = head 0 0 (pos (rank s)) ++ outsideNumbers s
 
 -- R16.5: a lent run of numbers after n numbers are written to it: one that is too short stays
 abbrev pub written : List ℤ → ℕ → List ℤ → List ℤ

@@ -11,7 +11,7 @@ use borrow.Author.Tests.{le-leb, lt-leb}
 use lib.Seq.{sets, sets-eq, take-suc, length-take-le}
 use Rattle.integers.specs.Runs.{sets-append}
 use Rattle.row_operations.specs.Rows.{four}
-use Rattle.lent_numbers.specs.Layout.{flat, written}
+use Rattle.lent_numbers.specs.Layout.{flat, head, written}
 
 -- the second run begins where the first ends
 pub sets-then : (l : List ℤ) (i j : ℕ) (vs rest : List ℤ) {x : List ℤ} → x ≡ sets l i vs → j ≡ i + length vs → sets x j rest ≡ sets l i (vs ++ rest)
@@ -26,6 +26,10 @@ pub written-long : (l : List ℤ) (n : ℕ) (vs : List ℤ) → length vs ≡ n 
 written-long l n vs e h =
     let all : 0 + length vs ≡ n = omega arith in
     sets-eq vs l 0 (omega arith) ∙ ap (λ k. vs ++ drop k l) all ∙ sym (ap (λ b. cond b (vs ++ drop n l) l) (le-leb n (length l) h))
+
+-- an answer of three numbers
+pub head-stored : (l : List ℤ) (refusal place : ℕ) (number : ℤ) {x : List ℤ} → 3 ≤ length l → x ≡ sets l 0 (head refusal place number) → x ≡ written l 3 (head refusal place number)
+head-stored l refusal place number h e = e ∙ written-long l 3 (head refusal place number) refl h
 
 -- one number more
 pub sets-more : (l : List ℤ) (at : ℕ) (run : List ℤ) (j : ℕ) → j < length run → set (sets l at (take j run)) (at + j) (getD run j (pos 0)) ≡ sets l at (take (j + 1) run)

@@ -5,10 +5,13 @@ ghost use lib.IntN.{pos};
 ghost use lib.ListN.{length};
 ghost use lib.Seq.{sets};
 ghost use Rattle.lattices.specs.Refusal.{mostVectors, mostCoordinates};
-ghost use Rattle.lent_numbers.specs.Layout.{flat, head, flag};
+ghost use Rattle.separation_answers.specs.Said.{saidBy};
+ghost use Rattle.lent_numbers.specs.Layout.{flat, head, flag, layoutSeparation};
+ghost use Rattle.lent_numbers.specs.Small.{Small};
 use row_operations::Basis;
 use row_operations::Vector;
 use row_operations::WIDTH;
+use separation_answers::Separation;
 
 // Writes a run of numbers from `at` on.
 fn put_run(out: &mut [i64], at: usize, run: &[i64])
@@ -78,6 +81,31 @@ pub fn put_counts(out: &mut [i64], refusal: u64, place: usize, count: usize)
     ensures { λ _. ⌜ now (out .exit) ≡ sets (now (out .entry)) 0 (head refusal place (pos count)) ⌝ }
 {
     put_head(out, refusal, place as u64, count as i64);
+}
+
+// The numbers of an answer about two entries: refusal and place, which of the five, position and squared distance.
+fn numbers_of(s: Separation) -> [i64; 5]
+    requires { ⌜ Small (saidBy s) ⌝ }
+    ensures { λ r. ⌜ r ≡ layoutSeparation (saidBy s) ⌝ }
+{
+    match s {
+        Separation::Refused(n, p) => [n as i64, p as i64, 0, 0, 0],
+        Separation::Same => [0, 0, 1, 0, 0],
+        Separation::DifferentM => [0, 0, 2, 0, 0],
+        Separation::DifferentD => [0, 0, 3, 0, 0],
+        Separation::FirstOutside(k, z) => [0, 0, 4, k as i64, z],
+        Separation::SecondOutside(k, z) => [0, 0, 5, k as i64, z],
+    }
+}
+
+// Writes an answer about two entries.
+pub fn put_separation(out: &mut [i64], s: Separation)
+    requires { ⌜ 5 ≤ length (now out) ⌝ }
+    requires { ⌜ Small (saidBy s) ⌝ }
+    ensures { λ _. ⌜ now (out .exit) ≡ sets (now (out .entry)) 0 (layoutSeparation (saidBy s)) ⌝ }
+{
+    let five = numbers_of(s);
+    put_run(out, 0, &five);
 }
 
 // 1 for yes, 0 for no.

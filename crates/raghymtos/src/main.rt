@@ -6,5 +6,13 @@ fn main() {
     let k = os::arg(2, &mut first);
     let mut second = [0u8; 4096];
     let l = os::arg(3, &mut second);
-    cli_commands::run(&word[..n], &first[..k], &second[..l], os::arg_count() > 4);
+    let mut third = [0u8; 4096];
+    let m = os::arg(4, &mut third);
+    cli_commands::run(
+        &word[..n],
+        &first[..k],
+        &second[..l],
+        &third[..m],
+        os::arg_count() > 5,
+    );
 }

@@ -1,10 +1,16 @@
-// A lattice as a value, made once of numbers that are known to be a basis: the catalogue has tested its entries when it reads them.
+// A lattice as a value, made once of numbers that are known to be a basis: the catalogue has tested its entries when it reads them. And the squared
+// distance of a vector to it.
 ghost use mathlib.Core.Path.{_≡_};
 ghost use mathlib.Core.List.{[]};
+ghost use lib.IntN.{pos};
+ghost use lib.Signed.{_≤ℤ_};
+ghost use Rattle.lattices.specs.Vector.{N};
 ghost use Rattle.lattices.specs.Refusal.{firstOf, vectorChecks};
-ghost use Rattle.lattice_membership.specs.Known.{Known, leftIn};
+ghost use Rattle.successive_minima.specs.Member.{squaredTo};
+ghost use Rattle.lattice_membership.specs.Known.{Known, leftIn, vectorsIn};
 ghost use Rattle.reduced_lattices.specs.Left.{leftOf};
 use lattice_membership::Lattice;
+use row_operations::Vector;
 
 // The lattice of numbers that no refusal applies to: reduced, once, and made ready for membership.
 pub fn lattice(numbers: &[i64], d: usize, m: usize) -> Lattice
@@ -26,4 +32,19 @@ pub fn lattice(numbers: &[i64], d: usize, m: usize) -> Lattice
         gram_matrix::diagonal(gram),
         w.passes,
     )
+}
+
+// The squared distance from t to the lattice, by the search for the nearest vector on the Gram matrix of its vectors.
+pub fn squared_to(l: Lattice, t: Vector) -> i64
+    requires { ⌜ Known l ⌝ }
+    requires { ⌜ N t ≤ℤ pos 400000000 ⌝ }
+    ensures { λ r. ⌜ r ≡ squaredTo (vectorsIn l) t ⌝ }
+{
+    let vectors = l.vectors;
+    let b = row_operations::vectors_of(vectors);
+    let mut g = [[0; 4]; 4];
+    gram_matrix::formed(&b, l.d, &mut g);
+    let mut rest = t;
+    nearest_vectors::lose_nearest(&g, &b, l.d, &mut rest);
+    row_operations::dot(rest, rest)
 }

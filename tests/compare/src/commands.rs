@@ -14,6 +14,9 @@ use reference::random::Random;
 
 const PROGRAM: &str = "target/bin/raghymtos";
 
+/// Where a catalogue is put that the program is to read from a file.
+const FILE: &str = "target/compared.catalogue";
+
 /// What the program writes for these words and this input, on standard output or else on standard error.
 fn run(words: &[&str], input: &[u8]) -> Result<Vec<u8>, String> {
     let fails = |e: std::io::Error| format!("{PROGRAM}: {e}");
@@ -42,8 +45,19 @@ fn without_sentence(said: &[u8]) -> Vec<u8> {
     format!("{numbers}\n").into_bytes()
 }
 
-fn same(words: &[&str], input: &[u8], expected: Vec<u8>) -> Result<(), String> {
-    let got = run(words, input)?;
+/// The program writes what is expected.
+pub fn same(words: &[&str], input: &[u8], expected: Vec<u8>) -> Result<(), String> {
+    compared(words, input, run(words, input)?, expected)
+}
+
+/// The same with the input in a file that the last word names.
+pub fn same_of_file(words: &[&str], input: &[u8], expected: Vec<u8>) -> Result<(), String> {
+    std::fs::write(FILE, input).map_err(|e| format!("{FILE}: {e}"))?;
+    let words = [words, &[FILE]].concat();
+    compared(&words, input, run(&words, &[])?, expected)
+}
+
+fn compared(words: &[&str], input: &[u8], got: Vec<u8>, expected: Vec<u8>) -> Result<(), String> {
     if got == expected {
         return Ok(());
     }
@@ -55,7 +69,7 @@ fn same(words: &[&str], input: &[u8], expected: Vec<u8>) -> Result<(), String> {
 }
 
 /// What is expected of an outcome: the refusal as a line, or what the entries give.
-fn said<T>(outcome: Result<T, Refused>, accepted: impl FnOnce(T) -> Vec<u8>) -> Vec<u8> {
+pub fn said<T>(outcome: Result<T, Refused>, accepted: impl FnOnce(T) -> Vec<u8>) -> Vec<u8> {
     match outcome {
         Err(Refused { number, place }) => format!("refused {number} {place}\n").into_bytes(),
         Ok(answer) => accepted(answer),

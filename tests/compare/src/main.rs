@@ -1,6 +1,6 @@
 //! Compares the compiled engine with the reference on inputs of every kind. Arguments, all optional: how many inputs, the seed to begin
-//! with, how many random catalogues for the library, how many for the command line, and how many with many see words. A difference ends
-//! the run with the input and what both gave.
+//! with, how many random catalogues for the library, how many for the command line (and so many pairs of entries), how many with many see
+//! words, and how many pairs of entries for the library. A difference ends the run with the input and what both gave.
 
 mod catalogue;
 mod catalogues;
@@ -11,6 +11,7 @@ mod membership;
 mod nearest;
 mod reduction;
 mod references;
+mod separations;
 
 use std::process::ExitCode;
 
@@ -23,10 +24,13 @@ fn argument(n: usize, otherwise: u64) -> u64 {
 
 fn main() -> ExitCode {
     let seed = argument(2, 1);
+    let by_command = argument(4, 1_000) as usize;
     let compared = lattices::compare(argument(1, 210_000) as usize, seed)
         .and_then(|()| catalogues::compare(argument(3, 100_000) as usize, seed))
         .and_then(|()| references::compare(argument(5, 100_000) as usize, seed))
-        .and_then(|()| commands::compare(argument(4, 1_000) as usize, seed));
+        .and_then(|()| separations::compare(argument(6, 100_000) as usize, seed))
+        .and_then(|()| commands::compare(by_command, seed))
+        .and_then(|()| separations::by_command(by_command, seed));
     match compared {
         Ok(()) => ExitCode::SUCCESS,
         Err(what) => {

@@ -111,7 +111,7 @@ formed-requires c κs =
     let a = c .before .before in
     let i = untargeted (a .before .before .before .before .before) in
     let e = first (a .before .before) in
-    (accepted i e .most, (ap length (read a) ∙ length-table mostVectors mostCoordinates (basis i), (λ j k. rw (read a) (begun-small i e j k), refl)))
+    (accepted i e .most, (ap length (read a) ∙ length-table mostVectors mostCoordinates (basis i), (λ j k l. rw (read a) (begun-small i e j k), refl)))
 
 unit-table-requires : tie.Need-unit-table-requires
 unit-table-requires c κs = let a = c .before .before .before in accepted (untargeted (a .before .before .before .before .before)) (first (a .before .before)) .most

@@ -51,7 +51,7 @@ formed-requires : tie.Need-formed-requires
 formed-requires c κs =
     let a = c .before .before in
     let i = input (a .before .before .before) in
-    (accepted i (ok a) .most, (ap length (read a) ∙ length-table mostVectors mostCoordinates (basis i), (λ j k. rw (read a) (begun-small i (ok a) j k), refl)))
+    (accepted i (ok a) .most, (ap length (read a) ∙ length-table mostVectors mostCoordinates (basis i), (λ j k l. rw (read a) (begun-small i (ok a) j k), refl)))
 
 unit-table-requires : tie.Need-unit-table-requires
 unit-table-requires c κs = let a = c .before .before .before in accepted (input (a .before .before .before)) (ok a) .most

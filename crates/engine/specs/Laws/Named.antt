@@ -10,7 +10,6 @@ use lib.Signed.{_≤ℤ_}
 use lib.ListN.{length, getD, take, drop}
 use lib.Seq.{take-all}
 use Rattle.integers.specs.Identity.{by-ring, reads}
-use Rattle.integers.specs.Ring.{pos-one-*ℤ}
 use Rattle.integers.specs.ListLaws.{length-⊕, length-⊙}
 use Rattle.lattices.specs.Vector.{Vec, N, nth, dot, comb, distance, _⊖_, _⊙_}
 use Rattle.lattices.specs.Laws.Vector.{dot-⊕, dot-⊙, _≈_, ≈-sym, ≈-trans, ≈-N, ≈-≡}
@@ -28,8 +27,6 @@ use Rattle.greedy_reduction.specs.Exactness.{comb-full}
 use Rattle.greedy_reduction.specs.Padding.{padded-N, comb-padded, padded-minus, nearest-padded}
 use Rattle.greedy_reduction.specs.Accepted.{targeted}
 use Rattle.greedy_reduction.specs.Demand.{accepted-nearest, first-passed}
-use Rattle.gram_matrix.specs.Formed.{products, nth-products}
-use Rattle.nearest_of_three.specs.Formed.{ProductsOf}
 use Rattle.nearest_of_four.specs.Near.{Near}
 use Rattle.engine.specs.declared.NearestVector.{NearestVector}
 use Rattle.engine.specs.Packed.{packedNearest}
@@ -41,11 +38,6 @@ use Rattle.engine.specs.Laws.Finish.{R, accept, some, outs-count, outs-f
 -- the answer from the coefficients and what is left of the target
 unfoldable pub named : Vec → List ℤ → Vec → NearestVector
 named t x rest = record { refusal = 0; place = 0; vector = t ⊖ pos 1 ⊙ rest; coefficients = x; square = dot rest rest }
-
--- the inner products formed are numbers of the search
-pub products-of : (bs : List Vec) (v : Vec) {r : List ℤ} → length bs ≤ 4 → r ≡ products bs v → ProductsOf bs v r
-products-of bs v {r} h e = subst (ProductsOf bs v) (sym e)
-    (record { products = record { at = λ j. pos-one-*ℤ (nth (products bs v) j) ∙ nth-products bs v h j }; long = length-padded 4 (map (λ w. dot w v) bs) })
 
 -- an answer from the nearest vector of the first d vectors
 pub record Answered (d : ℕ) (b : List Vec) (t : Vec) (r : NearestVector) : Type 0 where

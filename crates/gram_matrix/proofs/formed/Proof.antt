@@ -52,7 +52,7 @@ products-requires c κs =
     let s = l .before in
     let i = l .loop .i in
     let h : i < 4 = omega (arith, s .pre .0) in
-    (omega arith, (s .pre .1 .0, (λ m j l. s .pre .1 .1 .0 m j, (s .pre .1 .1 .0 i, ap (λ g. getD g i []) (l .loop .inv .1) ∙ zeros-behind (now (s .args .b)) i h))))
+    (omega arith, (s .pre .1 .0, (λ m j l. s .pre .1 .1 .0 m j (omega arith), (λ j. s .pre .1 .1 .0 i j (omega arith), ap (λ g. getD g i []) (l .loop .inv .1) ∙ zeros-behind (now (s .args .b)) i h))))
 
 mul-r : tie.Need-mul-r Inv-loop μ-loop
 mul-r c = search needs

@@ -28,7 +28,7 @@ formed-requires c κs =
     let b = c .before .before in
     let i = input (b .before) in
     let e = b .before .pre in
-    (accepted i e .most, (search needs, (λ j k. rw (b .basis .ensures) (begun-small i e j k), refl)))
+    (accepted i e .most, (search needs, (λ j k l. rw (b .basis .ensures) (begun-small i e j k), refl)))
 
 unit-table-requires : tie.Need-unit-table-requires
 unit-table-requires c κs = let s = c .before .before .before .before in accepted (input s) (s .pre) .most

@@ -76,7 +76,8 @@ pub fn case(seed: u64, index: usize) -> Vec<u8> {
     }
 }
 
-fn damaged_times(times: usize, whole: Vec<u8>, random: &mut Random) -> Vec<u8> {
+/// So many damages.
+pub fn damaged_times(times: usize, whole: Vec<u8>, random: &mut Random) -> Vec<u8> {
     let mut w = words(&whole);
     for _ in 0..times {
         let damage = random.pick(&DAMAGES);

@@ -90,14 +90,19 @@ fn line_or_square(a: i64, random: &mut Random) -> Vec<Vec<i64>> {
 pub fn independent(random: &mut Random) -> Vec<Vec<i64>> {
     loop {
         let vectors = basis(KINDS[random.index(11)], random);
-        if vectors.iter().all(|v| fits(v)) && rank(&vectors) == vectors.len() {
+        if is_basis(&vectors) {
             return vectors;
         }
     }
 }
 
+/// Whether the vectors are accepted, there being few enough.
+pub fn is_basis(vectors: &[Vec<i64>]) -> bool {
+    vectors.iter().all(|v| fits(v)) && rank(vectors) == vectors.len()
+}
+
 /// Different numbers, often small ones or the greatest.
-fn numbers(count: usize, random: &mut Random) -> Vec<u32> {
+pub fn numbers(count: usize, random: &mut Random) -> Vec<u32> {
     let most = random.pick(&[count as u32, 300 + count as u32, MOST_NUMBER]);
     let mut all = vec![];
     while all.len() < count {
@@ -113,7 +118,7 @@ fn numbers(count: usize, random: &mut Random) -> Vec<u32> {
 }
 
 /// None, its own number, or that of any entry.
-fn see(i: usize, numbers: &[u32], random: &mut Random) -> Option<u32> {
+pub fn see(i: usize, numbers: &[u32], random: &mut Random) -> Option<u32> {
     match random.between(0, 5) {
         0..=2 => None,
         3 => Some(numbers[i]),
@@ -135,7 +140,7 @@ fn disguised(vectors: Vec<Vec<i64>>, random: &mut Random) -> Vec<Vec<i64>> {
 }
 
 /// Another order and other signs.
-fn turned(mut vectors: Vec<Vec<i64>>, random: &mut Random) -> Vec<Vec<i64>> {
+pub fn turned(mut vectors: Vec<Vec<i64>>, random: &mut Random) -> Vec<Vec<i64>> {
     for i in (0..vectors.len()).rev() {
         let j = random.index(i + 1);
         vectors.swap(i, j);
@@ -146,7 +151,7 @@ fn turned(mut vectors: Vec<Vec<i64>>, random: &mut Random) -> Vec<Vec<i64>> {
 }
 
 /// One coordinate more, which is 0: a lattice of another m.
-fn padded(mut vectors: Vec<Vec<i64>>) -> Vec<Vec<i64>> {
+pub fn padded(mut vectors: Vec<Vec<i64>>) -> Vec<Vec<i64>> {
     if vectors[0].len() < MOST {
         vectors.iter_mut().for_each(|v| v.push(0));
     }

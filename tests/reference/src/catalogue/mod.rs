@@ -1,4 +1,4 @@
-//! Catalogues by the rules of document 01: read, written, folded, looked up and listed, plainly and slowly.
+//! Catalogues by the rules of document 01: read, written, folded, looked up and listed, plainly and slowly; and what separates two entries.
 
 pub mod cases;
 pub mod damage;
@@ -6,7 +6,10 @@ pub mod fold;
 pub mod hermite;
 pub mod listing;
 pub mod made;
+pub mod pairs;
 pub mod reader;
+pub mod related;
+pub mod separation;
 pub mod text;
 pub mod writer;
 

@@ -1,0 +1,2 @@
+-- What the code finds of two entries, against the definition.
+pub mod Outsides

@@ -1,5 +1,0 @@
--- Of what size the answers are, so that they can be written as numbers.
-pub mod Shape
-pub mod NearestShape
-pub mod Places
-pub mod CatalogueShape

@@ -1,0 +1,3 @@
+-- Of what size the answers are, so that they can be written as numbers.
+pub mod Shape
+pub mod NearestShape

@@ -1,0 +1,2 @@
+-- The numbers that a search for the nearest vector works on.
+pub mod Numbers

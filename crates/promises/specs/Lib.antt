@@ -1,0 +1,2 @@
+-- Demand 3 whole, for every service.
+pub mod Demand
