@@ -5,16 +5,20 @@ use std::process::Command;
 
 fn main() {
     let out = PathBuf::from(std::env::var("OUT_DIR").expect("cargo names a folder"));
-    for file in ["baseline.c", "own.h", "sets.h", "catalogue.h"] {
+    for file in ["baseline.c", "wide.c", "own.h", "sets.h", "catalogue.h"] {
         println!("cargo:rerun-if-changed=baseline/{file}");
     }
-    run(Command::new("cc")
-        .args(["-O3", "-c", "baseline/baseline.c", "-o"])
-        .arg(out.join("baseline.o")));
+    let objects = ["baseline", "wide"].map(|name| {
+        let object = out.join(name).with_extension("o");
+        run(Command::new("cc")
+            .args(["-O3", "-c", &format!("baseline/{name}.c"), "-o"])
+            .arg(&object));
+        object
+    });
     run(Command::new("ar")
         .arg("rcs")
         .arg(out.join("libbaseline.a"))
-        .arg(out.join("baseline.o")));
+        .args(objects));
     println!("cargo:rustc-link-search=native={}", out.display());
     println!("cargo:rustc-link-lib=static=baseline");
     println!("cargo:rustc-link-lib=m");

@@ -1,10 +1,10 @@
-/* Lattices of at most four vectors with at most four coordinates: reduction, the vector nearest to
+/* Lattices of at most four vectors with at most eight coordinates: reduction, the vector nearest to
  * a target, whether a target is in the lattice, and catalogues of bases. docs/RULES.md has the rules.
  *
  * Link with target/lib/libraghymtos.a, which rust/archive makes (x86-64 Linux).
  *
  * The functions are pure: they keep nothing, allocate nothing and may be called from any thread.
- * Those on catalogues need 640 KB of its stack. They are proved for every input that this header
+ * Those on catalogues need 1 MB of its stack. They are proved for every input that this header
  * allows; the header itself is taken on trust. */
 #ifndef RAGHYMTOS_H
 #define RAGHYMTOS_H
@@ -18,41 +18,43 @@ extern "C" {
 #endif
 
 #define RAGHYMTOS_VERSION_MAJOR 0
-#define RAGHYMTOS_VERSION_MINOR 4
+#define RAGHYMTOS_VERSION_MINOR 5
 #define RAGHYMTOS_VERSION_PATCH 0
-#define RAGHYMTOS_VERSION "0.4.0"
+#define RAGHYMTOS_VERSION "0.5.0"
 
 /* A name that ends in _AT is an index into an answer, one that ends in _COUNT a number of numbers,
  * one that begins with MOST a limit. */
 
 /* The limits. */
 #define RAGHYMTOS_MOST_VECTORS 4               /* d */
-#define RAGHYMTOS_MOST_COORDINATES 4           /* m */
+#define RAGHYMTOS_MOST_COORDINATES 8           /* m */
 #define RAGHYMTOS_MOST_SIZE 20000              /* a coordinate, without its sign */
 #define RAGHYMTOS_MOST_SQUARE 400000000        /* a squared length */
 #define RAGHYMTOS_MOST_ENTRIES 256             /* entries of a catalogue */
 #define RAGHYMTOS_MOST_NUMBER 1048575          /* an entry's number; the least is 1 */
-#define RAGHYMTOS_MOST_CATALOGUE_BYTES 18436   /* an output that is never too short for one */
-#define RAGHYMTOS_MOST_LISTING_BYTES 40000     /* an output that is never too short for a listing */
+#define RAGHYMTOS_MOST_CATALOGUE_BYTES 34820   /* an output that is never too short for one */
+#define RAGHYMTOS_MOST_LISTING_BYTES 70000     /* an output that is never too short for a listing */
 
 /* Where all answers begin. */
 #define RAGHYMTOS_REFUSAL_AT 0 /* 0, or the number of the refusal: then all else but the place is 0 */
 #define RAGHYMTOS_PLACE_AT 1   /* the index of a catalogue's word, 0 where no word is concerned */
 
-/* A reduction's answer. Tables are rows of four numbers, one after another; unused places hold 0. */
-#define RAGHYMTOS_REDUCTION_COUNT 55
-#define RAGHYMTOS_ROW_COUNT 4     /* numbers from one row of a table to the next */
+/* A reduction's answer. Vectors have room for eight numbers each, and the tables U and V are rows of
+ * four, one after another; unused places hold 0. */
+#define RAGHYMTOS_REDUCTION_COUNT 71
+#define RAGHYMTOS_VECTOR_COUNT 8  /* numbers from one vector to the next */
+#define RAGHYMTOS_ROW_COUNT 4     /* numbers from one row of U or V to the next */
 #define RAGHYMTOS_PASSES_AT 2     /* how often a nearest vector was looked for */
 #define RAGHYMTOS_SQUARES_AT 3    /* 4 numbers: the squared lengths of the reduced vectors */
-#define RAGHYMTOS_VECTORS_AT 7    /* 16 numbers, a row for each: the reduced vectors, shortest first */
-#define RAGHYMTOS_U_AT 23         /* 16 numbers, row i: the coefficients of output i on the inputs */
-#define RAGHYMTOS_V_AT 39         /* 16 numbers, row i: the coefficients of input i on the outputs */
+#define RAGHYMTOS_VECTORS_AT 7    /* 32 numbers: the reduced vectors, shortest first */
+#define RAGHYMTOS_U_AT 39         /* 16 numbers, row i: the coefficients of output i on the inputs */
+#define RAGHYMTOS_V_AT 55         /* 16 numbers, row i: the coefficients of input i on the outputs */
 
 /* The answer with a nearest vector. Unused places hold 0. */
-#define RAGHYMTOS_NEAREST_COUNT 11
+#define RAGHYMTOS_NEAREST_COUNT 15
 #define RAGHYMTOS_SQUARE_AT 2       /* the squared distance: 0 exactly for a target in the lattice */
 #define RAGHYMTOS_COEFFICIENTS_AT 3 /* 4 numbers: its coefficients on the reduced vectors */
-#define RAGHYMTOS_VECTOR_AT 7       /* 4 numbers: the nearest vector */
+#define RAGHYMTOS_VECTOR_AT 7       /* 8 numbers: the nearest vector */
 
 /* The answer of a membership. */
 #define RAGHYMTOS_MEMBER_COUNT 3
@@ -107,14 +109,14 @@ static inline const char *raghymtos_refusal_text(int64_t refusal) {
     switch (refusal) {
     case RAGHYMTOS_ACCEPTED: return "accepted";
     case RAGHYMTOS_BAD_D: return "d is not 1 to 4";
-    case RAGHYMTOS_BAD_M: return "m is not 1 to 4";
+    case RAGHYMTOS_BAD_M: return "m is not 1 to 8";
     case RAGHYMTOS_NOT_D_TIMES_M: return "there are not d times m numbers";
     case RAGHYMTOS_TOO_LONG: return "a coordinate beyond 20000 or a squared length over 400000000";
     case RAGHYMTOS_DEPENDENT: return "the vectors are dependent";
     case RAGHYMTOS_TARGET_NOT_M: return "the target has not m numbers";
     case RAGHYMTOS_TARGET_LONG: return "a coordinate of the target beyond 20000 or its squared length over 400000000";
     case RAGHYMTOS_NOT_WORDS: return "the number of bytes is not a multiple of 4";
-    case RAGHYMTOS_TOO_LARGE: return "more than 18436 bytes";
+    case RAGHYMTOS_TOO_LARGE: return "more than 34820 bytes";
     case RAGHYMTOS_UNEXPECTED: return "a word that cannot stand here, or none where one must come";
     case RAGHYMTOS_BAD_NUMBER: return "the entry's number is 0 or used before";
     case RAGHYMTOS_LOST: return "the see word names no entry";
@@ -133,8 +135,8 @@ static inline const char *raghymtos_refusal_text(int64_t refusal) {
  * d, m            how many vectors, and how many coordinates each has
  * out, room       where the answer goes, and how many numbers are lent there
  *
- * Gives true and writes the first 55 numbers of out; those behind them keep their values. If room
- * is less than 55, gives false and writes nothing. No pointer may be null, also for a count of 0,
+ * Gives true and writes the first 71 numbers of out; those behind them keep their values. If room
+ * is less than 71, gives false and writes nothing. No pointer may be null, also for a count of 0,
  * both must be aligned for int64_t, and the two runs of numbers must not overlap. */
 bool raghymtos_reduce(const int64_t *numbers, size_t count, size_t d, size_t m,
                       int64_t *out, size_t room);
@@ -149,15 +151,15 @@ bool raghymtos_reduce(const int64_t *numbers, size_t count, size_t d, size_t m,
  *                        in the span of the vectors
  * out, room              where the answer goes, and how many numbers are lent there
  *
- * Gives true and writes the first 11 numbers of out; those behind them keep their values. If room
- * is less than 11, gives false and writes nothing. No pointer may be null, also for a count of 0,
+ * Gives true and writes the first 15 numbers of out; those behind them keep their values. If room
+ * is less than 15, gives false and writes nothing. No pointer may be null, also for a count of 0,
  * all must be aligned for int64_t, and out must overlap neither numbers nor target. */
 bool raghymtos_nearest(const int64_t *numbers, size_t count, size_t d, size_t m,
                        const int64_t *target, size_t target_count, int64_t *out, size_t room);
 
 /* Says whether a target is in the lattice of d vectors of m coordinates each: exactly when it is a
  * combination of the vectors with whole coefficients. All but the answer is as for raghymtos_nearest,
- * with 3 in the place of 11. */
+ * with 3 in the place of 15. */
 bool raghymtos_member(const int64_t *numbers, size_t count, size_t d, size_t m,
                       const int64_t *target, size_t target_count, int64_t *out, size_t room);
 

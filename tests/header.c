@@ -1,4 +1,4 @@
-/* The header used from C: a reduction, a nearest vector, a membership, a catalogue, what separates two entries, refusals with their texts, lent
+/* The header used from C: reductions, nearest vectors, memberships, a catalogue, what separates two entries, refusals with their texts, lent
  * numbers that are too few, and the version. */
 #include <stdio.h>
 #include <string.h>
@@ -17,27 +17,64 @@ static void expect(bool holds, const char *what) {
 static void reduction(void) {
     const int64_t numbers[] = {5, 8, 8, 13};
     int64_t out[RAGHYMTOS_REDUCTION_COUNT];
-    expect(raghymtos_reduce(numbers, 4, 2, 2, out, RAGHYMTOS_REDUCTION_COUNT), "55 lent numbers are enough");
+    expect(raghymtos_reduce(numbers, 4, 2, 2, out, RAGHYMTOS_REDUCTION_COUNT), "71 lent numbers are enough");
     expect(out[RAGHYMTOS_REFUSAL_AT] == RAGHYMTOS_ACCEPTED && out[RAGHYMTOS_PLACE_AT] == 0, "(5,8),(8,13) is accepted");
     expect(out[RAGHYMTOS_PASSES_AT] == 4, "it takes 4 passes");
     expect(out[RAGHYMTOS_SQUARES_AT] == 1 && out[RAGHYMTOS_SQUARES_AT + 1] == 1, "both reduced vectors have length 1");
-    expect(out[RAGHYMTOS_VECTORS_AT + 1] == -1 && out[RAGHYMTOS_VECTORS_AT + 4] == -1, "they are (0,-1),(-1,0)");
-    expect(out[RAGHYMTOS_U_AT + 4] == -13 && out[RAGHYMTOS_U_AT + 5] == 8, "the second row of U is (-13,8)");
+    expect(out[RAGHYMTOS_VECTORS_AT + 1] == -1 && out[RAGHYMTOS_VECTORS_AT + RAGHYMTOS_VECTOR_COUNT] == -1, "they are (0,-1),(-1,0)");
+    expect(out[RAGHYMTOS_U_AT + RAGHYMTOS_ROW_COUNT] == -13 && out[RAGHYMTOS_U_AT + RAGHYMTOS_ROW_COUNT + 1] == 8, "the second row of U is (-13,8)");
     expect(out[RAGHYMTOS_V_AT] == -8 && out[RAGHYMTOS_V_AT + 1] == -5, "the first row of V is (-8,-5)");
-    expect(!raghymtos_reduce(numbers, 4, 2, 2, out, RAGHYMTOS_REDUCTION_COUNT - 1), "54 lent numbers are too few");
+    expect(!raghymtos_reduce(numbers, 4, 2, 2, out, RAGHYMTOS_REDUCTION_COUNT - 1), "70 lent numbers are too few");
 }
 
 static void nearest(void) {
     const int64_t numbers[] = {20, 0, 10, 20};
     const int64_t target[] = {14, 9};
     int64_t out[RAGHYMTOS_NEAREST_COUNT];
-    expect(raghymtos_nearest(numbers, 4, 2, 2, target, 2, out, RAGHYMTOS_NEAREST_COUNT), "11 lent numbers are enough");
+    expect(raghymtos_nearest(numbers, 4, 2, 2, target, 2, out, RAGHYMTOS_NEAREST_COUNT), "15 lent numbers are enough");
     expect(out[RAGHYMTOS_SQUARE_AT] == 117, "the squared distance from (14,9) is 117");
     expect(out[RAGHYMTOS_COEFFICIENTS_AT] == 1 && out[RAGHYMTOS_COEFFICIENTS_AT + 1] == 0, "its coefficients are 1 and 0");
     expect(out[RAGHYMTOS_VECTOR_AT] == 20 && out[RAGHYMTOS_VECTOR_AT + 1] == 0, "the nearest vector is (20,0)");
     raghymtos_nearest(numbers, 4, 2, 2, target, 1, out, RAGHYMTOS_NEAREST_COUNT);
     expect(out[RAGHYMTOS_REFUSAL_AT] == RAGHYMTOS_TARGET_NOT_M, "a target of one number is refused");
-    expect(!raghymtos_nearest(numbers, 4, 2, 2, target, 2, out, RAGHYMTOS_NEAREST_COUNT - 1), "10 lent numbers are too few");
+    expect(!raghymtos_nearest(numbers, 4, 2, 2, target, 2, out, RAGHYMTOS_NEAREST_COUNT - 1), "14 lent numbers are too few");
+}
+
+/* the lattice A4 in five coordinates, and five times the lattice with a target that ten of its vectors are nearest to */
+static void five_coordinates(void) {
+    const int64_t numbers[] = {1, -1, 0, 0, 0, 0, 1, -1, 0, 0, 0, 0, 1, -1, 0, 0, 0, 0, 1, -1};
+    const int64_t target[] = {3, 3, -2, -2, -2};
+    static const int64_t near[RAGHYMTOS_NEAREST_COUNT] = {0, 0, 30, -1, 0, 0, 1, 0, 5, 0, 0, -5, 0, 0, 0};
+    int64_t times[20], wanted[RAGHYMTOS_REDUCTION_COUNT] = {0, 0, 3, 2, 2, 2, 2}, out[RAGHYMTOS_REDUCTION_COUNT];
+    for (int i = 0; i < 20; i++)
+        times[i] = 5 * numbers[i];
+    for (int i = 0; i < 4; i++) {
+        wanted[RAGHYMTOS_VECTORS_AT + i * RAGHYMTOS_VECTOR_COUNT] = 1;
+        wanted[RAGHYMTOS_VECTORS_AT + i * RAGHYMTOS_VECTOR_COUNT + i + 1] = -1;
+        for (int j = 0; j <= i; j++)
+            wanted[RAGHYMTOS_U_AT + i * RAGHYMTOS_ROW_COUNT + j] = 1;
+        wanted[RAGHYMTOS_V_AT + i * RAGHYMTOS_ROW_COUNT + i] = 1;
+        if (i > 0)
+            wanted[RAGHYMTOS_V_AT + i * RAGHYMTOS_ROW_COUNT + i - 1] = -1;
+    }
+    raghymtos_reduce(numbers, 20, 4, 5, out, RAGHYMTOS_REDUCTION_COUNT);
+    expect(memcmp(out, wanted, sizeof wanted) == 0, "the reduction of four vectors of five coordinates");
+    raghymtos_nearest(times, 20, 4, 5, target, 5, out, RAGHYMTOS_REDUCTION_COUNT);
+    expect(memcmp(out, near, sizeof near) == 0, "the least of ten vectors that are equally near");
+    raghymtos_member(numbers, 20, 4, 5, target, 5, out, RAGHYMTOS_REDUCTION_COUNT);
+    expect(out[RAGHYMTOS_REFUSAL_AT] == 0 && out[RAGHYMTOS_MEMBER_AT] == 1, "its coordinates sum to 0");
+}
+
+/* eight coordinates are the most */
+static void eight_coordinates(void) {
+    const int64_t numbers[] = {0, 0, 0, 0, 0, 0, 1, 2, 0, 0, 0, 0, 0, 0, 1, 3, 0, 0};
+    int64_t out[RAGHYMTOS_REDUCTION_COUNT];
+    raghymtos_reduce(numbers, 16, 2, RAGHYMTOS_MOST_COORDINATES, out, RAGHYMTOS_REDUCTION_COUNT);
+    const int64_t *v = out + RAGHYMTOS_VECTORS_AT;
+    expect(out[RAGHYMTOS_REFUSAL_AT] == RAGHYMTOS_ACCEPTED && out[RAGHYMTOS_SQUARES_AT + 1] == 1, "(1,2),(1,3) are reduced");
+    expect(v[6] + v[7] + v[RAGHYMTOS_VECTOR_COUNT + 6] + v[RAGHYMTOS_VECTOR_COUNT + 7] != 0 && v[5] == 0, "in the last coordinates");
+    raghymtos_reduce(numbers, 18, 2, RAGHYMTOS_MOST_COORDINATES + 1, out, RAGHYMTOS_REDUCTION_COUNT);
+    expect(out[RAGHYMTOS_REFUSAL_AT] == RAGHYMTOS_BAD_M, "nine coordinates are refused");
 }
 
 static void member(void) {
@@ -159,6 +196,8 @@ int main(void) {
     version();
     reduction();
     nearest();
+    five_coordinates();
+    eight_coordinates();
     member();
     catalogue();
     listing();

@@ -1,12 +1,21 @@
 /* Catalogues in C with the checks of docs/RULES.md: reading, the fold and lookup. One lattice is told by the
    Hermite normal form, one for each entry. */
 #define OWN_ENTRIES 256
-#define OWN_BYTES 18436
+#define OWN_BYTES 34820
+
+/* A catalogue that the code of four coordinates refuses with 2 goes to that of eight. */
+#if OWN_WIDTH == 4
+size_t own8_fold(const uint8_t *bytes, size_t n, uint8_t *out);
+uint32_t own8_lookup(const uint8_t *bytes, size_t n, uint32_t number);
+#define OWN_WIDER(name, ...) (c.refusal == 2 ? own8_##name(__VA_ARGS__) : 0)
+#else
+#define OWN_WIDER(name, ...) 0
+#endif
 
 typedef struct {
     uint32_t number, see;
     int d, m, place, sees, see_place;
-    i64 b[4][4];
+    i64 b[4][OWN_WIDTH];
 } own_entry;
 
 typedef struct {
@@ -47,7 +56,7 @@ static int own_read_entry(const uint8_t *bytes, int words, int i, own_catalogue 
     e->sees = 0;
     if (e->d < 1 || e->d > 4)
         return own_refuse(c, 1, i), -1;
-    if (e->m < 1 || e->m > 4)
+    if (e->m < 1 || e->m > OWN_WIDTH)
         return own_refuse(c, 2, i), -1;
     if (e->number == 0 || own_find(c, e->number) >= 0)
         return own_refuse(c, 11, i), -1;
@@ -81,7 +90,8 @@ static int own_read_entry(const uint8_t *bytes, int words, int i, own_catalogue 
     return i;
 }
 
-OWN_API int own_read(const uint8_t *bytes, size_t n, own_catalogue *c) {
+/* 2 where an entry has more coordinates than OWN_WIDTH. */
+OWN_API int OWN(read)(const uint8_t *bytes, size_t n, own_catalogue *c) {
     c->refusal = c->place = c->count = 0;
     if (n % 4)
         return own_refuse(c, 8, 0);
@@ -119,7 +129,7 @@ OWN_API int own_read(const uint8_t *bytes, size_t n, own_catalogue *c) {
 }
 
 /* The Hermite normal form: rows in steps, the numbers above a step from 0 to less than it. */
-static void own_hermite(int d, int m, i64 b[4][4]) {
+static void own_hermite(int d, int m, i64 b[4][OWN_WIDTH]) {
     int step[4], r = 0;
     for (int k = 0; k < m && r < d; k++) {
         for (;;) {
@@ -132,10 +142,10 @@ static void own_hermite(int d, int m, i64 b[4][4]) {
                 }
             if (least < 0)
                 break;
-            i64 row[4];
+            i64 row[OWN_WIDTH];
             memcpy(row, b[least], sizeof row);
             memcpy(b[least], b[r], sizeof row);
-            for (int j = 0; j < 4; j++)
+            for (int j = 0; j < OWN_WIDTH; j++)
                 b[r][j] = row[k] < 0 ? -row[j] : row[j];
             if (others == 1) {
                 step[r++] = k;
@@ -143,7 +153,7 @@ static void own_hermite(int d, int m, i64 b[4][4]) {
             }
             for (int i = r + 1; i < d; i++) {
                 i64 q = b[i][k] / b[r][k];
-                for (int j = k; j < 4; j++)
+                for (int j = k; j < OWN_WIDTH; j++)
                     b[i][j] -= q * b[r][j];
             }
         }
@@ -153,22 +163,22 @@ static void own_hermite(int d, int m, i64 b[4][4]) {
             i64 p = b[k][step[k]], x = b[i][step[k]], q = x / p;
             if (x - q * p < 0)
                 q--;
-            for (int j = 0; j < 4; j++)
+            for (int j = 0; j < OWN_WIDTH; j++)
                 b[i][j] -= q * b[k][j];
         }
 }
 
-static int own_same(const own_entry *e, const own_entry *f, i64 g[4][4], i64 h[4][4]) {
-    return e->m == f->m && e->d == f->d && !memcmp(g, h, sizeof(i64[4][4]));
+static int own_same(const own_entry *e, const own_entry *f, i64 g[4][OWN_WIDTH], i64 h[4][OWN_WIDTH]) {
+    return e->m == f->m && e->d == f->d && !memcmp(g, h, sizeof(i64[4][OWN_WIDTH]));
 }
 
 /* For each entry the first of its lattice. */
 static void own_standing(const own_catalogue *c, int *standing) {
-    static i64 forms[OWN_ENTRIES][4][4];
+    static i64 forms[OWN_ENTRIES][4][OWN_WIDTH];
     for (int i = 0; i < c->count; i++) {
         const own_entry *e = &c->entries[i];
         own_ans a;
-        own_reduce(e->d, e->m, e->b, &a);
+        OWN(reduce)(e->d, e->m, e->b, &a);
         memcpy(forms[i], a.b, sizeof forms[i]);
         own_hermite(e->d, e->m, forms[i]);
         int s = 0;
@@ -200,12 +210,12 @@ static uint8_t *own_put(uint8_t *out, uint32_t w) {
 }
 
 /* The length written; the output is long enough for any catalogue. */
-OWN_API size_t own_fold(const uint8_t *bytes, size_t n, uint8_t *out) {
+OWN_API size_t OWN(fold)(const uint8_t *bytes, size_t n, uint8_t *out) {
     static own_catalogue c;
     int standing[OWN_ENTRIES];
     uint32_t carried[OWN_ENTRIES];
-    if (own_read(bytes, n, &c))
-        return 0;
+    if (OWN(read)(bytes, n, &c))
+        return OWN_WIDER(fold, bytes, n, out);
     own_standing(&c, standing);
     own_carried(&c, standing, carried);
     uint8_t *at = out;
@@ -216,7 +226,7 @@ OWN_API size_t own_fold(const uint8_t *bytes, size_t n, uint8_t *out) {
             continue;
         count++;
         own_ans a;
-        own_reduce(e->d, e->m, e->b, &a);
+        OWN(reduce)(e->d, e->m, e->b, &a);
         at = own_put(at, 1u << 28 | e->number << 8 | (uint32_t)e->d << 4 | (uint32_t)e->m);
         for (int v = 0; v < e->d; v++)
             for (int k = 0; k < e->m; k++)
@@ -229,24 +239,24 @@ OWN_API size_t own_fold(const uint8_t *bytes, size_t n, uint8_t *out) {
 }
 
 /* The standing number, 0 where there is none. */
-OWN_API uint32_t own_lookup(const uint8_t *bytes, size_t n, uint32_t number) {
+OWN_API uint32_t OWN(lookup)(const uint8_t *bytes, size_t n, uint32_t number) {
     static own_catalogue c;
-    if (own_read(bytes, n, &c))
-        return 0;
+    if (OWN(read)(bytes, n, &c))
+        return OWN_WIDER(lookup, bytes, n, number);
     int k = own_find(&c, number);
     if (k < 0)
         return 0;
     own_entry *e = &c.entries[k];
-    i64 form[4][4], other[4][4];
+    i64 form[4][OWN_WIDTH], other[4][OWN_WIDTH];
     own_ans a;
-    own_reduce(e->d, e->m, e->b, &a);
+    OWN(reduce)(e->d, e->m, e->b, &a);
     memcpy(form, a.b, sizeof form);
     own_hermite(e->d, e->m, form);
     for (int i = 0; i < k; i++) {
         own_entry *f = &c.entries[i];
         if (f->m != e->m || f->d != e->d)
             continue;
-        own_reduce(f->d, f->m, f->b, &a);
+        OWN(reduce)(f->d, f->m, f->b, &a);
         memcpy(other, a.b, sizeof other);
         own_hermite(f->d, f->m, other);
         if (own_same(e, f, form, other))

@@ -1,7 +1,9 @@
 /* What the engine is measured against: greedy reduction (Nguyen-Stehle, iterative form) of d <= 4 vectors in m <= 4
-   coordinates, squared lengths <= 4e8, and exact nearest vector.  int64 + double start values that are
+   coordinates, or m <= 8, squared lengths <= 4e8, and exact nearest vector.  int64 + double start values that are
    corrected exactly; ties by the least coefficient list (first coefficient first).  No proof, no claims.
-   own_reduce: vectors only.  own_reduce_full: also U, V = U^-1, squared lengths, pass count. */
+   own_reduce: vectors only.  own_reduce_full: also U, V = U^-1, squared lengths, pass count.
+   One text for two widths, each in its own object, so that four coordinates cost nothing for the sake of eight:
+   own_ is of vectors of four numbers, own8_ of eight. */
 #include <math.h>
 #include <stdint.h>
 #include <string.h>
@@ -9,9 +11,17 @@ typedef int64_t i64;
 #ifndef OWN_API
 #define OWN_API static inline
 #endif
+#ifndef OWN_WIDTH
+#define OWN_WIDTH 4
+#endif
+#if OWN_WIDTH == 4
+#define OWN(name) own_##name
+#else
+#define OWN(name) own8_##name
+#endif
 #define OWN_LIM 400000000LL
 typedef struct {
-    i64 b[4][4], U[4][4], V[4][4], n[4];
+    i64 b[4][OWN_WIDTH], U[4][4], V[4][4], n[4];
     i64 passes;
 } own_ans;
 
@@ -19,7 +29,11 @@ static inline i64 own_iabs(i64 x) {
     return x < 0 ? -x : x;
 }
 static inline i64 own_dot(const i64 *a, const i64 *b) {
+#if OWN_WIDTH == 4
     return a[0] * b[0] + a[1] * b[1] + a[2] * b[2] + a[3] * b[3];
+#else
+    return a[0] * b[0] + a[1] * b[1] + a[2] * b[2] + a[3] * b[3] + a[4] * b[4] + a[5] * b[5] + a[6] * b[6] + a[7] * b[7];
+#endif
 }
 /* least integer nearest to c/g (half goes down): exact for |c|,g <= 4e8*8 */
 static inline i64 own_rnd(double y) {
@@ -170,6 +184,7 @@ static inline i64 own_det2(const i64 *a, const i64 *b, int i, int j) {
 static inline i64 own_det3(const i64 *a, const i64 *b, const i64 *c, int i, int j, int k) {
     return a[i] * own_det2(b, c, j, k) - a[j] * own_det2(b, c, i, k) + a[k] * own_det2(b, c, i, j);
 }
+#if OWN_WIDTH == 4
 static inline int own_independent(int d, int m, const i64 b[4][4]) {
     if (d > m)
         return 0;
@@ -193,9 +208,34 @@ static inline int own_independent(int d, int m, const i64 b[4][4]) {
                b[0][3] * own_det3(b[1], b[2], b[3], 0, 1, 2) !=
            0;
 }
+#else
+static inline i64 own_det4(const i64 b[4][8], int i, int j, int k, int l) {
+    return b[0][i] * own_det3(b[1], b[2], b[3], j, k, l) - b[0][j] * own_det3(b[1], b[2], b[3], i, k, l) +
+           b[0][k] * own_det3(b[1], b[2], b[3], i, j, l) - b[0][l] * own_det3(b[1], b[2], b[3], i, j, k);
+}
+/* some minor of d columns is not 0; most often the first that is tried */
+static inline int own_independent(int d, int m, const i64 b[4][8]) {
+    for (int i = 0; i < m; i++) {
+        if (d == 1 && b[0][i])
+            return 1;
+        for (int j = i + 1; d > 1 && j < m; j++) {
+            if (d == 2 && own_det2(b[0], b[1], i, j))
+                return 1;
+            for (int k = j + 1; d > 2 && k < m; k++) {
+                if (d == 3 && own_det3(b[0], b[1], b[2], i, j, k))
+                    return 1;
+                for (int l = k + 1; d > 3 && l < m; l++)
+                    if (own_det4(b, i, j, k, l))
+                        return 1;
+            }
+        }
+    }
+    return 0;
+}
+#endif
 
 /* one body for all variants: d and FULL are compile-time constants after inlining */
-static inline __attribute__((always_inline)) int own_body(const int d, int m, const i64 in[4][4], own_ans *A,
+static inline __attribute__((always_inline)) int own_body(const int d, int m, const i64 in[4][OWN_WIDTH], own_ans *A,
                                                           const int FULL) {
     /* refusals: 4 = limit, 5 = dependent */
     for (int i = 0; i < d; i++) {
@@ -207,7 +247,7 @@ static inline __attribute__((always_inline)) int own_body(const int d, int m, co
     }
     if (!own_independent(d, m, in))
         return 5;
-    i64(*b)[4] = A->b;
+    i64(*b)[OWN_WIDTH] = A->b;
     i64(*U)[4] = A->U;
     i64(*V)[4] = A->V;
     i64 G[4][4] = {{0}};
@@ -249,7 +289,7 @@ static inline __attribute__((always_inline)) int own_body(const int d, int m, co
         else
             own_near3((const i64(*)[4])G, c, x);
         if (x[0] | x[1] | x[2]) {
-            for (int j = 0; j < 4; j++)
+            for (int j = 0; j < OWN_WIDTH; j++)
                 b[k][j] -= x[0] * b[0][j] + (k > 1 ? x[1] * b[1][j] : 0) + (k > 2 ? x[2] * b[2][j] : 0);
             if (FULL)
                 for (int i = 0; i < k; i++) {
@@ -271,7 +311,7 @@ static inline __attribute__((always_inline)) int own_body(const int d, int m, co
         while (p > 0 && G[p - 1][p - 1] > G[k][k])
             p--;
         for (int q = k; q > p; q--) { /* rotate into place */
-            for (int j = 0; j < 4; j++) {
+            for (int j = 0; j < OWN_WIDTH; j++) {
                 i64 t = b[q][j];
                 b[q][j] = b[q - 1][j];
                 b[q - 1][j] = t;
@@ -306,7 +346,7 @@ static inline __attribute__((always_inline)) int own_body(const int d, int m, co
         A->n[i] = i < d ? G[i][i] : 0;
     return 0;
 }
-OWN_API int own_reduce(int d, int m, const i64 in[4][4], own_ans *A) {
+OWN_API int OWN(reduce)(int d, int m, const i64 in[4][OWN_WIDTH], own_ans *A) {
     switch (d) {
     case 1:
         return own_body(1, m, in, A, 0);
@@ -319,7 +359,7 @@ OWN_API int own_reduce(int d, int m, const i64 in[4][4], own_ans *A) {
     }
     return 1;
 }
-OWN_API int own_reduce_full(int d, int m, const i64 in[4][4], own_ans *A) {
+OWN_API int OWN(reduce_full)(int d, int m, const i64 in[4][OWN_WIDTH], own_ans *A) {
     switch (d) {
     case 1:
         return own_body(1, m, in, A, 1);
@@ -335,7 +375,7 @@ OWN_API int own_reduce_full(int d, int m, const i64 in[4][4], own_ans *A) {
 
 /* Exact nearest vector on a reduced basis b (d <= 4).  x = coefficients (tie rule), returns squared distance.
  */
-OWN_API i64 own_nearest(int d, const i64 b[4][4], const i64 t[4], i64 x[4], i64 v[4]) {
+OWN_API i64 OWN(nearest)(int d, const i64 b[4][OWN_WIDTH], const i64 t[OWN_WIDTH], i64 x[4], i64 v[OWN_WIDTH]) {
     i64 G[4][4], c[4];
     x[0] = x[1] = x[2] = x[3] = 0;
     for (int i = 0; i < d; i++) {
@@ -363,6 +403,16 @@ OWN_API i64 own_nearest(int d, const i64 b[4][4], const i64 t[4], i64 x[4], i64 
         double y4 = ((double)c[3] - (m0 * c[0] + m1 * c[1] + m2 * c[2])) / r4;
         i64 mid = (i64)rint(y4), best = -1, bx[4] = {0, 0, 0, 0};
         i64 tt = own_dot(t, t);
+#if OWN_WIDTH > 4
+        /* the squared distance from the span, which every slice has besides its own; a little less, for rounding */
+        double p = (c[0] * (a00 * c[0] + a01 * c[1] + a02 * c[2]) + c[1] * (a01 * c[0] + a11 * c[1] + a12 * c[2]) +
+                    c[2] * (a02 * c[0] + a12 * c[1] + a22 * c[2])) *
+                   inv;
+        double off = (double)tt - p - y4 * y4 * r4 - 1e-3;
+#define OWN_SLICE(w) (w * w * r4 + off)
+#else
+#define OWN_SLICE(w) (w * w * r4)
+#endif
         int updone = 0, dndone = 0;
         for (i64 s = 0; !(updone && dndone); s++)
             for (int dir = 0; dir < (s ? 2 : 1); dir++) {
@@ -371,7 +421,7 @@ OWN_API i64 own_nearest(int d, const i64 b[4][4], const i64 t[4], i64 x[4], i64 
                     if (dir ? dndone : updone)
                         continue;
                     double w = (double)x4 - y4;
-                    if (best >= 0 && w * w * r4 > (double)best * (1 + 1e-9) + 1e-3) {
+                    if (best >= 0 && OWN_SLICE(w) > (double)best * (1 + 1e-9) + 1e-3) {
                         if (dir)
                             dndone = 1;
                         else
@@ -406,8 +456,8 @@ OWN_API i64 own_nearest(int d, const i64 b[4][4], const i64 t[4], i64 x[4], i64 
             }
         memcpy(x, bx, sizeof bx);
     }
-    i64 r[4] = {0, 0, 0, 0};
-    for (int j = 0; j < 4; j++) {
+    i64 r[OWN_WIDTH] = {0};
+    for (int j = 0; j < OWN_WIDTH; j++) {
         i64 w = 0;
         for (int i = 0; i < d; i++)
             w += x[i] * b[i][j];

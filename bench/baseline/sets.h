@@ -1,10 +1,11 @@
-/* The sets that are measured: n bases of d vectors with d coordinates, each with a target, the same for the
-   same seed (splitmix64).
+/* The sets that are measured: n bases of d vectors, each with a target, the same for the same seed (splitmix64).  The
+   vectors have d coordinates, or eight where OWN_WIDTH is eight.
    sort a: uniform in the ball of squared radius 4e8, independent
    sort b: small random lattice (coordinates up to s, s log-uniform 1..200), scrambled by
            random moves b_i += k b_j (k in -3..3) as long as the length limit holds
    sort c: lattices of multiplicative generators x -> a x mod M, M <= 20000;
-           even numbers primal (1,a,a^2,..),(0,M,..), odd numbers dual (M,0,..),(-a,1,0..),(-a^2,0,1..)
+           even numbers primal (1,a,a^2,..),(0,M,..), odd numbers dual (M,0,..),(-a,1,0..),(-a^2,0,1..);
+           in eight coordinates the d coordinates again and again
    Thirds in equal parts: a gets the remainder.  All bases are independent and inside the limit. */
 #include <stdint.h>
 #include <stdlib.h>
@@ -27,23 +28,6 @@ static i64 n2(const i64 *v, int m) {
         s += v[i] * v[i];
     return s;
 }
-static i64 det(int d, i64 b[4][4]) { /* Laplace; |.| <= 1.6e17 by Hadamard */
-    if (d == 1)
-        return b[0][0];
-    i64 s = 0;
-    for (int c = 0; c < d; c++) {
-        i64 t[4][4];
-        for (int i = 1; i < d; i++) {
-            int q = 0;
-            for (int j = 0; j < d; j++)
-                if (j != c)
-                    t[i - 1][q++] = b[i][j];
-        }
-        i64 x = b[0][c] * det(d - 1, t);
-        s += (c & 1) ? -x : x;
-    }
-    return s;
-}
 static void ball(int d, i64 *v) {
     do
         for (int i = 0; i < d; i++)
@@ -60,29 +44,30 @@ static int prime(int n) {
 }
 /* One basis with its target; unused places are 0. */
 typedef struct {
-    i64 b[4][4], t[4];
+    i64 b[4][OWN_WIDTH], t[OWN_WIDTH];
 } own_input;
 
-void own_set(int d, long n, uint64_t seed, own_input *out) {
+void OWN(set)(int d, long n, uint64_t seed, own_input *out) {
+    int m = OWN_WIDTH == 4 ? d : OWN_WIDTH;
     S = seed * 1000003ULL + (uint64_t)d;
     long nb = n / 3, nc = n / 3, na = n - nb - nc;
     for (long q = 0; q < n; q++) {
         char sort = q < na ? 'a' : q < na + nb ? 'b' : 'c';
-        i64 b[4][4];
+        i64 b[4][OWN_WIDTH];
         memset(b, 0, sizeof b);
         if (sort == 'a') {
             do
                 for (int i = 0; i < d; i++)
-                    ball(d, b[i]);
-            while (det(d, b) == 0);
+                    ball(m, b[i]);
+            while (!own_independent(d, m, b));
         } else if (sort == 'b') {
             static const int scales[8] = {1, 2, 5, 10, 20, 50, 100, 200};
             do {
                 i64 s = scales[uni(0, 7)];
                 for (int i = 0; i < d; i++)
-                    for (int j = 0; j < d; j++)
+                    for (int j = 0; j < m; j++)
                         b[i][j] = uni(-s, s);
-            } while (det(d, b) == 0);
+            } while (!own_independent(d, m, b));
             int fail = 0;
             while (fail < 40) {
                 int i = (int)uni(0, d - 1), j = (int)uni(0, d - 2);
@@ -91,11 +76,11 @@ void own_set(int d, long n, uint64_t seed, own_input *out) {
                 i64 k = uni(1, 3);
                 if (rnd() & 1)
                     k = -k;
-                i64 t[4];
-                for (int z = 0; z < d; z++)
+                i64 t[OWN_WIDTH];
+                for (int z = 0; z < m; z++)
                     t[z] = b[i][z] + k * b[j][z];
-                if (n2(t, d) <= LIM && n2(t, d) >= n2(b[i], d) / 4) {
-                    memcpy(b[i], t, sizeof(i64) * d);
+                if (n2(t, m) <= LIM && n2(t, m) >= n2(b[i], m) / 4) {
+                    memcpy(b[i], t, sizeof(i64) * m);
                     fail = 0;
                 } else
                     fail++;
@@ -134,18 +119,22 @@ void own_set(int d, long n, uint64_t seed, own_input *out) {
                     for (int i = 1; i < d; i++)
                         b[i][i] = M;
                 }
+                for (int i = 0; i < d; i++)
+                    for (int j = d; j < m; j++)
+                        b[i][j] = b[i][j - d];
                 ok = 1;
                 for (int i = 0; i < d; i++)
-                    if (n2(b[i], d) > LIM)
+                    if (n2(b[i], m) > LIM)
                         ok = 0;
             }
         }
         memcpy(out[q].b, b, sizeof b);
         memset(out[q].t, 0, sizeof out[q].t);
-        ball(d, out[q].t);
+        ball(m, out[q].t);
     }
 }
 
+#if OWN_WIDTH == 4
 /* Short vectors and far targets: the face-centred lattice (d = 3) or D4 (d = 4), targets near the limit. */
 void own_far_set(int d, long n, uint64_t seed, own_input *out) {
     static const i64 face[4][4] = {{1, 1, 0, 0}, {1, 0, 1, 0}, {0, 1, 1, 0}, {0, 0, 0, 0}};
@@ -159,3 +148,4 @@ void own_far_set(int d, long n, uint64_t seed, own_input *out) {
         while (n2(out[q].t, d) < LIM / 10 * 9);
     }
 }
+#endif

@@ -24,7 +24,7 @@ struct Request {
 /// The sets of two, three and four vectors, so mixed that neighbours are of different kinds.
 fn mixed() -> Vec<Request> {
     let sets: Vec<_> = (2..=4)
-        .map(|d| baseline::set(false, d, 10_000, 7))
+        .map(|d| baseline::set::<4, baseline::Narrow>(d, 10_000, 7))
         .collect();
     let third = 3_333;
     let place = |i: usize| i / 3 + i % 3 * third;

@@ -4,27 +4,33 @@ use std::hint::black_box;
 use std::time::Instant;
 
 use raghymtos::catalogue::{self as engine, MOST_BYTES};
-use reference::bases::scrambled;
+use reference::bases::{placed, scrambled};
 use reference::catalogue::fold::standing;
 use reference::catalogue::writer::write;
 use reference::catalogue::Entry;
 use reference::random::Random;
 use reference::vectors::rows;
 
-use crate::baseline;
-use crate::{median, sorts};
+use crate::baseline::{self, Baseline};
+use crate::{median, narrow, wide, Set};
 
 const ENTRIES: usize = 256;
 
-pub const NAMES: [&str; 6] = ["typical", "equal", "worst", "passes", "index", "planes"];
+pub const NAMES: [&str; 10] = [
+    "typical", "equal", "worst", "passes", "index", "planes", "typical8", "worst8", "last8", "passes8",
+];
 
 /// The entries of a catalogue, with see words to the entry before.
 fn entries(name: &str) -> Vec<Entry> {
     let mut random = Random::new(1);
     let bases = match name {
-        "typical" => typical(&mut random),
+        "typical" => twice(narrow, &mut random),
+        "typical8" => twice(wide, &mut random),
         "equal" => equal(&mut random),
         "worst" => worst(&mut random),
+        "worst8" => worst_of_eight(&mut random),
+        "last8" => behind_zeros(worst(&mut random)),
+        "passes8" => behind_zeros(passes()),
         "passes" => passes(),
         "index" => index(&mut random),
         _ => planes(),
@@ -40,11 +46,14 @@ fn entries(name: &str) -> Vec<Entry> {
 }
 
 /// 128 lattices of the three sets, of two to four vectors, each in two bases.
-fn typical(random: &mut Random) -> Vec<Vec<Vec<i64>>> {
+fn twice<const W: usize, B: Baseline<W>>(
+    sorts: fn(usize) -> Vec<Set<W, B>>,
+    random: &mut Random,
+) -> Vec<Vec<Vec<i64>>> {
     let mut all = vec![];
     for d in 2..=4 {
         for set in sorts(d) {
-            all.extend(set.numbers[..15].iter().map(|numbers| rows(numbers, d)));
+            all.extend(set.numbers[..15].iter().map(|numbers| rows(numbers, set.m)));
         }
     }
     all.truncate(ENTRIES / 2);
@@ -77,6 +86,27 @@ fn worst(random: &mut Random) -> Vec<Vec<Vec<i64>>> {
     }
     all.truncate(ENTRIES);
     all
+}
+
+/// The same of eight coordinates, in any order and with any signs; the turn is of the first four and of the last four.
+fn worst_of_eight(random: &mut Random) -> Vec<Vec<Vec<i64>>> {
+    let basis: Vec<Vec<i64>> = (0..4)
+        .map(|_| random.vector(8, 2_800).iter().map(|x| 2 * x).collect())
+        .collect();
+    let halves = |v: &Vec<i64>| [turn(&v[..4]), turn(&v[4..])].concat();
+    let turned: Vec<Vec<i64>> = basis.iter().map(halves).collect();
+    (0..ENTRIES)
+        .map(|i| placed([&basis, &turned][i % 2].clone(), random))
+        .collect()
+}
+
+/// In the last four coordinates of eight: the minors there come last.
+fn behind_zeros(bases: Vec<Vec<Vec<i64>>>) -> Vec<Vec<Vec<i64>>> {
+    let moved = |v: Vec<i64>| [vec![0; 4], v].concat();
+    bases
+        .into_iter()
+        .map(|b| b.into_iter().map(moved).collect())
+        .collect()
 }
 
 /// Two bases of small lattices that take 87 passes each.

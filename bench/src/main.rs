@@ -1,14 +1,15 @@
 //! The proved engine against hand-written C, in one process, on the same inputs: nanoseconds for a reduction and for a nearest vector, and
-//! full catalogues. `bench once D` and `bench once far` call each function once for each input, so that its instructions can be counted.
-//! Other arguments, all optional: how many runs, and the only set or catalogue.
+//! full catalogues. `bench once D`, `bench once Dw` (eight coordinates) and `bench once far` call each function once for each input, so
+//! that its instructions can be counted. Other arguments, all optional: how many runs, and the only set or catalogue.
 
 mod baseline;
 mod catalogues;
 
 use std::hint::black_box;
+use std::marker::PhantomData;
 use std::time::Instant;
 
-use baseline::{Answer, Input};
+use baseline::{Answer, Baseline, Input, Narrow, Wide};
 
 const INPUTS: usize = 10_000;
 const SEED: u64 = 20_240_601;
@@ -16,109 +17,129 @@ const RUNS: usize = 51;
 /// A catalogue takes longer.
 const MOST_CATALOGUE_RUNS: usize = 21;
 
-/// Inputs of one sort, d vectors of d coordinates, as both sides take them.
-struct Set {
+/// Inputs of one sort, d vectors of m coordinates, as both sides take them, and the C that takes them.
+struct Set<const W: usize, B: Baseline<W>> {
     name: &'static str,
     d: usize,
-    inputs: Vec<Input>,
+    m: usize,
+    inputs: Vec<Input<W>>,
     /// The coordinates one after another.
     numbers: Vec<Vec<i64>>,
+    side: PhantomData<B>,
 }
 
-impl Set {
-    fn new(name: &'static str, d: usize, inputs: &[Input]) -> Set {
-        let flat = |i: &Input| i.basis[..d].iter().flat_map(|v| v[..d].to_vec()).collect();
+impl<const W: usize, B: Baseline<W>> Set<W, B> {
+    fn new(name: &'static str, d: usize, m: usize, inputs: &[Input<W>]) -> Self {
+        let flat = |i: &Input<W>| i.basis[..d].iter().flat_map(|v| v[..m].to_vec()).collect();
         Set {
             name,
             d,
+            m,
             inputs: inputs.to_vec(),
             numbers: inputs.iter().map(flat).collect(),
+            side: PhantomData,
         }
+    }
+
+    /// As the sets of d vectors are called.
+    fn label(&self) -> String {
+        let end = if W == 4 { "" } else { "w" };
+        format!("{}{end}", self.d)
     }
 }
 
-/// The three sorts of the set of d vectors.
-fn sorts(d: usize) -> Vec<Set> {
-    let all = baseline::set(false, d, INPUTS, SEED);
+/// The three sorts of the set of d vectors of m coordinates.
+fn sorts<const W: usize, B: Baseline<W>>(d: usize, m: usize) -> Vec<Set<W, B>> {
+    let all = baseline::set::<W, B>(d, INPUTS, SEED);
     let third = INPUTS / 3;
     let (first, rest) = all.split_at(INPUTS - 2 * third);
     let (second, last) = rest.split_at(third);
     vec![
-        Set::new("random", d, first),
-        Set::new("scrambled", d, second),
-        Set::new("generator", d, last),
+        Set::new("random", d, m, first),
+        Set::new("scrambled", d, m, second),
+        Set::new("generator", d, m, last),
     ]
 }
 
-/// Short vectors and far targets.
-fn far(d: usize) -> Set {
-    Set::new("far", d, &baseline::set(true, d, INPUTS / 10, SEED))
+/// The three sorts of d vectors of d coordinates.
+fn narrow(d: usize) -> Vec<Set<4, Narrow>> {
+    sorts(d, d)
 }
 
-fn all_sets() -> Vec<Set> {
-    let mut all: Vec<Set> = (2..=4).flat_map(sorts).collect();
-    all.extend((3..=4).map(far));
-    all
+/// The three sorts of d vectors of eight coordinates.
+fn wide(d: usize) -> Vec<Set<8, Wide>> {
+    sorts(d, 8)
+}
+
+/// Short vectors and far targets.
+fn far(d: usize) -> Set<4, Narrow> {
+    Set::new("far", d, d, &baseline::far_set(d, INPUTS / 10, SEED))
 }
 
 /// The four calls that are compared. Each writes its answer to one place.
-fn engine_reduce(s: &Set, i: usize) {
+fn engine_reduce<const W: usize, B: Baseline<W>>(s: &Set<W, B>, i: usize) {
     let mut out = [0; raghymtos::raw::REDUCTION_NUMBERS];
-    raghymtos::raw::reduce(&s.numbers[i], s.d, s.d, &mut out);
+    raghymtos::raw::reduce(&s.numbers[i], s.d, s.m, &mut out);
     black_box(&out);
 }
 
-fn c_reduce(s: &Set, i: usize) {
+fn c_reduce<const W: usize, B: Baseline<W>>(s: &Set<W, B>, i: usize) {
     let mut out = Answer::default();
-    baseline::reduce(s.d, &s.inputs[i], &mut out);
+    baseline::reduce::<W, B>(s.d, s.m, &s.inputs[i], &mut out);
     black_box(&out);
 }
 
-fn engine_nearest(s: &Set, i: usize) {
+fn engine_nearest<const W: usize, B: Baseline<W>>(s: &Set<W, B>, i: usize) {
     let mut out = [0; raghymtos::raw::NEAREST_NUMBERS];
     raghymtos::raw::nearest(
         &s.numbers[i],
         s.d,
-        s.d,
-        &s.inputs[i].target[..s.d],
+        s.m,
+        &s.inputs[i].target[..s.m],
         &mut out,
     );
     black_box(&out);
 }
 
-fn c_nearest(s: &Set, i: usize) {
-    black_box(baseline::nearest(s.d, &s.inputs[i]));
+fn c_nearest<const W: usize, B: Baseline<W>>(s: &Set<W, B>, i: usize) {
+    black_box(baseline::nearest::<W, B>(s.d, s.m, &s.inputs[i]));
 }
 
-const SERVICES: [fn(&Set, usize); 4] = [engine_reduce, c_reduce, engine_nearest, c_nearest];
+type Service<const W: usize, B> = fn(&Set<W, B>, usize);
+
+fn services<const W: usize, B: Baseline<W>>() -> [Service<W, B>; 4] {
+    [engine_reduce, c_reduce, engine_nearest, c_nearest]
+}
 
 /// Both must give the same answers, or the times compare nothing.
-fn same(s: &Set, i: usize) {
-    let (input, d) = (&s.inputs[i], s.d);
+fn same<const W: usize, B: Baseline<W>>(s: &Set<W, B>, i: usize) {
+    let (input, d, m) = (&s.inputs[i], s.d, s.m);
     let mut a = Answer::default();
-    baseline::reduce(d, input, &mut a);
-    let r = raghymtos::reduce(&s.numbers[i], d, d).expect("the sets are accepted");
+    baseline::reduce::<W, B>(d, m, input, &mut a);
+    let r = raghymtos::reduce(&s.numbers[i], d, m).expect("the sets are accepted");
     assert_eq!(
         (r.passes() as i64, r.squares()),
         (a.passes, &a.squares[..d]),
         "{input:?}"
     );
-    for (rows, table) in [(r.vectors(), a.vectors), (r.u(), a.u), (r.v(), a.v)] {
+    let mut vectors = r.vectors().zip(a.vectors);
+    assert!(vectors.all(|(x, y)| x == &y[..m]), "{input:?}");
+    for (rows, table) in [(r.u(), a.u), (r.v(), a.v)] {
         assert!(rows.zip(table).all(|(x, y)| x == &y[..d]), "{input:?}");
     }
     let n =
-        raghymtos::nearest(&s.numbers[i], d, d, &input.target[..d]).expect("the sets are accepted");
-    let b = baseline::nearest(d, input);
+        raghymtos::nearest(&s.numbers[i], d, m, &input.target[..m]).expect("the sets are accepted");
+    let b = baseline::nearest::<W, B>(d, m, input);
     let given = (n.square(), n.coefficients(), n.vector());
     assert_eq!(
         given,
-        (b.square, &b.coefficients[..d], &b.vector[..d]),
+        (b.square, &b.coefficients[..d], &b.vector[..m]),
         "{input:?}"
     );
 }
 
 /// Nanoseconds for one input.
-fn timed(s: &Set, service: fn(&Set, usize)) -> f64 {
+fn timed<const W: usize, B: Baseline<W>>(s: &Set<W, B>, service: Service<W, B>) -> f64 {
     let start = Instant::now();
     for i in 0..s.inputs.len() {
         service(s, i);
@@ -132,17 +153,17 @@ fn median(mut values: Vec<f64>) -> f64 {
 }
 
 /// Times all four in turn, so that what else the machine does falls on all, and prints a line.
-fn measure(s: &Set, runs: usize) {
+fn measure<const W: usize, B: Baseline<W>>(s: &Set<W, B>, runs: usize) {
     (0..s.inputs.len()).for_each(|i| same(s, i));
     let times: Vec<[f64; 4]> = (0..runs)
-        .map(|_| SERVICES.map(|service| timed(s, service)))
+        .map(|_| services().map(|service| timed(s, service)))
         .collect();
     let middle = |i: usize| median(times.iter().map(|t| t[i]).collect());
     let ratio = |i: usize, j: usize| median(times.iter().map(|t| t[i] / t[j]).collect());
     println!(
-        "{:<10} {} {:>8.0} {:>8.0} {:>6.2} {:>9.0} {:>8.0} {:>6.2} {:>15.2}",
+        "{:<10} {:<2} {:>7.0} {:>8.0} {:>6.2} {:>9.0} {:>8.0} {:>6.2} {:>15.2}",
         s.name,
-        s.d,
+        s.label(),
         middle(0),
         middle(1),
         ratio(0, 1),
@@ -155,12 +176,17 @@ fn measure(s: &Set, runs: usize) {
 
 /// Every call once for each input.
 fn once(word: &str) {
-    let sets = match word {
-        "far" => (3..=4).map(far).collect(),
-        d => sorts(d.parse().expect("d is a number")),
-    };
-    for s in &sets {
-        for service in SERVICES {
+    let d = |word: &str| word.parse().expect("d is a number");
+    match word.strip_suffix('w') {
+        Some(word) => each_once(&wide(d(word))),
+        None if word == "far" => each_once(&[far(3), far(4)]),
+        None => each_once(&narrow(d(word))),
+    }
+}
+
+fn each_once<const W: usize, B: Baseline<W>>(sets: &[Set<W, B>]) {
+    for s in sets {
+        for service in services() {
             (0..s.inputs.len()).for_each(|i| service(s, i));
         }
     }
@@ -173,7 +199,7 @@ fn argument(n: usize) -> Option<String> {
 
 fn main() {
     if argument(1).as_deref() == Some("once") {
-        once(&argument(2).expect("once D, or once far"));
+        once(&argument(2).expect("once D, once Dw, or once far"));
         return;
     }
     let runs = argument(1).map_or(RUNS, |word| word.parse().expect("runs is a number"));
@@ -182,14 +208,16 @@ fn main() {
         only.as_deref()
             .is_none_or(|only| only == name || only == kind)
     };
-    let sets: Vec<Set> = all_sets()
-        .into_iter()
-        .filter(|s| is_wanted(s.name, "sets"))
-        .collect();
+    let mut sets: Vec<Set<4, Narrow>> = (2..=4).flat_map(narrow).collect();
+    sets.extend((3..=4).map(far));
+    sets.retain(|s| is_wanted(s.name, "sets"));
+    let mut wide_sets: Vec<Set<8, Wide>> = (2..=4).flat_map(wide).collect();
+    wide_sets.retain(|s| is_wanted(s.name, "sets"));
     if !sets.is_empty() {
         println!("set        d   reduce        C  ratio   nearest        C  ratio  nearest:reduce");
     }
     sets.iter().for_each(|s| measure(s, runs));
+    wide_sets.iter().for_each(|s| measure(s, runs));
     let names: Vec<&str> = catalogues::NAMES
         .into_iter()
         .filter(|n| is_wanted(n, "catalogues"))

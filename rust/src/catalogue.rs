@@ -46,10 +46,10 @@ pub const MOST_ENTRIES: usize = 256;
 pub const MOST_NUMBER: u32 = 1_048_575;
 
 /// The most bytes that a catalogue can have, so the length of an output that is always long enough.
-pub const MOST_BYTES: usize = 18_436;
+pub const MOST_BYTES: usize = 34_820;
 
 /// The most bytes that a listing can have.
-pub const MOST_LISTING_BYTES: usize = 40_000;
+pub const MOST_LISTING_BYTES: usize = 70_000;
 
 /// Why a catalogue is refused, or a call with one that is accepted.
 #[derive(Clone, Copy, Debug, PartialEq, Eq, Hash)]

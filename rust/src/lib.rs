@@ -1,4 +1,4 @@
-//! Lattices of at most four vectors of at most four coordinates: greedy reduction, the nearest vector, membership, and
+//! Lattices of at most four vectors of at most eight coordinates: greedy reduction, the nearest vector, membership, and
 //! catalogues of bases ([`catalogue`]), by a proved engine.
 //!
 //! ```
@@ -37,7 +37,7 @@ pub const VERSION: &str = env!("CARGO_PKG_VERSION");
 pub const MOST_VECTORS: usize = 4;
 
 /// The most coordinates that a vector may have.
-pub const MOST_COORDINATES: usize = 4;
+pub const MOST_COORDINATES: usize = 8;
 
 /// The examples of both READMEs are run as tests.
 #[cfg(doctest)]

@@ -2,10 +2,10 @@
 //! they are taken on trust, as the header is.
 
 /// How many numbers a reduction's answer takes; the header gives their order.
-pub const REDUCTION_NUMBERS: usize = 55;
+pub const REDUCTION_NUMBERS: usize = 71;
 
 /// How many numbers the answer with a nearest vector takes.
-pub const NEAREST_NUMBERS: usize = 11;
+pub const NEAREST_NUMBERS: usize = 15;
 
 /// How many numbers the answer of a membership takes.
 pub const MEMBER_NUMBERS: usize = 3;
@@ -95,7 +95,7 @@ extern "C" {
 
 // Slices are never null, are aligned and do not overlap where one is `&mut`: all that the header asks for.
 
-/// Writes the answer of a reduction to the first 55 numbers of `out`. A shorter `out` is left as it is, and false is given.
+/// Writes the answer of a reduction to the first 71 numbers of `out`. A shorter `out` is left as it is, and false is given.
 pub fn reduce(numbers: &[i64], d: usize, m: usize, out: &mut [i64]) -> bool {
     unsafe {
         raghymtos_reduce(
@@ -109,7 +109,7 @@ pub fn reduce(numbers: &[i64], d: usize, m: usize, out: &mut [i64]) -> bool {
     }
 }
 
-/// Writes the answer with the nearest vector to the first 11 numbers of `out`. A shorter `out` is left as it is, and false is given.
+/// Writes the answer with the nearest vector to the first 15 numbers of `out`. A shorter `out` is left as it is, and false is given.
 pub fn nearest(numbers: &[i64], d: usize, m: usize, target: &[i64], out: &mut [i64]) -> bool {
     unsafe {
         raghymtos_nearest(

@@ -8,7 +8,7 @@ use std::fmt;
 pub enum Refusal {
     /// 1: d is not 1 to 4.
     Vectors,
-    /// 2: m is not 1 to 4.
+    /// 2: m is not 1 to 8.
     Coordinates,
     /// 3: there are not d times m numbers.
     Count,
@@ -22,7 +22,7 @@ pub enum Refusal {
     TargetTooLong,
     /// 8: the number of bytes is not a multiple of 4.
     NotWords,
-    /// 9: there are more than 18,436 bytes.
+    /// 9: there are more than 34,820 bytes.
     TooLarge,
     /// 10: a word of a kind that cannot stand there, or no word where one must come.
     Unexpected,
@@ -47,7 +47,7 @@ pub enum Refusal {
 /// The refusals in the order of their numbers, with what they say.
 const KNOWN: [(Refusal, &str); 17] = [
     (Refusal::Vectors, "d is not 1 to 4"),
-    (Refusal::Coordinates, "m is not 1 to 4"),
+    (Refusal::Coordinates, "m is not 1 to 8"),
     (Refusal::Count, "there are not d times m numbers"),
     (
         Refusal::TooLong,
@@ -63,7 +63,7 @@ const KNOWN: [(Refusal, &str); 17] = [
         Refusal::NotWords,
         "the number of bytes is not a multiple of 4",
     ),
-    (Refusal::TooLarge, "more than 18436 bytes"),
+    (Refusal::TooLarge, "more than 34820 bytes"),
     (
         Refusal::Unexpected,
         "a word that cannot stand here, or none where one must come",

@@ -37,7 +37,12 @@ fn made_and_read() {
 
 #[test]
 fn the_largest_catalogue() {
-    let unit = [[1, 0, 0, 0], [0, 1, 0, 0], [0, 0, 1, 0], [0, 0, 0, 20_000]];
+    let unit = [
+        [1, 0, 0, 0, 0, 0, 0, 0],
+        [0, 1, 0, 0, 0, 0, 0, 0],
+        [0, 0, 0, 0, 0, 0, 1, 0],
+        [0, 0, 0, 0, 0, 0, 0, 20_000],
+    ];
     let all: Vec<Entry> = (0..MOST_ENTRIES as u32)
         .map(|i| Entry::new(MOST_NUMBER - i, unit).seeing(MOST_NUMBER))
         .collect();
@@ -48,6 +53,72 @@ fn the_largest_catalogue() {
         entries(&fold(&made).unwrap()),
         Ok(vec![Entry::new(MOST_NUMBER, unit)])
     );
+    // one word more
+    let more = [&made[..], &[0; 4]].concat();
+    assert_eq!(check(&more).map_err(|r| r.refusal), Err(Refusal::TooLarge));
+}
+
+/// The stack that the header names is enough.
+#[test]
+fn in_a_megabyte() {
+    for test in [the_largest_catalogue, a_long_listing] {
+        let thread = std::thread::Builder::new().stack_size(1 << 20);
+        thread.spawn(test).unwrap().join().unwrap();
+    }
+}
+
+/// Standing entries of the largest kind, all with see words: what [`list`] lends is enough.
+#[test]
+fn a_long_listing() {
+    // rows of signs at right angles to each other
+    let sign = |i: usize, j: usize| if (i & j).count_ones() % 2 == 0 { -1 } else { 1 };
+    let row = |i: usize, size: i64| -> Vec<i64> { (0..8).map(|j| sign(i, j) * size).collect() };
+    let entry = |n: u32| {
+        let vectors = (0..4).map(|i| row(i, 6_000 + i64::from(n)));
+        Entry::new(MOST_NUMBER - n, vectors).seeing(MOST_NUMBER - (n + 1) % 256)
+    };
+    let all: Vec<Entry> = (0..MOST_ENTRIES as u32).map(entry).collect();
+    let text = list(&from_entries(&all).unwrap()).unwrap();
+    assert!(text.starts_with("256 256\n1048575 1048575 1048574 3\nv -6000"));
+    assert_eq!(text.lines().count(), 1 + 256 * 5);
+    assert!(text.len() > 50_000, "{}", text.len());
+}
+
+/// Entries 3 and 5 are one lattice of five coordinates; 8 has the same vectors with zeros behind.
+#[test]
+fn wide_entries() {
+    let a4 = [
+        [1, -1, 0, 0, 0],
+        [0, 1, -1, 0, 0],
+        [0, 0, 1, -1, 0],
+        [0, 0, 0, 1, -1],
+    ];
+    let padded = a4.map(|v| [&v[..], &[0, 0, 0]].concat());
+    let turned = a4.map(|[a, b, c, d, e]| [e, d, c, b, a]);
+    let all = [
+        Entry::new(3, a4),
+        Entry::new(5, turned).seeing(8),
+        Entry::new(8, padded),
+    ];
+    let made = from_entries(&all).unwrap();
+    assert_eq!(made[..4], 0x10000345u32.to_le_bytes());
+    assert_eq!(entries(&made), Ok(all.to_vec()));
+    assert_eq!([3, 5, 8].map(|n| lookup(&made, n)), [Ok(3), Ok(3), Ok(8)]);
+    let reduced = [
+        [1, -1, 0, 0, 0],
+        [1, 0, -1, 0, 0],
+        [1, 0, 0, -1, 0],
+        [1, 0, 0, 0, -1],
+    ];
+    let padded = reduced.map(|v| [&v[..], &[0, 0, 0]].concat());
+    let folded = vec![Entry::new(3, reduced).seeing(8), Entry::new(8, padded)];
+    assert_eq!(entries(&fold(&made).unwrap()), Ok(folded));
+    let text = list(&made).unwrap();
+    assert!(
+        text.starts_with("3 2\n3 3 0 3\nv 1 -1 0 0 0\nv 1 0 -1 0 0\n"),
+        "{text}"
+    );
+    assert!(text.ends_with("v 1 0 0 0 -1 0 0 0\n"), "{text}");
 }
 
 #[test]
@@ -121,7 +192,7 @@ fn no_catalogue() {
         (Refusal::Coordinates, one)
     );
     assert_eq!(
-        refused(Entry::new(9, [[1; 5]])),
+        refused(Entry::new(9, [[1; 9]])),
         (Refusal::Coordinates, one)
     );
     assert_eq!(
@@ -173,7 +244,7 @@ fn too_many_entries() {
         }
         other => panic!("{other:?}"),
     }
-    let large: Vec<Entry> = (1..=300).map(|n| Entry::new(n, [[1; 4]; 4])).collect();
+    let large: Vec<Entry> = (1..=300).map(|n| Entry::new(n, [[1; 8]; 4])).collect();
     match from_entries(&large) {
         Err(NoCatalogue::Refused { entry, refusal }) => {
             assert_eq!((refusal.refusal, entry), (Refusal::TooLarge, None));

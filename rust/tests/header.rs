@@ -30,6 +30,20 @@ fn the_same_numbers() {
     }
 }
 
+/// The parts of the answers follow each other without a gap.
+#[test]
+fn the_layout() {
+    let at = |name: &str| defined(name).parse::<usize>().unwrap();
+    assert_eq!(at("VECTOR_COUNT"), raghymtos::MOST_COORDINATES);
+    assert_eq!(at("ROW_COUNT"), raghymtos::MOST_VECTORS);
+    assert_eq!(at("VECTORS_AT"), at("SQUARES_AT") + 4);
+    assert_eq!(at("U_AT"), at("VECTORS_AT") + 4 * at("VECTOR_COUNT"));
+    assert_eq!(at("V_AT"), at("U_AT") + 4 * at("ROW_COUNT"));
+    assert_eq!(at("REDUCTION_COUNT"), at("V_AT") + 4 * at("ROW_COUNT"));
+    assert_eq!(at("VECTOR_AT"), at("COEFFICIENTS_AT") + 4);
+    assert_eq!(at("NEAREST_COUNT"), at("VECTOR_AT") + at("VECTOR_COUNT"));
+}
+
 #[test]
 fn the_same_version() {
     assert_eq!(defined("VERSION"), format!("\"{}\"", raghymtos::VERSION));

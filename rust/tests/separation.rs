@@ -73,6 +73,42 @@ fn outside() {
     );
 }
 
+/// Lattices of eight coordinates: 1 is 2 without its last vector but with twice that, 3 differs in the last coordinate alone.
+#[test]
+fn eight_coordinates() {
+    let [a, b, c] = [
+        [2, 2, 0, 0, 0, 0, 0, 0],
+        [0, 0, 2, 2, 0, 0, 0, 0],
+        [0, 0, 0, 0, 2, 2, 0, 0],
+    ];
+    let all = [
+        Entry::new(1, [a, b, c, [0, 0, 0, 0, 0, 0, 2, 2]]),
+        Entry::new(2, [a, b, c, [1, 1, 1, 1, 1, 1, 1, 1]]),
+        Entry::new(3, [a, b, c, [1, 1, 1, 1, 1, 1, 1, 2]]),
+        Entry::new(4, [c, b, a, [1, 1, 1, 1, 1, 1, -1, -1]]),
+        Entry::new(5, [[2, 2, 0, 0, 0, 0, 0]]),
+        Entry::new(6, [a]),
+    ];
+    let bytes = from_entries(&all).unwrap();
+    let (position, square) = (4, 8);
+    assert_eq!(
+        separate(&bytes, 1, 2),
+        Ok(SecondOutside { position, square })
+    );
+    assert_eq!(
+        separate(&bytes, 2, 1),
+        Ok(FirstOutside { position, square })
+    );
+    let square = 1;
+    assert_eq!(
+        separate(&bytes, 3, 2),
+        Ok(FirstOutside { position, square })
+    );
+    assert_eq!(separate(&bytes, 2, 4), Ok(Same));
+    assert_eq!(separate(&bytes, 1, 5), Ok(DifferentM));
+    assert_eq!(separate(&bytes, 1, 6), Ok(DifferentD));
+}
+
 #[test]
 fn no_entry() {
     for number in [0, 7, MOST_NUMBER - 1, (1 << 20) + 1, u32::MAX] {

@@ -43,7 +43,7 @@ put-filled z n l (x ∷ v) h =
     ∙ put-filled z n (l ++ (x ∷ [])) v (omega (arith, long))
     ∙ ap (filled z n) (append-snoc l x v)
 
--- ---- what is kept: rows of four numbers
+-- ---- what is kept: rows as wide as vectors can be
 
 pub record Full (k : Left) : Type 0 where
   pub few : k .d ≤ mostVectors

@@ -4,14 +4,14 @@ mod shown;
 
 // The words as bytes.
 fn run(name: &[u8], words: &[u32]) {
-    let mut bytes = [0u8; 18440];
+    let mut bytes = [0u8; 34824];
     let n = sample_catalogues::store(words, &mut bytes);
     shown::outcome(name, &bytes[..n]);
 }
 
 // Entries alike, as many as are counted.
 fn many(name: &[u8], count: u32, shape: u32, rest: &[u32]) {
-    let mut words = [0u32; 4609];
+    let mut words = [0u32; 8705];
     let n = sample_catalogues::alike(&mut words, count, shape, rest);
     run(name, &words[..n]);
 }
@@ -45,27 +45,43 @@ fn document() {
     );
 }
 
-// Row "whole file": 8 comes before 9, and 18,436 bytes are not too many.
+// Row "whole file": 8 comes before 9, and 34,820 bytes are not too many.
 fn whole_file() {
     shown::outcome(b"five bytes", b"\x00\x00\x00\x40\x00");
-    shown::outcome(b"18441 bytes", &[0; 18441]);
-    shown::outcome(b"18440 bytes", &[0; 18440]);
+    shown::outcome(b"34825 bytes", &[0; 34825]);
+    shown::outcome(b"34824 bytes", &[0; 34824]);
     many(
-        b"18436 bytes",
+        b"34820 bytes",
         256,
-        0x44,
+        0x48,
         &[
-            0x20004E21,
-            0x20004E20,
-            0x20004E20,
-            0x20004E20,
             0x20004E20,
             0x20004E21,
             0x20004E20,
             0x20004E20,
             0x20004E20,
             0x20004E20,
+            0x20004E20,
+            0x20004E20,
+            0x20004E20,
+            0x20004E20,
+            0x20004E20,
             0x20004E21,
+            0x20004E20,
+            0x20004E20,
+            0x20004E20,
+            0x20004E20,
+            0x20004E20,
+            0x20004E20,
+            0x20004E20,
+            0x20004E20,
+            0x20004E20,
+            0x20004E21,
+            0x20004E20,
+            0x20004E20,
+            0x20004E20,
+            0x20004E20,
+            0x20004E20,
             0x20004E20,
             0x20004E20,
             0x20004E20,
@@ -118,7 +134,8 @@ fn heads() {
     run(b"d = 0", &[0x10000101]);
     run(b"d = 5, m = 0", &[0x10000150]);
     run(b"m = 0", &[0x10000110]);
-    run(b"m = 5, number 0", &[0x10000015]);
+    run(b"m = 9, number 0", &[0x10000019]);
+    run(b"m = 15", &[0x1000011F]);
     run(b"number 0", &[0x10000011]);
     run(b"a number used", &[0x10000111, 0x20004E21, 0x10000111]);
     run(
@@ -143,6 +160,98 @@ fn coordinates() {
     run(
         b"a second vector too long",
         &[0x10000122, 0x20004E21, 0x20004E20, 0x20009C40, 0x20009C40],
+    );
+}
+
+// Entries of five and of eight coordinates; vectors that their eighth coordinate makes too long or keeps independent.
+fn wide() {
+    run(
+        b"m = 5 and m = 8",
+        &[
+            0x10000125,
+            0x20004E21,
+            0x20004E1F,
+            0x20004E20,
+            0x20004E20,
+            0x20004E22,
+            0x20004E20,
+            0x20004E20,
+            0x20004E20,
+            0x20004E1F,
+            0x20004E23,
+            0x30000002,
+            0x10000218,
+            0x20004E21,
+            0x20004E22,
+            0x20004E23,
+            0x20004E24,
+            0x20004E25,
+            0x20004E26,
+            0x20004E27,
+            0x20004E18,
+            0x40000002,
+        ],
+    );
+    run(
+        b"the eighth too many",
+        &[
+            0x10000118,
+            0x20009C40,
+            0x20004E20,
+            0x20004E20,
+            0x20004E20,
+            0x20004E20,
+            0x20004E20,
+            0x20004E20,
+            0x20004E21,
+            0x40000001,
+        ],
+    );
+    run(
+        b"no eighth",
+        &[
+            0x10000118,
+            0x20004E21,
+            0x20004E20,
+            0x20004E20,
+            0x20004E20,
+            0x20004E20,
+            0x20004E20,
+            0x20004E20,
+            0x40000001,
+        ],
+    );
+    run(
+        b"a sixth of five",
+        &[
+            0x10000115,
+            0x20004E21,
+            0x20004E20,
+            0x20004E20,
+            0x20004E20,
+            0x20004E20,
+            0x20004E20,
+            0x40000001,
+        ],
+    );
+    run(
+        b"dependent in six coordinates",
+        &[
+            0x10000126,
+            0x20004E20,
+            0x20004E20,
+            0x20004E20,
+            0x20004E20,
+            0x20004E22,
+            0x20004E1E,
+            0x20004E20,
+            0x20004E20,
+            0x20004E20,
+            0x20004E20,
+            0x20004E1D,
+            0x20004E23,
+            0x40000001,
+        ],
     );
 }
 
@@ -204,6 +313,7 @@ fn main() {
     missing();
     heads();
     coordinates();
+    wide();
     ends();
     after_reading();
 }

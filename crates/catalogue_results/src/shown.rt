@@ -93,8 +93,8 @@ fn copied(bytes: &[u8], room: &mut [u8]) {
 
 // Lends this many bytes.
 fn lend(bytes: &[u8], n: usize) {
-    let mut room = [170u8; 18440];
-    if n <= 18440 {
+    let mut room = [170u8; 34824];
+    if n <= 34824 {
         copied(bytes, &mut room[..n]);
     }
 }
@@ -115,7 +115,7 @@ pub(crate) fn outcome(name: &[u8], bytes: &[u8]) {
     cli_output::newline();
     entries(c);
     let n = bytes.len();
-    if 0 < n && n <= 18436 {
+    if 0 < n && n <= 34820 {
         lend(bytes, n + 4);
         lend(bytes, n);
         lend(bytes, n - 1);

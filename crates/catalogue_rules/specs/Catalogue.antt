@@ -6,7 +6,7 @@ use lib.IntN.{ℤ}
 use Rattle.lattices.specs.Vector.{Vec}
 use Rattle.lattices.specs.Refusal.{Input, mostVectors, mostCoordinates}
 
--- R2.7: "The limits belong to the catalogue form: 256 entries, 18,436 bytes"; a coordinate's load is at most 40,000
+-- R2.7: 256 entries, 34,820 bytes; a coordinate's load is at most 40,000
 abbrev pub mostEntries : ℕ
 mostEntries = 256
 
@@ -18,7 +18,7 @@ mostNumbers = mostVectors * mostCoordinates
 abbrev pub mostWords : ℕ
 mostWords = mostEntries * (mostNumbers + 2) + 1
 
--- R2.7: 18,436
+-- R2.7: 34,820
 abbrev pub mostBytes : ℕ
 mostBytes = mostWords * 4
 

@@ -1,9 +1,11 @@
--- The catalogue in full of document 01, its sole end word, and a small catalogue for each refusal but 9 and 15: one table, one theorem.
+-- The catalogue in full of document 01, its sole end word, entries of more than four coordinates, and a small catalogue for each refusal but 9 and
+-- 15: one table, one theorem. 9 beside it.
 use mathlib.Core.Path.{_≡_, refl}
 use mathlib.Core.List.{List, [], _∷_, map}
 use mathlib.Core.Option.{Option, none, some}
 use Prim.Native.Nat.{ℕ}
 use lib.IntN.{pos}
+use lib.ListN.{replicate}
 use Rattle.lattices.specs.Vector.{Vec, dot}
 use Rattle.lattices.specs.Volume.{squaredVolume, isDependent}
 use Rattle.catalogue_rules.specs.Word.{decode, bytesOf}
@@ -61,9 +63,10 @@ examples =
     -- no word where a coordinate is due, and none where the end is
     ∷ gives (bytesOf (0x10000112 ∷ 0x20004E21 ∷ [])) (refused 10 2)
     ∷ gives (bytesOf (0x10000111 ∷ 0x20004E21 ∷ 0x30000001 ∷ [])) (refused 10 3)
-    -- d is 5; m is 0; number zero; number used
+    -- d is 5; m is 0; m is 9; number zero; number used
     ∷ gives (bytesOf (0x10000051 ∷ [])) (refused 1 0)
     ∷ gives (bytesOf (0x10000010 ∷ [])) (refused 2 0)
+    ∷ gives (bytesOf (0x10000019 ∷ [])) (refused 2 0)
     ∷ gives (bytesOf (0x10000011 ∷ [])) (refused 11 0)
     ∷ gives (bytesOf (0x10000111 ∷ 0x20004E21 ∷ 0x10000111 ∷ [])) (refused 11 2)
     -- 20,001 and (20000, 1); 20,000 is accepted
@@ -71,6 +74,10 @@ examples =
     ∷ gives (bytesOf (0x10000112 ∷ 0x20009C40 ∷ 0x20004E21 ∷ [])) (refused 4 2)
     ∷ gives (bytesOf (0x10000111 ∷ 0x20009C40 ∷ 0x40000001 ∷ []))
     (accepted (record { head = record { number = 1; d = 1; m = 1; place = 0 }; vectors = (pos 20000 ∷ []) ∷ []; see = none } ∷ []))
+    -- eight coordinates; the last of them makes the vector too long
+    ∷ gives (bytesOf (0x10000118 ∷ 0x20004E21 ∷ 0x20004E22 ∷ 0x20004E23 ∷ 0x20004E24 ∷ 0x20004E25 ∷ 0x20004E26 ∷ 0x20004E27 ∷ 0x20004E28 ∷ 0x40000001 ∷ []))
+    (accepted (record { head = record { number = 1; d = 1; m = 8; place = 0 }; vectors = (pos 1 ∷ pos 2 ∷ pos 3 ∷ pos 4 ∷ pos 5 ∷ pos 6 ∷ pos 7 ∷ pos 8 ∷ []) ∷ []; see = none } ∷ []))
+    ∷ gives (bytesOf (0x10000118 ∷ 0x20009C40 ∷ 0x20004E20 ∷ 0x20004E20 ∷ 0x20004E20 ∷ 0x20004E20 ∷ 0x20004E20 ∷ 0x20004E20 ∷ 0x20004E21 ∷ [])) (refused 4 8)
     -- the count differs, before words follow; words follow
     ∷ gives (bytesOf (0x40000001 ∷ 0x40000000 ∷ [])) (refused 13 0)
     ∷ gives (bytesOf (0x40000000 ∷ 0x40000000 ∷ [])) (refused 14 1)
@@ -83,3 +90,8 @@ examples =
 pub examples-hold : map (λ x. read (x .bytes)) examples ≡ map (λ x. x .outcome) examples
 unfolding dot squaredVolume isDependent decode step readWords read
 examples-hold = refl
+
+-- a word more than there can be
+pub too-many : read (replicate 34824 0) ≡ refused 9 0
+unfolding decode step readWords read
+too-many = refl

@@ -6,7 +6,7 @@ use libc::STDOUT_FILENO;
 fn meaning(fd: i32, number: u64) -> bool {
     match number {
         1 => io::write_all(fd, b"d is not 1 to 4"),
-        2 => io::write_all(fd, b"m is not 1 to 4"),
+        2 => io::write_all(fd, b"m is not 1 to 8"),
         3 => io::write_all(fd, b"there are not d times m numbers"),
         4 => io::write_all(
             fd,
@@ -19,7 +19,7 @@ fn meaning(fd: i32, number: u64) -> bool {
             b"a coordinate of the target beyond 20000 or its squared length over 400000000",
         ),
         8 => io::write_all(fd, b"the number of bytes is not a multiple of 4"),
-        9 => io::write_all(fd, b"more than 18436 bytes"),
+        9 => io::write_all(fd, b"more than 34820 bytes"),
         10 => io::write_all(
             fd,
             b"a word that cannot stand here, or none where one must come",

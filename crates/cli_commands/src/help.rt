@@ -3,7 +3,7 @@ use libc::STDERR_FILENO;
 
 // Writes the program's name and version.
 pub(crate) fn version() {
-    cli_output::write(b"raghymtos 0.4.0\n");
+    cli_output::write(b"raghymtos 0.5.0\n");
 }
 
 // Says what may be asked for, on standard error.
@@ -113,7 +113,7 @@ fn usage() {
     );
     line(
         go,
-        b"The streams run on a stack of 256 KB, the commands for catalogues on one of 1 MB.",
+        b"The streams run on a stack of 256 KB, the commands for catalogues on one of 2 MB.",
     );
 }
 

@@ -2,6 +2,7 @@
 pub mod Begin
 pub mod Finish
 pub mod Few
+pub mod Over
 pub mod Answer
 pub mod Named
 pub mod Membership

@@ -2,8 +2,14 @@
 ghost use mathlib.Core.Path.{_≡_};
 ghost use mathlib.Core.List.{[]};
 ghost use Prim.Native.Nat.{_≤_};
+ghost use lib.IntN.{pos};
+ghost use lib.Signed.{ltZ};
 ghost use lib.ListN.{length, take};
-ghost use Rattle.lattices.specs.Answer.{noReduction, reductionOf, noNearest, nearestOf};
+ghost use Rattle.lattices.specs.Answer.{noReduction, reductionOf, noNearest, nearestOf, table};
+ghost use Rattle.lattices.specs.Refusal.{mostVectors, mostCoordinates, mostSquare, vectorsOf, firstOf, vectorChecks};
+ghost use Rattle.integers.specs.Every.{any};
+ghost use Rattle.gram_matrix.specs.Formed.{formed};
+ghost use Rattle.gram_matrix.specs.Work.{diagonalOf};
 ghost use Rattle.successive_minima.specs.Laws.Digits.{Bounded};
 ghost use Rattle.nearest_of_three.specs.Formed.{GramOf};
 ghost use Rattle.nearest_of_four.specs.Near.{Near};
@@ -50,22 +56,59 @@ fn refused(n: u64) -> Reduction
 }
 
 // The answer from the finished work: the squared lengths are the diagonal of the Gram matrix.
-fn finished(w: Work) -> Reduction
-    ensures { λ r. ⌜ r ≡ finished w ⌝ }
+fn finished(g: &Table, w: Work) -> Reduction
+    requires { ⌜ length (now g) ≡ 4 ⌝ }
+    ensures { λ r. ⌜ r ≡ finished (now (g .entry)) w ⌝ }
 {
     let vectors = w.vectors;
     let u = w.u;
     let v = w.v;
-    let gram = w.gram;
     Reduction {
         refusal: 0,
         place: 0,
         vectors,
         u,
         v,
-        squares: gram_matrix::diagonal(gram),
+        squares: gram_matrix::diagonal(g),
         passes: w.passes,
     }
+}
+
+// Whether one of the first d numbers on the diagonal of a Gram matrix is over the limit.
+fn any_over(g: &Table, d: usize) -> bool
+    requires { ⌜ d ≤ 4 ⌝ }
+    requires { ⌜ length (now g) ≡ 4 ⌝ }
+    ensures { λ r. ⌜ r ≡ any (ltZ (pos mostSquare)) (take d (diagonalOf (now (g .entry)))) ⌝ }
+{
+    for i in 0..d {
+        if input_checks::MOST_SQUARE < g[i][i] {
+            return true;
+        }
+    }
+    false
+}
+
+// The first refusal that applies to d vectors of m coordinates, and 0 for none; then b holds them and g their Gram matrix, whose diagonal has
+// their squared lengths.
+fn begun(numbers: &[i64], d: usize, m: usize, b: &mut Basis, g: &mut Table) -> u64
+    requires { ⌜ now b ≡ table mostVectors mostCoordinates [] ⌝ }
+    requires { ⌜ now g ≡ formed [] ⌝ }
+    ensures { λ r. ⌜ r ≡ firstOf vectorChecks (record { numbers = now (numbers .entry); d = d; m = m; target = [] }) ⌝ }
+    ensures { λ r. ⌜ (r ≡ 0 → now (b .exit) ≡ table mostVectors mostCoordinates (vectorsOf d m (now (numbers .entry)))) ⌝ }
+    ensures { λ r. ⌜ (r ≡ 0 → now (g .exit) ≡ formed (take d (now (b .exit)))) ⌝ }
+{
+    let number = input_checks::shaped(numbers, d, m, b);
+    if number != 0 {
+        return number;
+    }
+    gram_matrix::formed(b, d, g);
+    if any_over(g, d) {
+        return 4;
+    }
+    if input_checks::dependent(b, d) {
+        return 5;
+    }
+    0
 }
 
 // Reduction: d vectors of m coordinates each, vector by vector. The Gram matrix is formed once.
@@ -73,14 +116,14 @@ pub fn reduce(numbers: &[i64], d: usize, m: usize) -> Reduction
     ensures { λ r. ⌜ r ≡ packed (reductionOf (record { numbers = now (numbers .entry); d = d; m = m; target = [] })) ⌝ }
 {
     let mut b = [[0; WIDTH]; 4];
-    let number = input_checks::checked(numbers, d, m, &mut b);
+    let mut g = [[0; 4]; 4];
+    let number = begun(numbers, d, m, &mut b, &mut g);
     if number != 0 {
         return refused(number);
     }
-    let mut g = [[0; 4]; 4];
-    gram_matrix::formed(&b, d, &mut g);
     let e = row_operations::unit_table(d);
-    finished(greedy_steps::reduce_first(g, b, e, e, d, 0))
+    let w = greedy_steps::reduce_first(&mut g, b, e, e, d, 0);
+    finished(&g, w)
 }
 
 // The answer of a search for the nearest vector: the vector, its coefficients on the reduced basis, its squared distance from the target.
@@ -140,7 +183,8 @@ pub fn nearest(numbers: &[i64], d: usize, m: usize, target: &[i64]) -> NearestVe
     ensures { λ r. ⌜ r ≡ packedNearest (nearestOf (record { numbers = now (numbers .entry); d = d; m = m; target = now (target .entry) })) ⌝ }
 {
     let mut a = [[0; WIDTH]; 4];
-    let number = input_checks::checked(numbers, d, m, &mut a);
+    let mut g = [[0; 4]; 4];
+    let number = begun(numbers, d, m, &mut a, &mut g);
     if number != 0 {
         return refused_nearest(number);
     }
@@ -148,14 +192,10 @@ pub fn nearest(numbers: &[i64], d: usize, m: usize, target: &[i64]) -> NearestVe
     if n != 0 {
         return refused_nearest(n);
     }
-    let mut h = [[0; 4]; 4];
-    gram_matrix::formed(&a, d, &mut h);
     let e = row_operations::unit_table(d);
-    let w = greedy_steps::reduce_first(h, a, e, e, d, 0);
+    let w = greedy_steps::reduce_first(&mut g, a, e, e, d, 0);
     let vectors = w.vectors;
-    let gram = w.gram;
     let b = row_operations::vectors_of(vectors);
-    let g = row_operations::tables_of(gram);
     let t = input_checks::vector(target, 0, m);
     searched(&g, &b, d, t)
 }

@@ -118,6 +118,20 @@ longBasesFolded =
     ∷ 0x10000922 ∷ 0x20004E22 ∷ 0x20004E20 ∷ 0x20004E21 ∷ 0x20004E23
     ∷ 0x40000002 ∷ []
 
+-- (1,−1,0,0,0), (0,1,−1,0,0) from two bases, the second with a see word to a vector of eight coordinates
+abbrev pub wideBases : List ℕ
+wideBases =
+    0x10000125 ∷ 0x20004E21 ∷ 0x20004E1F ∷ 0x20004E20 ∷ 0x20004E20 ∷ 0x20004E20 ∷ 0x20004E20 ∷ 0x20004E21 ∷ 0x20004E1F ∷ 0x20004E20 ∷ 0x20004E20
+    ∷ 0x10000225 ∷ 0x20004E21 ∷ 0x20004E20 ∷ 0x20004E1F ∷ 0x20004E20 ∷ 0x20004E20 ∷ 0x20004E20 ∷ 0x20004E21 ∷ 0x20004E1F ∷ 0x20004E20 ∷ 0x20004E20 ∷ 0x30000003
+    ∷ 0x10000318 ∷ 0x20004E20 ∷ 0x20004E20 ∷ 0x20004E20 ∷ 0x20004E20 ∷ 0x20004E20 ∷ 0x20004E20 ∷ 0x20004E20 ∷ 0x20004E1D
+    ∷ 0x40000003 ∷ []
+
+abbrev pub wideBasesFolded : List ℕ
+wideBasesFolded =
+    0x10000125 ∷ 0x20004E21 ∷ 0x20004E1F ∷ 0x20004E20 ∷ 0x20004E20 ∷ 0x20004E20 ∷ 0x20004E21 ∷ 0x20004E20 ∷ 0x20004E1F ∷ 0x20004E20 ∷ 0x20004E20 ∷ 0x30000003
+    ∷ 0x10000318 ∷ 0x20004E20 ∷ 0x20004E20 ∷ 0x20004E20 ∷ 0x20004E20 ∷ 0x20004E20 ∷ 0x20004E20 ∷ 0x20004E20 ∷ 0x20004E1D
+    ∷ 0x40000002 ∷ []
+
 -- a file, the lent output, and what the fold gives
 pub record Example : Type 0 where
   pub file : List ℕ
@@ -154,6 +168,14 @@ examples =
 pub folds-hold : map (λ x. foldOf (x .file) (x .lent)) examples ≡ map (λ x. x .output) examples
 unfolding dot comb _⊕_ _⊙_ squaredVolume isDependent leastBy nearestBy insertBy orderBy credited greedyBy isMember decode encode step readWords read write sameLattice standingBy folded foldOf
 folds-hold = refl
+
+-- more than four coordinates
+abbrev pub wideExamples : List Example
+wideExamples = gives wideBases 88 wideBasesFolded ∷ []
+
+pub wide-folds : map (λ x. foldOf (x .file) (x .lent)) wideExamples ≡ map (λ x. x .output) wideExamples
+unfolding dot comb _⊕_ _⊙_ squaredVolume isDependent leastBy nearestBy insertBy orderBy credited greedyBy isMember decode encode step readWords read write sameLattice standingBy folded foldOf
+wide-folds = refl
 
 pub lookups-hold : map (lookupOf (bytesOf full)) (7 ∷ 9 ∷ 12 ∷ 8 ∷ []) ++ (lookupOf [] 7 ∷ []) ≡ finds 7 ∷ finds 9 ∷ finds 7 ∷ nowhere 17 0 ∷ nowhere 10 0 ∷ []
 unfolding dot comb _⊕_ _⊙_ squaredVolume isDependent leastBy nearestBy insertBy orderBy credited greedyBy isMember decode encode step readWords read sameLattice standingBy lookupOf

@@ -6,7 +6,7 @@ use Prim.Native.Nat.{ℕ, zero, suc, _+_, _-_, _≤_, _<_}
 use native.Mathlib.Omega.{arith}
 use lib.IntN.{ℤ, pos}
 use lib.Signed.{ltZ}
-use lib.ListN.{length, getD, take, drop, set}
+use lib.ListN.{length, getD, take, drop, set, length-set}
 use lib.Seq.{length-take-le}
 use Rattle.lattices.specs.Vector.{N, nth}
 use Rattle.lattices.specs.Greedy.{Row, insert, order, insertBy, orderBy}
@@ -28,16 +28,21 @@ module _ {A : Type 0} where
   exchanged-set d zero (p ∷ q ∷ l) h = refl
   exchanged-set d (suc j) (p ∷ l) h = ap {B = List A} (λ k. p ∷ k) (exchanged-set d j l (omega arith))
 
-  pub length-exchanged : (j : ℕ) (l : List A) → length (exchanged j l) ≡ length l
-  unfolding exchanged
-  length-exchanged j [] = refl
-  length-exchanged zero (p ∷ []) = refl
-  length-exchanged zero (p ∷ q ∷ l) = refl
-  length-exchanged (suc j) (p ∷ l) = ap suc (length-exchanged j l)
+-- rows stay as wide as they are
+pub exchanged-wide : (w j : ℕ) (t : List (List ℤ)) → Coordinates w t → Coordinates w (exchanged j t)
+unfolding exchanged
+exchanged-wide w j [] c = tt
+exchanged-wide w zero (p ∷ []) c = c
+exchanged-wide w zero (p ∷ q ∷ t) c = (c .1 .0, (c .0, c .1 .1))
+exchanged-wide w (suc j) (p ∷ t) c = (c .0, exchanged-wide w j t (c .1))
 
 -- two entries of a row stored crosswise
 abbrev pub swapped : ℕ → List ℤ → List ℤ
 swapped j r = set (set r j (nth r (suc j))) (suc j) (nth r j)
+
+pub swapped-wide : (w j : ℕ) (t : List (List ℤ)) → Coordinates w t → Coordinates w (map (swapped j) t)
+swapped-wide w j [] c = tt
+swapped-wide w j (r ∷ t) c = (length-set (set r j (nth r (suc j))) (suc j) (nth r j) ∙ length-set r j (nth r (suc j)) ∙ c .0, swapped-wide w j t (c .1))
 
 -- in rows that are long enough this is the exchange
 pub map-swapped : (j n : ℕ) (t : List (List ℤ)) → suc j < n → Coordinates n t → map (swapped j) t ≡ map (exchanged j) t

@@ -1,5 +1,5 @@
 -- Which rows the tables belong to: g is their Gram matrix up to a positive factor, b has their vectors or zeros, u their rows of U, v the
--- rows of V (whose columns the rows have). Order by length works on the tables alone.
+-- rows of V (whose columns the rows have); the rows of b and u are as wide as the tables are. Order by length works on the tables alone.
 use mathlib.Core.Path.{_≡_, refl, sym, ap, ap₂, _∙_, subst, fun-ext}
 use mathlib.Core.Bool.{Bool, true, false}
 use mathlib.Core.Logic.{⊎-elim}
@@ -14,9 +14,10 @@ use Rattle.integers.specs.AllLaws.{getD-map}
 use Rattle.integers.specs.ListLaws.{nth-⊙, length-⊙}
 use Rattle.lattices.specs.Vector.{Vec, N, nth, _⊙_}
 use Rattle.lattices.specs.Greedy.{Row, vectors}
+use Rattle.lattices.specs.Refusal.{mostCoordinates}
 use Rattle.greedy_reduction.specs.Start.{Coordinates}
 use Rattle.row_operations.specs.Rows.{transposed}
-use Rattle.gram_matrix.specs.Order.{exchanged, swapped, map-swapped, insertAt, insertAt-suc, longer, blank}
+use Rattle.gram_matrix.specs.Order.{exchanged, exchanged-wide, swapped, map-swapped, insertAt, insertAt-suc, longer, blank}
 use Rattle.gram_matrix.specs.Gram.{gramOf, gram-length, gram-exchanged, gram-diagonal, map-exchanged, coordinates-against}
 
 -- four tables of four rows
@@ -48,6 +49,8 @@ pub record Tied (K : Kind) (rows : List Row) (g b u v : List (List ℤ)) : Type 
   pub vectors : scaled (bit (K .vectors)) (vectors rows) ≡ b
   pub us : map (λ r. r .u) rows ≡ u
   pub vs : transposed (map (λ r. r .v) rows) ≡ v
+  pub vectors-wide : Coordinates mostCoordinates b
+  pub us-wide : Coordinates 4 u
 
 -- ---- rows that change places
 exchanged-⊙ : (F : ℤ) (j : ℕ) (r : List ℤ) → exchanged j (F ⊙ r) ≡ F ⊙ exchanged j r
@@ -88,7 +91,7 @@ tied-wide {rows = rows} t = subst (Coordinates (length rows)) (t .vs) (column 0,
 
 pub tied-exchanged : {K : Kind} {rows : List Row} {g b u v : List (List ℤ)} (j : ℕ) → suc j < length rows → Tied K rows g b u v
     → Tied K (exchanged j rows) (exchanged j (map (swapped j) g)) (exchanged j b) (exchanged j u) (map (swapped j) v)
-tied-exchanged {K} {rows} {g} {v = v} j h t = record {
+tied-exchanged {K} {rows} {g} {b} {u} {v} j h t = record {
   positive = t .positive;
   gram = ap gramOf (map-exchanged (λ r. r .vector) j rows) ∙ gram-exchanged j (vectors rows)
       ∙ ap (λ l. exchanged j (map (exchanged j) l)) (t .gram)
@@ -99,6 +102,8 @@ tied-exchanged {K} {rows} {g} {v = v} j h t = record {
   us = map-exchanged (λ r. r .u) j rows ∙ ap (exchanged j) (t .us);
   vs = ap transposed (map-exchanged (λ r. r .v) j rows) ∙ transposed-exchanged j (map (λ r. r .v) rows) ∙ ap (map (exchanged j)) (t .vs)
       ∙ sym (map-swapped j (length rows) v h (tied-wide t));
+  vectors-wide = exchanged-wide mostCoordinates j b (t .vectors-wide);
+  us-wide = exchanged-wide 4 j u (t .us-wide);
 }
 
 -- ---- the diagonal holds the squared lengths, up to the factor

@@ -1,4 +1,4 @@
--- The four tables packed in row structs, with the count of passes.
+-- Vectors, U and V packed in row structs, with the count of passes; and the diagonal of a Gram matrix.
 use mathlib.Core.Path.{_≡_, refl, sym, ap, _∙_}
 use mathlib.Core.List.{List, [], _∷_, map}
 use Prim.Native.Nat.{ℕ}
@@ -12,8 +12,8 @@ use Rattle.row_operations.specs.RowStructs.{vectorRow, tableRow}
 use Rattle.gram_matrix.specs.declared.work.Work.{Work}
 use Rattle.gram_matrix.specs.Tied.{Held}
 
-abbrev pub workOf : List (List ℤ) → List (List ℤ) → List (List ℤ) → List (List ℤ) → ℕ → Work
-workOf g b u v p = record { gram = map tableRow g; vectors = map vectorRow b; u = map tableRow u; v = map tableRow v; passes = p }
+abbrev pub workOf : List (List ℤ) → List (List ℤ) → List (List ℤ) → ℕ → Work
+workOf b u v p = record { vectors = map vectorRow b; u = map tableRow u; v = map tableRow v; passes = p }
 
 -- the rows of a table of row structs
 abbrev pub vectorsIn : List VectorRow → List (List ℤ)
@@ -34,15 +34,15 @@ pub table-back : (t : List (List ℤ)) → tableIn (map tableRow t) ≡ t
 table-back [] = refl
 table-back (r ∷ t) = ap (λ l. r ∷ l) (table-back t)
 
-pub work-packed : {w : Work} {p : ℕ} (g b u v : List (List ℤ)) → w .gram ≡ map tableRow g → w .vectors ≡ map vectorRow b → w .u ≡ map tableRow u → w .v ≡ map tableRow v → w .passes ≡ p → w ≡ workOf g b u v p
-work-packed x y z t a b c d e = λ k. record { gram = a k; vectors = b k; u = c k; v = d k; passes = e k }
+pub work-packed : {w : Work} {p : ℕ} (b u v : List (List ℤ)) → w .vectors ≡ map vectorRow b → w .u ≡ map tableRow u → w .v ≡ map tableRow v → w .passes ≡ p → w ≡ workOf b u v p
+work-packed y z t b c d e = λ k. record { vectors = b k; u = c k; v = d k; passes = e k }
 
 -- as the typing of arrays tells it: through what stands for a row
-pub work-held : {A B C D : Type 0} (w : Work) (f : TableRow → A) (g : VectorRow → B) (h : TableRow → C) (i : TableRow → D)
-    → length (map f (w .gram)) ≡ 4 → length (map g (w .vectors)) ≡ 4 → length (map h (w .u)) ≡ 4 → length (map i (w .v)) ≡ 4
-    → Held (tableIn (w .gram)) (vectorsIn (w .vectors)) (tableIn (w .u)) (tableIn (w .v))
-work-held w f g h i p q s t = record {
-  gram = length-map (w .gram) (λ a. a .at) ∙ sym (length-map (w .gram) f) ∙ p;
+pub work-held : {A B C : Type 0} {m : List (List ℤ)} (w : Work) (g : VectorRow → A) (h : TableRow → B) (i : TableRow → C)
+    → length m ≡ 4 → length (map g (w .vectors)) ≡ 4 → length (map h (w .u)) ≡ 4 → length (map i (w .v)) ≡ 4
+    → Held m (vectorsIn (w .vectors)) (tableIn (w .u)) (tableIn (w .v))
+work-held w g h i p q s t = record {
+  gram = p;
   vectors = length-map (w .vectors) (λ a. a .at) ∙ sym (length-map (w .vectors) g) ∙ q;
   us = length-map (w .u) (λ a. a .at) ∙ sym (length-map (w .u) h) ∙ s;
   vs = length-map (w .v) (λ a. a .at) ∙ sym (length-map (w .v) i) ∙ t;

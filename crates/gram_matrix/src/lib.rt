@@ -4,7 +4,8 @@ ghost use mathlib.Core.List.{List, [], _++_, map};
 ghost use Prim.Native.Nat.{ℕ, suc, _+_, _-_, _≤_, _<_};
 ghost use lib.IntN.{pos, natAbs, _-ℤ_, _*ℤ_};
 ghost use lib.ListN.{length, getD, set, take, drop};
-ghost use Rattle.lattices.specs.Vector.{nth, dot, _⊖_, _⊙_};
+ghost use Rattle.lattices.specs.Vector.{nth, dot};
+ghost use Rattle.lattices.specs.Refusal.{mostCoordinates};
 ghost use Rattle.row_operations.specs.Minus.{room};
 ghost use Rattle.gram_matrix.specs.Columns.{gainedAt, gainedColumns};
 ghost use Rattle.gram_matrix.specs.Lose.{Losable, Gainable, Loses, Gains, lost};
@@ -14,10 +15,12 @@ ghost use Rattle.integers.specs.Size.{Within};
 ghost use Rattle.gram_matrix.specs.Formed.{products, formed};
 ghost use Rattle.lattices.specs.Answer.{padded};
 ghost use Rattle.lattices.specs.Greedy.{Row, order};
+ghost use Rattle.greedy_reduction.specs.Start.{Coordinates};
 ghost use Rattle.gram_matrix.specs.Order.{exchanged, swapped, insertAt};
 ghost use Rattle.gram_matrix.specs.Tied.{Held, Kind, Tied, shorterIn};
 use row_operations::Basis;
 use row_operations::Vector;
+use row_operations::WIDTH;
 pub use work::Work;
 pub use work::diagonal;
 pub use work::packed;
@@ -76,26 +79,32 @@ pub fn shorter(g: &Table, k: usize) -> bool
     g[k][k] < g[k - 1][k - 1]
 }
 
-// Vectors j and j + 1 change places.
+// Vectors j and j + 1 change places, number by number.
 fn exchange_vectors(b: &mut Basis, j: usize)
     requires { ⌜ length (now b) ≡ 4 ⌝ }
     requires { ⌜ suc j < 4 ⌝ }
-    ensures { λ _. ⌜ now (b .exit) ≡ exchanged j (now (b .entry)) ⌝ }
+    ensures { λ _. ⌜ length (now (b .exit)) ≡ 4 ⌝ }
+    ensures { λ _. ⌜ (Coordinates mostCoordinates (now (b .entry)) → now (b .exit) ≡ exchanged j (now (b .entry))) ⌝ }
 {
-    let row = b[j];
-    b[j] = b[j + 1];
-    b[j + 1] = row;
+    for i in 0..WIDTH {
+        let x = b[j][i];
+        b[j][i] = b[j + 1][i];
+        b[j + 1][i] = x;
+    }
 }
 
-// Rows j and j + 1 change places.
+// Rows j and j + 1 change places, number by number.
 fn exchange_rows(t: &mut Table, j: usize)
     requires { ⌜ length (now t) ≡ 4 ⌝ }
     requires { ⌜ suc j < 4 ⌝ }
-    ensures { λ _. ⌜ now (t .exit) ≡ exchanged j (now (t .entry)) ⌝ }
+    ensures { λ _. ⌜ length (now (t .exit)) ≡ 4 ⌝ }
+    ensures { λ _. ⌜ (Coordinates 4 (now (t .entry)) → now (t .exit) ≡ exchanged j (now (t .entry))) ⌝ }
 {
-    let row = t[j];
-    t[j] = t[j + 1];
-    t[j + 1] = row;
+    for i in 0..4 {
+        let x = t[j][i];
+        t[j][i] = t[j + 1][i];
+        t[j + 1][i] = x;
+    }
 }
 
 // Entries j and j + 1 of a row change places.
@@ -176,14 +185,27 @@ fn lose_entry(a: &mut [i64], i: usize, q: i64, z: i64)
     a[i] -= q * z;
 }
 
-// A row loses q times another.
-fn lose(a: &mut [i64], q: i64, b: &[i64])
-    requires { ⌜ length (now a) ≡ length (now b) ⌝ }
-    requires { ⌜ ((i : ℕ) → natAbs (nth (now a) i) + natAbs (q *ℤ nth (now b) i) ≤ room) ⌝ }
-    ensures { λ _. ⌜ now (a .exit) ≡ now (a .entry) ⊖ q ⊙ now (b .entry) ⌝ }
+// Vector k loses q times vector j.
+fn lose_vector(b: &mut Basis, k: usize, j: usize, q: i64)
+    requires { ⌜ (j < k) × (k ≤ 3) ⌝ }
+    requires { ⌜ Losable mostCoordinates k j q (now b) ⌝ }
+    ensures { λ _. ⌜ now (b .exit) ≡ lost k j q (now (b .entry)) ⌝ }
 {
-    for i in 0..a.len() {
-        lose_entry(a, i, q, b[i]);
+    for i in 0..WIDTH {
+        let z = b[j][i];
+        lose_entry(&mut b[k], i, q, z);
+    }
+}
+
+// Row k loses q times row j.
+fn lose_row(t: &mut Table, k: usize, j: usize, q: i64)
+    requires { ⌜ (j < k) × (k ≤ 3) ⌝ }
+    requires { ⌜ Losable 4 k j q (now t) ⌝ }
+    ensures { λ _. ⌜ now (t .exit) ≡ lost k j q (now (t .entry)) ⌝ }
+{
+    for i in 0..4 {
+        let z = t[j][i];
+        lose_entry(&mut t[k], i, q, z);
     }
 }
 
@@ -211,8 +233,8 @@ fn gain_column(t: &mut Table, j: usize, q: i64, k: usize)
 // Row k of the vectors and of U loses q times row j; column j of V gains q times column k. Most multiples are by 0.
 fn lose_multiple(b: &mut Basis, u: &mut Table, v: &mut Table, k: usize, j: usize, q: i64)
     requires { ⌜ (j < k) × (k ≤ 3) ⌝ }
-    requires { ⌜ Losable k j q (now b) ⌝ }
-    requires { ⌜ Losable k j q (now u) ⌝ }
+    requires { ⌜ Losable mostCoordinates k j q (now b) ⌝ }
+    requires { ⌜ Losable 4 k j q (now u) ⌝ }
     requires { ⌜ Gainable k j q (now v) ⌝ }
     ensures { λ _. ⌜ now (b .exit) ≡ lost k j q (now (b .entry)) ⌝ }
     ensures { λ _. ⌜ now (u .exit) ≡ lost k j q (now (u .entry)) ⌝ }
@@ -221,10 +243,8 @@ fn lose_multiple(b: &mut Basis, u: &mut Table, v: &mut Table, k: usize, j: usize
     if q == 0 {
         return;
     }
-    let vector = b[j];
-    lose(&mut b[k], q, &vector);
-    let row = u[j];
-    lose(&mut u[k], q, &row);
+    lose_vector(b, k, j, q);
+    lose_row(u, k, j, q);
     gain_column(v, j, q, k);
 }
 
@@ -232,8 +252,8 @@ fn lose_multiple(b: &mut Basis, u: &mut Table, v: &mut Table, k: usize, j: usize
 pub fn lose_combination(b: &mut Basis, u: &mut Table, v: &mut Table, k: usize, x: &[i64; 3])
     requires { ⌜ k ≤ 3 ⌝ }
     requires { ⌜ length (now x) ≡ 3 ⌝ }
-    requires { ⌜ Loses k (now x) (now b) ⌝ }
-    requires { ⌜ Loses k (now x) (now u) ⌝ }
+    requires { ⌜ Loses mostCoordinates k (now x) (now b) ⌝ }
+    requires { ⌜ Loses 4 k (now x) (now u) ⌝ }
     requires { ⌜ Gains k (now x) (now v) ⌝ }
     ensures { λ _. ⌜ now (b .exit) ≡ losing (take k (now (x .entry))) (now (b .entry)) k ⌝ }
     ensures { λ _. ⌜ now (u .exit) ≡ losing (take k (now (x .entry))) (now (u .entry)) k ⌝ }

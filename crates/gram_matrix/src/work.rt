@@ -1,35 +1,34 @@
-// The tables packed in row structs, which a struct can hold.
+// The vectors with their tables packed in row structs, which a struct can hold.
 ghost use mathlib.Core.Path.{_≡_};
-ghost use Rattle.gram_matrix.specs.Tied.{Held};
-ghost use Rattle.gram_matrix.specs.Work.{workOf, tableIn, diagonalOf};
+ghost use lib.ListN.{length};
+ghost use Rattle.gram_matrix.specs.Work.{workOf, diagonalOf};
 use super::Table;
 use row_operations::Basis;
 use row_operations::TableRow;
 use row_operations::VectorRow;
 use row_operations::WIDTH;
 
-// The work on a list of vectors: the tables and the passes made so far.
+// The work on a list of vectors: they, their tables and the passes made so far. Their Gram matrix is lent beside it.
 pub struct Work {
-    pub gram: [TableRow; 4],
     pub vectors: [VectorRow; 4],
     pub u: [TableRow; 4],
     pub v: [TableRow; 4],
     pub passes: u64,
 }
 
-pub fn packed(g: &Table, b: &Basis, u: &Table, v: &Table, passes: u64) -> Work
-    requires { ⌜ Held (now g) (now b) (now u) (now v) ⌝ }
-    ensures { λ r. ⌜ r ≡ workOf (now (g .entry)) (now (b .entry)) (now (u .entry)) (now (v .entry)) passes ⌝ }
+pub fn packed(b: &Basis, u: &Table, v: &Table, passes: u64) -> Work
+    requires { ⌜ length (now b) ≡ 4 ⌝ }
+    requires { ⌜ length (now u) ≡ 4 ⌝ }
+    requires { ⌜ length (now v) ≡ 4 ⌝ }
+    ensures { λ r. ⌜ r ≡ workOf (now (b .entry)) (now (u .entry)) (now (v .entry)) passes ⌝ }
 {
     let mut w = Work {
-        gram: [TableRow { at: [0; 4] }; 4],
         vectors: [VectorRow { at: [0; WIDTH] }; 4],
         u: [TableRow { at: [0; 4] }; 4],
         v: [TableRow { at: [0; 4] }; 4],
         passes: passes,
     };
     for i in 0..4 {
-        w.gram[i] = TableRow { at: g[i] };
         w.vectors[i] = VectorRow { at: b[i] };
         w.u[i] = TableRow { at: u[i] };
         w.v[i] = TableRow { at: v[i] };
@@ -38,16 +37,9 @@ pub fn packed(g: &Table, b: &Basis, u: &Table, v: &Table, passes: u64) -> Work
 }
 
 // The numbers on the diagonal: of a Gram matrix the squared lengths.
-pub fn diagonal(rows: [TableRow; 4]) -> [i64; 4]
-    ensures { λ r. ⌜ r ≡ diagonalOf (tableIn rows) ⌝ }
+pub fn diagonal(g: &Table) -> [i64; 4]
+    requires { ⌜ length (now g) ≡ 4 ⌝ }
+    ensures { λ r. ⌜ r ≡ diagonalOf (now (g .entry)) ⌝ }
 {
-    let a = rows[0];
-    let b = rows[1];
-    let c = rows[2];
-    let d = rows[3];
-    let p = a.at;
-    let q = b.at;
-    let r = c.at;
-    let s = d.at;
-    [p[0], q[1], r[2], s[3]]
+    [g[0][0], g[1][1], g[2][2], g[3][3]]
 }

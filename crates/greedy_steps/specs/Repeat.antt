@@ -154,18 +154,18 @@ repeated {n = n} {k = k} s t a c h = record {
 }
 
 -- what a reduction hands back
-pub record Outcome (K : Kind) (n before : ℕ) (rows : List Row) (w : Work) : Type 0 where
-  pub tied : Tied K (greedyRows n rows) (tableIn (w .gram)) (vectorsIn (w .vectors)) (tableIn (w .u)) (tableIn (w .v))
+pub record Outcome (K : Kind) (n before : ℕ) (rows : List Row) (g : List (List ℤ)) (w : Work) : Type 0 where
+  pub tied : Tied K (greedyRows n rows) g (vectorsIn (w .vectors)) (tableIn (w .u)) (tableIn (w .v))
   pub passes : w .passes ≡ before + greedyPasses n rows
 
-pub outcome : {K : Kind} {w : Work} {p n before : ℕ} (g b u v : List (List ℤ)) (rows out : List Row) → w ≡ workOf g b u v p → Tied K out g b u v → out ≡ greedyRows n rows → p ≡ before + greedyPasses n rows
-    → Outcome K n before rows w
-outcome {K} {n = n} {before} g b u v rows out e t o q = subst (Outcome K n before rows) (sym e) (record {
-  tied = rw (table-back g, vectors-back b, table-back u, table-back v) (subst (λ l. Tied K l g b u v) o t);
+pub outcome : {K : Kind} {w : Work} {p n before : ℕ} (g b u v : List (List ℤ)) (rows out : List Row) → w ≡ workOf b u v p → Tied K out g b u v → out ≡ greedyRows n rows → p ≡ before + greedyPasses n rows
+    → Outcome K n before rows g w
+outcome {K} {n = n} {before} g b u v rows out e t o q = subst (Outcome K n before rows g) (sym e) (record {
+  tied = rw (vectors-back b, table-back u, table-back v) (subst (λ l. Tied K l g b u v) o t);
   passes = q;
 })
 
 -- after the turn that is the last
-pub ended : {K : Kind} {n p₀ p q k : ℕ} {w : Work} {rows : List Row} {g b u v g' b' u' v' : List (List ℤ)} (s : Going K n p₀ rows g b u v p) → Round K n k p (s .now) → w ≡ workOf g' b' u' v' q
-    → Tied K (nextRows n k (s .now)) g' b' u' v' → q ≡ suc (p + greedyPasses k (orderRows n (s .now))) → shorterAt k (nextRows n k (s .now)) ≡ false → Outcome K n p₀ rows w
+pub ended : {K : Kind} {n p₀ p q k : ℕ} {w : Work} {rows : List Row} {g b u v g' b' u' v' : List (List ℤ)} (s : Going K n p₀ rows g b u v p) → Round K n k p (s .now) → w ≡ workOf b' u' v' q
+    → Tied K (nextRows n k (s .now)) g' b' u' v' → q ≡ suc (p + greedyPasses k (orderRows n (s .now))) → shorterAt k (nextRows n k (s .now)) ≡ false → Outcome K n p₀ rows g' w
 ended {n = n} {k = k} {rows = rows} {g' = g'} {b'} {u'} {v'} s t e a c h = outcome g' b' u' v' rows (nextRows n k (s .now)) e a (sym (t .stops h .0) ∙ s .same) (omega (arith, c, t .stops h .1, s .count))

@@ -11,16 +11,15 @@ use lib.ListN.{length, getD, take, length-map, length-set, List·getD-eq-default
 use Rattle.integers.specs.Identity.{by-ring, reads}
 use Rattle.integers.specs.Order.{≤ℤ-trans, ≤ℤ-of-<ℤ, *ℤ-mono}
 use Rattle.integers.specs.Size.{Within, load}
-use Rattle.integers.specs.ListLaws.{nth-⊙, length-⊙}
+use Rattle.integers.specs.ListLaws.{nth-⊙}
 use Rattle.lattices.specs.Vector.{Vec, nth, dot, comb, _⊙_, _⊖_}
 use Rattle.lattices.specs.Nearest.{nearest}
-use Rattle.lattices.specs.Refusal.{mostVectors}
+use Rattle.lattices.specs.Refusal.{mostCoordinates}
 use Rattle.lattices.specs.Greedy as Greedy
 use Rattle.lattices.specs.Greedy.{Row}
 use Rattle.lattices.specs.Answer.{padded}
 use Rattle.lattices.specs.Laws.Answer.{nth-padded}
 use Rattle.successive_minima.specs.Reduced.{Reduced}
-use Rattle.greedy_reduction.specs.Start.{Coordinates, sized-vectors, sized-us}
 use Rattle.row_operations.specs.Minus.{room}
 use Rattle.row_operations.specs.Rows.{Tables, rowsOf, rowsOf-tables, transposed}
 use Rattle.gram_matrix.specs.Gram.{losing}
@@ -69,10 +68,6 @@ zero-load zero x t i = refl
 zero-load (suc k) [] t i = refl
 zero-load (suc k) (y ∷ x) [] i = refl
 zero-load (suc k) (y ∷ x) (r ∷ t) i = ap₂ (λ z n. natAbs (y *ℤ z) + n) (nth-⊙ (pos 0) r i ∙ zero-* (nth r i)) (zero-load k x t i) ∙ ap (λ z. natAbs z + 0) (*ℤ-zero y)
-
-scaled-wide : (c : ℤ) (n : ℕ) (t : List (List ℤ)) → Coordinates n t → Coordinates n (scaled c t)
-scaled-wide c n [] h = tt
-scaled-wide c n (r ∷ t) h = (length-⊙ c r ∙ h .0, scaled-wide c n t (h .1))
 
 -- ---- entries of the table V from the columns of the rows
 nth-transposed : (t : List (List ℤ)) (i j : ℕ) → i < 4 → nth (getD (transposed t) i []) j ≡ nth (getD t j []) i
@@ -145,22 +140,20 @@ module _ {K : Kind} {k : ℕ} {g b u v : List (List ℤ)} {rows : List Row} (t :
   vectors-fit true e i = rw ones (Room.vectors-room k rows (r .fine) three (r .reduced) e i)
   vectors-fit false e i = rw (zero-entry (Greedy.vectors rows) k i, zero-load k x (Greedy.vectors rows) i) (omega arith)
 
-  pub vectors-lose : Loses k x b
-  vectors-lose = rw (sym (t .vectors)) (record {
-    width = r .fine .limits .width;
-    four = length-map (Greedy.vectors rows) _ ∙ length-map rows (λ s. s .vector) ∙ rows-four;
-    wide = scaled-wide (bit (K .vectors)) (r .fine .limits .width) (Greedy.vectors rows) (sized-vectors (r .fine .limits .width) mostVectors rows (r .fine .sized));
-    fits = vectors-fit (K .vectors) refl;
-  })
+  pub vectors-lose : Loses mostCoordinates k x b
+  vectors-lose = record {
+    four = ap length (sym (t .vectors)) ∙ length-map (Greedy.vectors rows) _ ∙ length-map rows (λ s. s .vector) ∙ rows-four;
+    wide = t .vectors-wide;
+    fits = rw (sym (t .vectors)) (vectors-fit (K .vectors) refl);
+  }
 
-  pub us-lose : Loses k x u
+  pub us-lose : Loses 4 k x u
   unfolding Room.x
-  us-lose = rw (sym (t .us)) (record {
-    width = mostVectors;
-    four = length-map rows (λ s. s .u) ∙ rows-four;
-    wide = sized-us (r .fine .limits .width) mostVectors rows (r .fine .sized);
-    fits = Room.u-table-room k rows (r .fine) three (r .reduced);
-  })
+  us-lose = record {
+    four = four;
+    wide = t .us-wide;
+    fits = rw (sym (t .us)) (Room.u-table-room k rows (r .fine) three (r .reduced));
+  }
 
   abbrev columns : List (List ℤ)
   columns = map (λ s. s .v) rows

@@ -1,6 +1,7 @@
 // The greedy steps on the Gram matrix: a pass, and the reduction of the first n rows on one vector fewer at each call of itself.
 ghost use mathlib.Core.Path.{_≡_};
 ghost use Prim.Native.Nat.{_≤_};
+ghost use lib.ListN.{length};
 ghost use Rattle.gram_matrix.specs.Tied.{Held, Tied};
 ghost use Rattle.greedy_steps.specs.State.{passRows};
 ghost use Rattle.greedy_steps.specs.Tables.{Passable};
@@ -25,9 +26,10 @@ fn pass(g: &mut Table, b: &mut Basis, u: &mut Table, v: &mut Table, k: usize)
     gram_matrix::cross(g, k, &r, &x);
 }
 
-// Steps 1 to 6 for the first n rows, on one vector fewer at each call of itself. `before` counts the passes made so far.
+// Steps 1 to 6 for the first n rows, on one vector fewer at each call of itself. `before` counts the passes made so far. The Gram matrix is
+// lent to each call.
 pub fn reduce_first(
-    gram: Table,
+    g: &mut Table,
     vectors: Basis,
     us: Table,
     vs: Table,
@@ -35,36 +37,35 @@ pub fn reduce_first(
     before: u64,
 ) -> Work
     requires { ⌜ n ≤ 4 ⌝ }
-    requires { ⌜ Reducible n before gram vectors us vs ⌝ }
-    ensures { λ r. ⌜ ((p : Reducible n before gram vectors us vs) → Outcome (p .kind) n before (p .rows) r) ⌝ }
+    requires { ⌜ length (now g) ≡ 4 ⌝ }
+    requires { ⌜ Reducible n before (now g) vectors us vs ⌝ }
+    ensures { λ _. ⌜ length (now (g .exit)) ≡ 4 ⌝ }
+    ensures { λ r. ⌜ ((p : Reducible n before (now (g .entry)) vectors us vs) → Outcome (p .kind) n before (p .rows) (now (g .exit)) r) ⌝ }
 {
-    let mut g = gram;
     let mut b = vectors;
     let mut u = us;
     let mut v = vs;
     let mut passes = before;
     if n < 2 {
-        return gram_matrix::packed(&g, &b, &u, &v, passes);
+        return gram_matrix::packed(&b, &u, &v, passes);
     }
     loop {
-        gram_matrix::order(&mut g, &mut b, &mut u, &mut v, n);
+        gram_matrix::order(g, &mut b, &mut u, &mut v, n);
         // one vector is given back
         if 2 < n {
             let f = reduce_first(g, b, u, v, n - 1, passes);
-            let first_g = f.gram;
             let first_b = f.vectors;
             let first_u = f.u;
             let first_v = f.v;
-            row_operations::take_table(&mut g, first_g);
             row_operations::take_vectors(&mut b, first_b);
             row_operations::take_table(&mut u, first_u);
             row_operations::take_table(&mut v, first_v);
             passes = f.passes;
         }
-        pass(&mut g, &mut b, &mut u, &mut v, n - 1);
+        pass(g, &mut b, &mut u, &mut v, n - 1);
         passes += 1;
-        if !gram_matrix::shorter(&g, n - 1) {
-            break gram_matrix::packed(&g, &b, &u, &v, passes);
+        if !gram_matrix::shorter(g, n - 1) {
+            break gram_matrix::packed(&b, &u, &v, passes);
         }
     }
 }

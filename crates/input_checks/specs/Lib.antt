@@ -7,4 +7,5 @@ pub mod Choices
 pub mod Determinant
 pub mod FirstMinor
 pub mod Padded
+pub mod Shape
 pub mod Rows

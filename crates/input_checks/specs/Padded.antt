@@ -83,7 +83,7 @@ any-zeros : (f : ℤ → Bool) → f (pos 0) ≡ false → (n : ℕ) → any f (
 any-zeros f e zero = refl
 any-zeros f e (suc n) = ap₂ _||_ e (any-zeros f e n)
 
-any-padded : (f : ℤ → Bool) → f (pos 0) ≡ false → (n : ℕ) (v : Vec) → length v ≤ n → any f (padded n v) ≡ any f v
+pub any-padded : (f : ℤ → Bool) → f (pos 0) ≡ false → (n : ℕ) (v : Vec) → length v ≤ n → any f (padded n v) ≡ any f v
 any-padded f e n [] h = any-zeros f e n
 any-padded f e zero (x ∷ v) h = absurd (not-suc-le-zero h)
 any-padded f e (suc n) (x ∷ v) h = ap (λ t. f x || t) (any-padded f e n v (le-of-suc-le-suc h))

@@ -9,13 +9,15 @@ use lib.ListN.{length, getD, take}
 use lib.Seq.{getD-take}
 use lib.Signed.{_≤ℤ_}
 use Rattle.integers.specs.Order.{ltZ-false}
-use Rattle.lattices.specs.Vector.{Vec, N, dot}
+use Rattle.lattices.specs.Vector.{Vec, N, nth, dot}
 use Rattle.lattices.specs.Volume.{isDependent}
 use Rattle.integers.specs.Every.{any}
 use Rattle.lattices.specs.Refusal.{mostVectors, mostCoordinates, tooLong, vectorsOf}
 use Rattle.lattices.specs.Answer.{padded, table}
 use Rattle.exterior_algebra.specs.Dependence.{Fit}
-use Rattle.input_checks.specs.Any.{beyond, any-none}
+use Rattle.integers.specs.Size.{Within}
+use Rattle.input_checks.specs.Any.{beyond, any-none, within-limit}
+use Rattle.input_checks.specs.Shape.{over, long-over, any-beyond-padded}
 use Rattle.integers.specs.Tests.{neither}
 use Rattle.input_checks.specs.Padded.{fit-vectorsOf, any-long-padded, isDependent-padded}
 use Rattle.lattices.specs.Laws.Answer.{length-vectorsOf, table-rows}
@@ -49,6 +51,20 @@ module _ (d m : ℕ) (l : List ℤ) {b : List Vec} (few : d ≤ mostVectors) (na
   long-rows =
       let fit : Fit mostCoordinates (vectorsOf d m l) = λ i. le-trans (fit-vectorsOf d m l i) narrow in
       ap (any tooLong) rows ∙ any-long-padded mostCoordinates (vectorsOf d m l) fit
+
+  -- where no coordinate is beyond the limit, the rows' numbers are small and squared lengths decide
+  module _ (small : any (any beyond) (vectorsOf d m l) ≡ false) where
+    none-beyond : any (any beyond) (take d b) ≡ false
+    none-beyond = ap (any (any beyond)) rows ∙ any-beyond-padded mostCoordinates (vectorsOf d m l) (λ i. le-trans (fit-vectorsOf d m l i) narrow) ∙ small
+
+    pub small-rows : (i : ℕ) → i < d → (j : ℕ) → Within 20000 (nth (getD b i []) j)
+    small-rows i h = within-limit (getD b i []) (ap (any beyond) (sym (getD-take d b i [] h)) ∙ any-none (any beyond) [] refl (take d b) none-beyond i)
+
+    pub over-rows : any over (take d b) ≡ any tooLong (vectorsOf d m l)
+    over-rows = sym (long-over (take d b) none-beyond) ∙ long-rows
+
+    pub short-rows : any over (take d b) ≡ false → (i : ℕ) → i < d → N (getD b i []) ≤ℤ pos 400000000
+    short-rows e = short d b (long-over (take d b) none-beyond ∙ e)
 
   pub dependent-rows : isDependent mostCoordinates (take d b) ≡ isDependent m (vectorsOf d m l)
   dependent-rows = ap (isDependent mostCoordinates) rows ∙ sym (isDependent-padded m mostCoordinates (vectorsOf d m l) (fit-vectorsOf d m l) narrow)

@@ -1,5 +1,6 @@
 // An input as an array of vectors, and its refusals 1 to 5: comparisons first, so that no number of the input makes arithmetic overflow.
 ghost use mathlib.Core.Path.{_≡_};
+ghost use mathlib.Core.Logic.{_≢_};
 ghost use mathlib.Core.List.{[]};
 ghost use Prim.Native.Nat.{ℕ, _+_, _*_, _<_, _≤_};
 ghost use lib.IntN.{pos};
@@ -12,7 +13,9 @@ ghost use Rattle.lattices.specs.Refusal.{mostVectors, mostCoordinates, vectorsO
 ghost use Rattle.integers.specs.Every.{any};
 ghost use Rattle.lattices.specs.Answer.{padded, table};
 ghost use Rattle.input_checks.specs.Any.{beyond};
-use minors::first_minor;
+ghost use Rattle.input_checks.specs.Shape.{Shaped};
+use minors::leading_minor;
+use minors::other_minor;
 use row_operations::Basis;
 use row_operations::Vector;
 use row_operations::WIDTH;
@@ -87,46 +90,35 @@ pub fn beyond(x: i64) -> bool
 }
 
 // Whether some coordinate is beyond the limit.
-fn any_beyond(v: Vector) -> bool
-    ensures { λ r. ⌜ r ≡ any beyond v ⌝ }
+fn any_beyond(numbers: &[i64]) -> bool
+    ensures { λ r. ⌜ r ≡ any beyond (now (numbers .entry)) ⌝ }
 {
-    for j in 0..WIDTH {
-        if beyond(v[j]) {
+    for j in 0..numbers.len() {
+        if beyond(numbers[j]) {
             return true;
         }
     }
     false
 }
 
-// Whether a vector or a target is too long. The limit of each coordinate comes first, so that the square cannot overflow.
-pub fn long(v: Vector) -> bool
+// Whether a target is too long. The limit of each coordinate comes first, so that the square cannot overflow.
+fn long(v: Vector) -> bool
     ensures { λ r. ⌜ r ≡ tooLong v ⌝ }
 {
-    any_beyond(v) || MOST_SQUARE < row_operations::dot(v, v)
+    any_beyond(&v) || MOST_SQUARE < row_operations::dot(v, v)
 }
 
-// Whether one of the first d vectors is too long.
-fn any_long(b: &Basis, d: usize) -> bool
-    requires { ⌜ d ≤ mostVectors ⌝ }
-    requires { ⌜ length (now b) ≡ 4 ⌝ }
-    ensures { λ r. ⌜ r ≡ any tooLong (take d (now (b .entry))) ⌝ }
-{
-    for i in 0..d {
-        if long(b[i]) {
-            return true;
-        }
-    }
-    false
-}
-
-// Whether the first d vectors, within the length limit, are dependent: no minor is other than zero.
+// Whether the first d vectors, within the length limit, are dependent: no minor is other than zero. Mostly the first one tried is.
 pub fn dependent(b: &Basis, d: usize) -> bool
     requires { ⌜ d ≤ mostVectors ⌝ }
     requires { ⌜ length (now b) ≡ 4 ⌝ }
     requires { ⌜ ((i : ℕ) → i < d → N (getD (now b) i []) ≤ℤ pos 400000000) ⌝ }
     ensures { λ r. ⌜ r ≡ isDependent mostCoordinates (take d (now (b .entry))) ⌝ }
 {
-    let m = first_minor(b, d);
+    if leading_minor(b, d) != 0 {
+        return false;
+    }
+    let m = other_minor(b, d);
     m.minor == 0
 }
 
@@ -137,11 +129,12 @@ pub fn one_to(most: usize, n: usize) -> bool
     1 <= n && n <= most
 }
 
-// The first refusal that applies to d vectors of m coordinates, and 0 for none; then b holds them. The counts come first: then d * m cannot
-// overflow.
-pub fn checked(numbers: &[i64], d: usize, m: usize, b: &mut Basis) -> u64
+// The first refusal that applies to d vectors of m coordinates before their squared lengths are formed: 1, 2, 3, and 4 for a coordinate beyond
+// the limit. It is 0 for none; then b holds the vectors. The counts come first: then d * m cannot overflow.
+pub fn shaped(numbers: &[i64], d: usize, m: usize, b: &mut Basis) -> u64
     requires { ⌜ now b ≡ table mostVectors mostCoordinates [] ⌝ }
-    ensures { λ r. ⌜ r ≡ firstOf vectorChecks (record { numbers = now (numbers .entry); d = d; m = m; target = [] }) ⌝ }
+    ensures { λ r. ⌜ (r ≢ 0 → r ≡ firstOf vectorChecks (record { numbers = now (numbers .entry); d = d; m = m; target = [] })) ⌝ }
+    ensures { λ r. ⌜ (r ≡ 0 → Shaped (record { numbers = now (numbers .entry); d = d; m = m; target = [] })) ⌝ }
     ensures { λ r. ⌜ (r ≡ 0 → now (b .exit) ≡ table mostVectors mostCoordinates (vectorsOf d m (now (numbers .entry)))) ⌝ }
 {
     if !one_to(MOST_VECTORS, d) {
@@ -153,13 +146,10 @@ pub fn checked(numbers: &[i64], d: usize, m: usize, b: &mut Basis) -> u64
     if numbers.len() != d * m {
         return 3;
     }
-    fill(numbers, d, m, b);
-    if any_long(b, d) {
+    if any_beyond(numbers) {
         return 4;
     }
-    if dependent(b, d) {
-        return 5;
-    }
+    fill(numbers, d, m, b);
     ACCEPTED
 }
 

@@ -11,7 +11,7 @@ ghost use Rattle.lattices.specs.Vector.{N, nth};
 ghost use Rattle.lattices.specs.Volume.{Index, volume};
 ghost use Rattle.lattices.specs.Refusal.{mostVectors, mostCoordinates};
 ghost use Rattle.exterior_algebra.specs.Minors.{marks};
-ghost use Rattle.input_checks.specs.Choice.{choice, places, counts, fourAt};
+ghost use Rattle.input_checks.specs.Choice.{choice, places, firsts, counts, fourAt};
 ghost use Rattle.input_checks.specs.Determinant.{pairOf, termOf, determinantOf, unitRows};
 ghost use Rattle.input_checks.specs.FirstMinor.{FirstMinor};
 use row_operations::Basis;
@@ -149,7 +149,7 @@ fn minor_at(b: &Basis, d: usize, number: usize) -> Minor
 }
 
 // The first minor by number that is not zero.
-fn other_minor(b: &Basis, d: usize) -> Minor
+pub fn other_minor(b: &Basis, d: usize) -> Minor
     requires { ⌜ d ≤ mostVectors ⌝ }
     requires { ⌜ length (now b) ≡ 4 ⌝ }
     requires { ⌜ ((i : ℕ) → i < d → N (getD (now b) i []) ≤ℤ pos 400000000) ⌝ }
@@ -167,6 +167,16 @@ fn other_minor(b: &Basis, d: usize) -> Minor
     }
 }
 
+// The minor of d vectors at their first d coordinates.
+pub fn leading_minor(b: &Basis, d: usize) -> i64
+    requires { ⌜ d ≤ mostVectors ⌝ }
+    requires { ⌜ length (now b) ≡ 4 ⌝ }
+    requires { ⌜ ((i : ℕ) → i < d → N (getD (now b) i []) ≤ℤ pos 400000000) ⌝ }
+    ensures { λ r. ⌜ r ≡ volume (take d (now (b .entry))) (firsts mostCoordinates d) ⌝ }
+{
+    minor_of(b, in_order(), d)
+}
+
 // A minor of d vectors that is not zero, and zero where there is none. The first d coordinates are tried first.
 pub fn first_minor(b: &Basis, d: usize) -> Minor
     requires { ⌜ d ≤ mostVectors ⌝ }
@@ -174,10 +184,12 @@ pub fn first_minor(b: &Basis, d: usize) -> Minor
     requires { ⌜ ((i : ℕ) → i < d → N (getD (now b) i []) ≤ℤ pos 400000000) ⌝ }
     ensures { λ r. ⌜ FirstMinor (take d (now (b .entry))) r ⌝ }
 {
-    let at = in_order();
-    let minor = minor_of(b, at, d);
+    let minor = leading_minor(b, d);
     if minor != 0 {
-        return Minor { at, minor };
+        return Minor {
+            at: in_order(),
+            minor,
+        };
     }
     other_minor(b, d)
 }

@@ -1,5 +1,9 @@
 // The known results of document 01 on the compiled engine, with the limits of length, the refusals, targets that tell wrong readings
-// of "nearest" apart, and membership.
+// of "nearest" apart, and membership; and the same in more than four coordinates.
+ghost use mathlib.Core.Path.{_≡_};
+ghost use Prim.Native.Nat.{_≤_};
+ghost use lib.ListN.{length, take};
+
 // Writes the name of an input, then the answer to its reduction.
 fn reduced(name: &[u8], numbers: &[i64], d: usize, m: usize) {
     cli_output::write(name);
@@ -43,7 +47,8 @@ fn lengths() {
 // Counts that no list of vectors has.
 fn counts() {
     reduced(b"d = 0", &[1], 0, 1);
-    reduced(b"m = 5", &[1, 0, 0, 0, 0], 1, 5);
+    reduced(b"m = 8", &[1, 2, 3, 4, 5, 6, 7, -8], 1, 8);
+    reduced(b"m = 9", &[1, 2, 3, 4, 5, 6, 7, 8, 9], 1, 9);
     reduced(b"three numbers for two by two", &[1, 0, 0], 2, 2);
 }
 
@@ -117,6 +122,166 @@ fn members() {
     in_lattice(b"a target of another m", &[1, 0], 1, 2, &[1]);
 }
 
+// The numbers that a text lists, as far as there is room; how many there are. The last clause follows from the other.
+fn listed(text: &[u8], numbers: &mut [i64]) -> usize
+    ensures { λ r. ⌜ r ≤ length (now (numbers .exit)) ⌝ }
+    ensures { λ r. ⌜ r ≡ length (take r (now (numbers .exit))) ⌝ }
+{
+    let p = text_parts::read_part(text, numbers);
+    p.count
+}
+
+// The reduction of vectors whose numbers are listed in a text.
+fn reduced_of(name: &[u8], text: &[u8], d: usize, m: usize) {
+    let mut numbers = [0i64; 32];
+    let n = listed(text, &mut numbers);
+    reduced(name, &numbers[..n], d, m);
+}
+
+// A lattice whose vectors have the sum zero, from two bases; four doubled roots of E8; vectors that differ behind the fourth coordinate only; the
+// limit of length; vectors that only the last coordinate keeps independent, and dependent ones.
+fn wide_reductions() {
+    reduced_of(
+        b"A4",
+        b"1 -1 0 0 0  0 1 -1 0 0  0 0 1 -1 0  0 0 0 1 -1",
+        4,
+        5,
+    );
+    reduced_of(
+        b"A4 from another basis",
+        b"1 -2 3 -1 -1  2 -3 6 -5 0  -1 5 -2 -6 4  2 -4 4 -5 3",
+        4,
+        5,
+    );
+    reduced_of(
+        b"four roots of E8",
+        b"1 1 1 1 1 1 1 1  2 -2 0 0 0 0 0 0  0 2 -2 0 0 0 0 0  2 2 0 0 0 0 0 0",
+        4,
+        8,
+    );
+    reduced_of(
+        b"the last two of eight",
+        b"0 0 0 0 0 0 5 8  0 0 0 0 0 0 8 13",
+        2,
+        8,
+    );
+    reduced_of(
+        b"eight times 7071",
+        b"7071 7071 7071 7071 -7071 7071 7071 -7071",
+        1,
+        8,
+    );
+    reduced_of(
+        b"eight times 7072",
+        b"7072 7072 7072 7072 -7072 7072 7072 -7072",
+        1,
+        8,
+    );
+    reduced_of(b"20001 last of eight", b"0 0 0 0 0 0 0 20001", 1, 8);
+    reduced_of(
+        b"alike but for the last coordinate",
+        b"1 2 3 4 5 6 7 8  1 2 3 4 5 6 7 9",
+        2,
+        8,
+    );
+    reduced_of(
+        b"dependent in eight coordinates",
+        b"1 2 3 4 5 6 7 8  1 0 0 0 0 0 0 1  3 4 6 8 10 12 14 17",
+        3,
+        8,
+    );
+}
+
+// The search of vectors and a target whose numbers are listed in texts.
+fn near_of(name: &[u8], text: &[u8], d: usize, m: usize, point: &[u8]) {
+    let mut numbers = [0i64; 32];
+    let n = listed(text, &mut numbers);
+    let mut target = [0i64; 8];
+    let k = listed(point, &mut target);
+    near(name, &numbers[..n], d, m, &target[..k]);
+}
+
+// Targets in five and eight coordinates: equally near vectors, one beside the span, a target of four coordinates only, and one too long.
+fn wide_targets() {
+    near_of(
+        b"two vectors of five coordinates",
+        b"2 -2 0 0 0  0 0 0 2 -2",
+        2,
+        5,
+        b"3 -3 3 1 -1",
+    );
+    near_of(
+        b"a tie in five coordinates",
+        b"2 -2 0 0 0  0 2 -2 0 0  0 0 2 -2 0  0 0 0 2 -2",
+        4,
+        5,
+        b"1 1 0 -1 -1",
+    );
+    near_of(
+        b"a tie among roots of E8",
+        b"1 1 1 1 1 1 1 1  2 -2 0 0 0 0 0 0  0 2 -2 0 0 0 0 0  2 2 0 0 0 0 0 0",
+        4,
+        8,
+        b"2 0 0 0 0 0 0 0",
+    );
+    near_of(
+        b"beside the span of A4",
+        b"1 -1 0 0 0  0 1 -1 0 0  0 0 1 -1 0  0 0 0 1 -1",
+        4,
+        5,
+        b"7 3 -2 4 9",
+    );
+    near_of(b"four numbers of five", b"0 0 0 0 1", 1, 5, b"0 0 0 0");
+    near_of(
+        b"too long by the eighth",
+        b"0 0 0 0 0 0 0 1",
+        1,
+        8,
+        b"20000 0 0 0 0 0 0 1",
+    );
+}
+
+// The membership of a target in a lattice, both listed in texts.
+fn in_lattice_of(name: &[u8], text: &[u8], d: usize, m: usize, point: &[u8]) {
+    let mut numbers = [0i64; 32];
+    let n = listed(text, &mut numbers);
+    let mut target = [0i64; 8];
+    let k = listed(point, &mut target);
+    in_lattice(name, &numbers[..n], d, m, &target[..k]);
+}
+
+// Members of A4 and of the doubled roots of E8, and targets that the last coordinate keeps out.
+fn wide_members() {
+    in_lattice_of(
+        b"a vector of A4",
+        b"1 -1 0 0 0  0 1 -1 0 0  0 0 1 -1 0  0 0 0 1 -1",
+        4,
+        5,
+        b"3 -1 4 1 -7",
+    );
+    in_lattice_of(
+        b"its sum is not zero",
+        b"1 -1 0 0 0  0 1 -1 0 0  0 0 1 -1 0  0 0 0 1 -1",
+        4,
+        5,
+        b"3 -1 4 1 -6",
+    );
+    in_lattice_of(
+        b"a vector of the roots of E8",
+        b"1 1 1 1 1 1 1 1  2 -2 0 0 0 0 0 0  0 2 -2 0 0 0 0 0  2 2 0 0 0 0 0 0",
+        4,
+        8,
+        b"3 3 -5 -1 -1 -1 -1 -1",
+    );
+    in_lattice_of(
+        b"its last coordinate beside the span",
+        b"1 1 1 1 1 1 1 1  2 -2 0 0 0 0 0 0  0 2 -2 0 0 0 0 0  2 2 0 0 0 0 0 0",
+        4,
+        8,
+        b"3 3 -5 -1 -1 -1 -1 1",
+    );
+}
+
 fn main() {
     reductions();
     lengths();
@@ -124,4 +289,7 @@ fn main() {
     targets();
     target_refusals();
     members();
+    wide_reductions();
+    wide_targets();
+    wide_members();
 }

@@ -1,4 +1,4 @@
--- P1 to P10 of document 01 ("Known results"): one table of inputs and outcomes, one theorem.
+-- P1 to P10 of document 01 ("Known results"): one table of inputs and outcomes, one theorem. Another for more than four coordinates.
 use mathlib.Core.Path.{_≡_, refl}
 use mathlib.Core.List.{List, [], _∷_}
 use Prim.Native.Nat.{ℕ}
@@ -94,3 +94,23 @@ Holds (nearest-to t d m numbers r) = nearestOf (record { numbers = numbers; d = 
 pub known-results : All Holds known
 unfolding dot _⊕_ _⊙_ comb squaredVolume isDependent leastBy nearestBy insertBy orderBy credited greedyBy reductionOf nearestOf
 known-results = (refl, (refl, (refl, (refl, (refl, (refl, (refl, (refl, (refl, (refl, tt))))))))))
+
+-- R15.16 to R15.19: more than four coordinates
+abbrev pub wide : List Known
+wide =
+    -- A4, the vectors whose sum is zero
+    reduces 4 5 (pos 1 ∷ minus 1 ∷ pos 0 ∷ pos 0 ∷ pos 0 ∷ pos 0 ∷ pos 1 ∷ minus 1 ∷ pos 0 ∷ pos 0 ∷ pos 0 ∷ pos 0 ∷ pos 1 ∷ minus 1 ∷ pos 0 ∷ pos 0 ∷ pos 0 ∷ pos 0 ∷ pos 1 ∷ minus 1 ∷ [])
+    (reduced ((pos 1 ∷ minus 1 ∷ pos 0 ∷ pos 0 ∷ pos 0 ∷ []) ∷ (pos 1 ∷ pos 0 ∷ minus 1 ∷ pos 0 ∷ pos 0 ∷ []) ∷ (pos 1 ∷ pos 0 ∷ pos 0 ∷ minus 1 ∷ pos 0 ∷ []) ∷ (pos 1 ∷ pos 0 ∷ pos 0 ∷ pos 0 ∷ minus 1 ∷ []) ∷ [])
+    ((pos 1 ∷ pos 0 ∷ pos 0 ∷ pos 0 ∷ []) ∷ (pos 1 ∷ pos 1 ∷ pos 0 ∷ pos 0 ∷ []) ∷ (pos 1 ∷ pos 1 ∷ pos 1 ∷ pos 0 ∷ []) ∷ (pos 1 ∷ pos 1 ∷ pos 1 ∷ pos 1 ∷ []) ∷ [])
+    ((pos 1 ∷ pos 0 ∷ pos 0 ∷ pos 0 ∷ []) ∷ (minus 1 ∷ pos 1 ∷ pos 0 ∷ pos 0 ∷ []) ∷ (pos 0 ∷ minus 1 ∷ pos 1 ∷ pos 0 ∷ []) ∷ (pos 0 ∷ pos 0 ∷ minus 1 ∷ pos 1 ∷ []) ∷ [])
+    (pos 2 ∷ pos 2 ∷ pos 2 ∷ pos 2 ∷ []) 3)
+    -- two vectors, and a target beside their span that is equally near to four
+    ∷ nearest-to (pos 3 ∷ minus 3 ∷ pos 3 ∷ pos 1 ∷ minus 1 ∷ []) 2 5 (pos 2 ∷ minus 2 ∷ pos 0 ∷ pos 0 ∷ pos 0 ∷ pos 0 ∷ pos 0 ∷ pos 0 ∷ pos 2 ∷ minus 2 ∷ []) (found (pos 2 ∷ minus 2 ∷ pos 0 ∷ pos 0 ∷ pos 0 ∷ []) (pos 1 ∷ pos 0 ∷ []) 13)
+    -- eight coordinates, and nine
+    ∷ reduces 1 8 (pos 1 ∷ pos 2 ∷ pos 3 ∷ pos 4 ∷ pos 5 ∷ pos 6 ∷ pos 7 ∷ minus 8 ∷ []) (reduced ((pos 1 ∷ pos 2 ∷ pos 3 ∷ pos 4 ∷ pos 5 ∷ pos 6 ∷ pos 7 ∷ minus 8 ∷ []) ∷ []) unit1 unit1 (pos 204 ∷ []) 0)
+    ∷ reduces 1 9 (pos 1 ∷ pos 2 ∷ pos 3 ∷ pos 4 ∷ pos 5 ∷ pos 6 ∷ pos 7 ∷ pos 8 ∷ pos 9 ∷ []) (noReduction 2)
+    ∷ []
+
+pub wide-results : All Holds wide
+unfolding dot _⊕_ _⊙_ comb squaredVolume isDependent leastBy nearestBy insertBy orderBy credited greedyBy reductionOf nearestOf
+wide-results = (refl, (refl, (refl, (refl, tt))))

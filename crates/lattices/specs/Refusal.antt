@@ -16,7 +16,7 @@ mostVectors = 4
 
 -- R2.1, R2.2, R2.3, R2.4
 abbrev pub mostCoordinates : ℕ
-mostCoordinates = 4
+mostCoordinates = 8
 
 -- R2.1, R2.2, R2.3, R2.4
 abbrev pub mostSquare : ℕ

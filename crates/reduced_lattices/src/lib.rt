@@ -22,14 +22,13 @@ pub fn lattice(numbers: &[i64], d: usize, m: usize) -> Lattice
     let mut g = [[0; 4]; 4];
     gram_matrix::formed(&b, d, &mut g);
     let e = row_operations::unit_table(d);
-    let w = greedy_steps::reduce_first(g, b, e, e, d, 0);
+    let w = greedy_steps::reduce_first(&mut g, b, e, e, d, 0);
     let vectors = w.vectors;
-    let gram = w.gram;
     lattice_membership::lattice_of(
         row_operations::vectors_of(vectors),
         d,
         m,
-        gram_matrix::diagonal(gram),
+        gram_matrix::diagonal(&g),
         w.passes,
     )
 }

@@ -13,7 +13,7 @@ ghost use Rattle.lattices.specs.Refusal.{mostCoordinates};
 ghost use Rattle.row_operations.specs.Minus.{room};
 
 // How many coordinates a vector has.
-pub const WIDTH: usize = 4;
+pub const WIDTH: usize = 8;
 
 pub type Vector = [i64; WIDTH];
 

@@ -1,4 +1,4 @@
--- Each of the five on a small catalogue, 17 on either side, and the catalogue's own refusal first.
+-- Each of the five on a small catalogue, entries of five and eight coordinates, 17 on either side, and the catalogue's own refusal first.
 use mathlib.Core.Path.{_≡_, refl}
 use mathlib.Core.List.{List, [], _∷_, map}
 use Prim.Native.Nat.{ℕ}
@@ -60,6 +60,28 @@ examples =
 pub separations-hold : map (λ x. separateOf (bytesOf eight) (x .first) (x .second)) examples ≡ map (λ x. x .answer) examples
 unfolding dot comb _⊕_ _⊙_ squaredVolume isDependent leastBy nearestBy insertBy orderBy credited greedyBy isMember decode step readWords read sameLattice separation separateOf
 separations-hold = refl
+
+-- five and eight coordinates. 1: (1,−1,0,0,0), (0,1,−1,0,0); 2: (1,0,−1,0,0), (0,1,−1,0,0), the same lattice; 3: as 1, with another fifth coordinate;
+-- 4: as 1, with three zeros behind
+abbrev pub wide : List ℕ
+wide =
+    0x10000125 ∷ 0x20004E21 ∷ 0x20004E1F ∷ 0x20004E20 ∷ 0x20004E20 ∷ 0x20004E20 ∷ 0x20004E20 ∷ 0x20004E21 ∷ 0x20004E1F ∷ 0x20004E20 ∷ 0x20004E20
+    ∷ 0x10000225 ∷ 0x20004E21 ∷ 0x20004E20 ∷ 0x20004E1F ∷ 0x20004E20 ∷ 0x20004E20 ∷ 0x20004E20 ∷ 0x20004E21 ∷ 0x20004E1F ∷ 0x20004E20 ∷ 0x20004E20
+    ∷ 0x10000325 ∷ 0x20004E21 ∷ 0x20004E1F ∷ 0x20004E20 ∷ 0x20004E20 ∷ 0x20004E20 ∷ 0x20004E20 ∷ 0x20004E21 ∷ 0x20004E1F ∷ 0x20004E20 ∷ 0x20004E21
+    ∷ 0x10000428 ∷ 0x20004E21 ∷ 0x20004E1F ∷ 0x20004E20 ∷ 0x20004E20 ∷ 0x20004E20 ∷ 0x20004E20 ∷ 0x20004E20 ∷ 0x20004E20 ∷ 0x20004E20 ∷ 0x20004E21 ∷ 0x20004E1F ∷ 0x20004E20 ∷ 0x20004E20 ∷ 0x20004E20 ∷ 0x20004E20 ∷ 0x20004E20
+    ∷ 0x40000004 ∷ []
+
+abbrev pub wideExamples : List Example
+wideExamples =
+    asks 1 2 (told same)
+    ∷ asks 1 3 (told (firstOutside 2 (pos 1)))
+    ∷ asks 3 2 (told (firstOutside 2 (pos 1)))
+    ∷ asks 1 4 (told differentM)
+    ∷ []
+
+pub wide-separations : map (λ x. separateOf (bytesOf wide) (x .first) (x .second)) wideExamples ≡ map (λ x. x .answer) wideExamples
+unfolding dot comb _⊕_ _⊙_ squaredVolume isDependent leastBy nearestBy insertBy orderBy credited greedyBy isMember decode step readWords read sameLattice separation separateOf
+wide-separations = refl
 
 -- no bytes: the catalogue's own refusal, not 17
 pub refused-first : separateOf [] 1 2 ≡ refusedAt 10 0

@@ -1,4 +1,5 @@
--- The text of a catalogue has at most `mostText` bytes: for each entry a line of at most 26 and seven for a coordinate.
+-- The text of a catalogue has for each entry a line of at most 26 bytes and seven for a coordinate: at most 64,000, so that it has room where
+-- a listing has (`text-size`), and that a text so long as `encode` takes holds it (`text-fits`).
 use mathlib.Core.Path.{_≡_}
 use mathlib.Core.Bool.{false}
 use mathlib.Core.List.{List, [], _∷_, _++_, map}
@@ -17,7 +18,7 @@ use Rattle.integers.specs.Tests.{neither}
 use Rattle.integers.specs.Every.{any}
 use Rattle.lattices.specs.Refusal.{mostSize, mostVectors, mostCoordinates}
 use Rattle.lattices.specs.Laws.Refusal.{one-to}
-use Rattle.catalogue_rules.specs.Catalogue.{See, Entry, coordinates, mostNumbers}
+use Rattle.catalogue_rules.specs.Catalogue.{See, Entry, coordinates, mostNumbers, mostEntries}
 use Rattle.catalogue_rules.specs.Form.{EntryFits, WellFormed, mostNumber}
 use Rattle.catalogue_rules.specs.Laws.ReadEntries.{SeeFits}
 use Rattle.catalogue_rules.specs.Laws.ReadBack.{sees-fit}
@@ -37,7 +38,11 @@ coordinates-length (z ∷ zs) h fields =
     let p = neither (ltb mostSize (natAbs z)) (any (λ y. ltb mostSize (natAbs y)) zs) h in
     omega (arith, length-append (signed z) (after (map signed zs ++ fields)), signed-length 5 z (omega arith) (omega (arith, ltb-false mostSize (natAbs z) (p .0))), coordinates-length zs (p .1) fields)
 
-pub entry-size : (e : Entry) → EntryFits e → SeeFits (e .see) → length (entryText e) ≤ mostNumbers * 7 + 26
+-- an entry's line
+abbrev pub mostLine : ℕ
+mostLine = mostNumbers * 7 + 26
+
+pub entry-size : (e : Entry) → EntryFits e → SeeFits (e .see) → length (entryText e) ≤ mostLine
 entry-size e f s =
     let h = e .head in
     let cs = coordinates (e .vectors) in
@@ -55,9 +60,21 @@ entry-size e f s =
       see-length (e .see) s,
     )
 
-entries-size : (es : List Entry) → All EntryFits es → All (λ e. SeeFits (e .see)) es → length (textOf es) ≤ length es * (mostNumbers * 7 + 26)
+entries-size : (es : List Entry) → All EntryFits es → All (λ e. SeeFits (e .see)) es → length (textOf es) ≤ length es * mostLine
 entries-size [] f s = omega arith
 entries-size (e ∷ es) f s = omega (arith, length-append (entryText e) (textOf es), entry-size e (f .0) (s .0), entries-size es (f .1) (s .1))
 
+-- those of all entries: 64,000
+abbrev pub mostLines : ℕ
+mostLines = mostEntries * mostLine
+
+pub lines-size : (es : List Entry) → WellFormed es → length (textOf es) ≤ mostLines
+lines-size es w = omega (arith, entries-size es (w .entered .fits) (sees-fit es es (w .entered .fits) (w .named)), w .entered .few)
+
+-- no longer than a listing can be
 pub text-size : (es : List Entry) → WellFormed es → length (textOf es) ≤ mostText
-text-size es w = omega (arith, entries-size es (w .entered .fits) (sees-fit es es (w .entered .fits) (w .named)), w .entered .few)
+text-size es w = omega (arith, lines-size es w)
+
+-- no longer than a text that is read
+pub text-fits : (es : List Entry) → WellFormed es → length (textOf es) ≤ 65535
+text-fits es w = omega (arith, lines-size es w)

@@ -10,7 +10,7 @@ use Rattle.catalogue_rules.specs.Output.{filledWith}
 use Rattle.text_rules.specs.Encoding.{linesOf, anyWrong, entriesFrom, ended}
 use Rattle.text_encoding.specs.declared.Told.{Told}
 
--- a longer text is not read
+-- R13.8: a longer text is not read
 abbrev pub mostText : ℕ
 mostText = 65535
 

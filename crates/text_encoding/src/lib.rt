@@ -10,7 +10,7 @@ ghost use Rattle.text_encoding.specs.Stores.{Room, Stores};
 ghost use Rattle.text_encoding.specs.Tells.{Adds};
 use text_lines::Line;
 
-// A longer text is not read.
+// A longer text is not read (R13.8).
 pub const MOST_TEXT: usize = 65535;
 
 // How far a text is told: the words and the entries so far, and whether a line was wrong.

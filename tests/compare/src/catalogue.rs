@@ -49,6 +49,8 @@ const LIST: Writing = Writing {
 #[derive(Default)]
 pub struct Compared {
     pub refused: Option<Refused>,
+    /// The m of each entry, where the catalogue is accepted.
+    pub widths: Vec<usize>,
     pub writings: u64,
     pub short_outputs: u64,
     pub lookups: u64,
@@ -60,6 +62,7 @@ pub fn compare(bytes: &[u8], rooms: Rooms) -> Result<Compared, String> {
     let entries = read(bytes);
     let mut seen = Compared {
         refused: entries.as_ref().err().copied(),
+        widths: entries.iter().flatten().map(Entry::m).collect(),
         ..Compared::default()
     };
     let whole = entries.as_ref().map(|e| write(e)).map_err(|r| *r);

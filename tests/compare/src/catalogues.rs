@@ -1,17 +1,26 @@
-//! Catalogues: random ones and damaged ones, every truncation of a few, every byte of a small one changed, outputs of every length.
+//! Catalogues: random ones and damaged ones, every truncation of a few, every byte of two small ones changed, outputs of every length.
 
 use reference::catalogue::cases::{case, kind, Kind};
 use reference::catalogue::reader::{words, COORDINATE, END, HEAD, SEE};
 use reference::catalogue::writer;
 use reference::catalogue::Refused;
+use reference::MOST_COORDINATES;
 
 use crate::catalogue::{self, Rooms};
+use crate::widths::Widths;
 
 /// Document 01's catalogue.
 const SMALL: [u32; 18] = [
     0x10000722, 0x20004E21, 0x20004E20, 0x20004E24, 0x20004E21, 0x10000922, 0x20004E22, 0x20004E20,
     0x20004E20, 0x20004E23, 0x3000000C, 0x10000C22, 0x20004E20, 0x20004E21, 0x20004E21, 0x20004E20,
     0x30000009, 0x40000003,
+];
+
+/// An entry of two vectors of eight coordinates, (1,0,0,0,0,0,0,2) and (0,1,-1,0,0,0,3,0), that refers to itself.
+const WIDE: [u32; 19] = [
+    0x10000728, 0x20004E21, 0x20004E20, 0x20004E20, 0x20004E20, 0x20004E20, 0x20004E20, 0x20004E20,
+    0x20004E22, 0x20004E20, 0x20004E21, 0x20004E1F, 0x20004E20, 0x20004E20, 0x20004E20, 0x20004E23,
+    0x20004E20, 0x30000007, 0x40000001,
 ];
 
 /// How many random catalogues of each kind are cut at every byte, and are written to outputs of every length.
@@ -53,6 +62,10 @@ const POSSIBLE: [(usize, &[usize]); 12] = [
 struct Counts {
     accepted: u64,
     refused: [[u64; PLACES.len()]; 18],
+    /// Of those refused with 2, the m in the head.
+    wrong_m: [u64; 16],
+    /// Accepted catalogues with an entry of each m.
+    widths: Widths,
     writings: u64,
     short_outputs: u64,
     lookups: u64,
@@ -67,6 +80,10 @@ impl Counts {
             None => self.accepted += 1,
             Some(r) => self.refused[r.number as usize][place(bytes, r)] += 1,
         }
+        if let Some(Refused { number: 2, place }) = seen.refused {
+            self.wrong_m[words(bytes)[place] as usize & 15] += 1;
+        }
+        self.widths.add_each(seen.widths.into_iter());
         self.writings += seen.writings;
         self.short_outputs += seen.short_outputs;
         self.lookups += seen.lookups;
@@ -94,18 +111,20 @@ impl Counts {
                 println!("  refused with {number}: {sum} ({})", places.join(", "));
             }
         }
+        println!("  refused with 2 for m from 0 to 15: {:?}", self.wrong_m);
         println!(
             "{} writings, refused with 16: {}; {} lookups, refused with 17: {}",
             self.writings, self.short_outputs, self.lookups, self.absent_numbers
         );
     }
 
-    /// Every refusal at every place that it can have.
+    /// Every refusal at every place that it can have, and 2 for every m that it can have.
     fn is_complete(&self) -> bool {
         let all = POSSIBLE
             .iter()
             .all(|(number, places)| places.iter().all(|&i| self.refused[*number][i] > 0));
-        all && self.accepted > 0 && self.short_outputs > 0 && self.absent_numbers > 0
+        let every_m = (0..16).all(|m| (self.wrong_m[m] > 0) == (m == 0 || m > MOST_COORDINATES));
+        all && every_m && self.accepted > 0 && self.short_outputs > 0 && self.absent_numbers > 0
     }
 }
 
@@ -137,6 +156,7 @@ pub fn compare(count: usize, seed: u64) -> Result<(), String> {
     }
     let small = writer::bytes(&SMALL);
     truncations(&mut counts, &small)?;
+    truncations(&mut counts, &writer::bytes(&WIDE))?;
     for wanted in [Kind::Accepted, Kind::Longer] {
         for bytes in of_kind(wanted, seed, CUT) {
             truncations(&mut counts, &bytes)?;
@@ -146,7 +166,9 @@ pub fn compare(count: usize, seed: u64) -> Result<(), String> {
         }
     }
     changes(&mut counts, &small)?;
+    changes(&mut counts, &writer::bytes(&WIDE))?;
     counts.print();
+    counts.widths.print("catalogues accepted", count)?;
     if count < ENOUGH || counts.is_complete() {
         Ok(())
     } else {

@@ -12,6 +12,8 @@ use reference::catalogue::writer::write;
 use reference::catalogue::{lookup, Entry, Refused};
 use reference::random::Random;
 
+use crate::widths::Widths;
+
 const PROGRAM: &str = "target/bin/raghymtos";
 
 /// Where a catalogue is put that the program is to read from a file.
@@ -106,10 +108,13 @@ fn compare_one(bytes: &[u8], random: &mut Random) -> Result<(), String> {
 /// Compares so many random catalogues of a seed.
 pub fn compare(count: usize, seed: u64) -> Result<(), String> {
     let mut random = Random::new(seed);
+    let mut widths = Widths::default();
     for index in 0..count {
-        compare_one(&case(seed, index), &mut random)
+        let bytes = case(seed, index);
+        compare_one(&bytes, &mut random)
             .map_err(|what| format!("seed {seed}, index {index}: {what}"))?;
+        widths.add_each(read(&bytes).iter().flatten().map(Entry::m));
     }
     println!("{count} catalogues by the command line: folded, listed, looked up, decoded and encoded, with comments and without, as the reference does");
-    Ok(())
+    widths.print("catalogues accepted", count)
 }

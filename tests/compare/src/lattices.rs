@@ -2,6 +2,7 @@
 
 use reference::cases::{cases, Case, KINDS};
 
+use crate::widths::Widths;
 use crate::{membership, nearest, reduction};
 
 /// Inputs of one seed: every kind as often as every other.
@@ -16,12 +17,22 @@ struct Counts {
     nearest: [u64; 8],
     members: [u64; 3],
     minima: u64,
+    /// Inputs whose reduction is answered, and of these such whose nearest vector is.
+    reduced: Widths,
+    found: Widths,
 }
 
 impl Counts {
     fn compare(&mut self, case: &Case, is_sample: bool) -> Result<(), String> {
-        self.reductions[reduction::compare(case)?] += 1;
-        self.nearest[nearest::compare(case)?] += 1;
+        let (reduced, found) = (reduction::compare(case)?, nearest::compare(case)?);
+        self.reductions[reduced] += 1;
+        self.nearest[found] += 1;
+        if reduced == 0 {
+            self.reduced.add(case.m);
+        }
+        if found == 0 {
+            self.found.add(case.m);
+        }
         membership::compare(case, &mut self.members)?;
         if is_sample {
             self.minima += reduction::minima(case)? as u64;
@@ -69,7 +80,8 @@ pub fn compare(count: usize, first: u64) -> Result<(), String> {
     }
     println!("{done} inputs, seeds {first} to {}", seed - 1);
     counts.print();
-    Ok(())
+    counts.reduced.print("inputs reduced", count)?;
+    counts.found.print("nearest vectors found", count)
 }
 
 /// The input as a request.

@@ -22,7 +22,7 @@ pub fn written(n: usize, mut write: impl FnMut(&mut [i64]) -> bool) -> Result<Ve
     Ok(out)
 }
 
-/// Four numbers, zeros behind those given.
-pub fn padded(row: &[i64]) -> [i64; 4] {
+/// So many numbers, zeros behind those given.
+pub fn padded<const N: usize>(row: &[i64]) -> [i64; N] {
     std::array::from_fn(|i| row.get(i).copied().unwrap_or(0))
 }

@@ -29,7 +29,7 @@ fn compare_one(case: &Case, target: &[i64]) -> Result<Result<bool, u64>, String>
     Ok(r)
 }
 
-/// Sums and differences of the vectors, which are in the lattice, and the same with one coordinate changed.
+/// Sums and differences of the vectors, which are in the lattice, and the same with one coordinate changed, any in its turn.
 fn made(case: &Case) -> Vec<Vec<i64>> {
     let vectors: Vec<&[i64]> = case.numbers.chunks(case.m).collect();
     let mut all = vec![];
@@ -38,7 +38,7 @@ fn made(case: &Case) -> Vec<Vec<i64>> {
         for times in [-3, -1, 1, 2] {
             let sum: Vec<i64> = v.iter().zip(w).map(|(x, y)| x + times * y).collect();
             let mut beside = sum.clone();
-            beside[i % case.m] += 1;
+            beside[(i + (times + 3) as usize) % case.m] += 1;
             all.extend([sum, beside].into_iter().filter(|t| fits(t)));
         }
     }

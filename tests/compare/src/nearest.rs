@@ -1,8 +1,9 @@
-//! One nearest vector: the engine's 11 numbers against the reference's answer.
+//! One nearest vector: the engine's 15 numbers against the reference's answer.
 
 use raghymtos::nearest;
 use raghymtos::raw::{self, NEAREST_NUMBERS};
 use reference::cases::Case;
+use reference::{MOST_COORDINATES, MOST_VECTORS};
 
 use crate::lent::{padded, written};
 
@@ -25,8 +26,8 @@ pub fn compare(case: &Case) -> Result<usize, String> {
 /// The reference's answer in the header's order, with zeros in unused places.
 fn laid_out(r: &reference::Nearest) -> Vec<i64> {
     let mut all = vec![r.refusal as i64, r.place as i64, r.square];
-    all.extend(padded(&r.coefficients));
-    all.extend(padded(&r.vector));
+    all.extend(padded::<MOST_VECTORS>(&r.coefficients));
+    all.extend(padded::<MOST_COORDINATES>(&r.vector));
     all
 }
 
@@ -36,8 +37,8 @@ fn wrapped(case: &Case, out: &[i64]) -> Result<(), String> {
         Err(refusal) => refusal.number() == out[0],
         Ok(n) => {
             let mut all = vec![0, 0, n.square()];
-            all.extend(padded(n.coefficients()));
-            all.extend(padded(n.vector()));
+            all.extend(padded::<MOST_VECTORS>(n.coefficients()));
+            all.extend(padded::<MOST_COORDINATES>(n.vector()));
             all == out
         }
     };

@@ -1,13 +1,14 @@
-//! One reduction: the engine's 55 numbers against the reference's answer, and the tables against the vectors.
+//! One reduction: the engine's 71 numbers against the reference's answer, and the tables against the vectors.
 
 use raghymtos::raw::{self, REDUCTION_NUMBERS};
 use raghymtos::reduce;
 use reference::cases::Case;
+use reference::{MOST_COORDINATES, MOST_VECTORS};
 
 use crate::lent::{padded, written};
 
-/// Four rows of four numbers, zeros in unused places.
-type Table = [[i64; 4]; 4];
+/// Four rows of so many numbers, zeros in unused places.
+type Table<const N: usize> = [[i64; N]; MOST_VECTORS];
 
 /// The refusal's number, or what differs.
 pub fn compare(case: &Case) -> Result<usize, String> {
@@ -46,13 +47,16 @@ pub fn minima(case: &Case) -> Result<bool, String> {
 /// The reference's answer in the header's order, with zeros in unused places.
 fn laid_out(r: &reference::Reduction) -> Vec<i64> {
     let mut all = vec![r.refusal as i64, r.place as i64, r.passes as i64];
-    all.extend(padded(&r.squares));
-    for table in [&r.vectors, &r.u, &r.v] {
-        for i in 0..4 {
-            all.extend(padded(table.get(i).map_or(&[], |row| row)));
-        }
-    }
+    all.extend(padded::<MOST_VECTORS>(&r.squares));
+    all.extend(table::<MOST_COORDINATES, _>(&r.vectors).concat());
+    all.extend(table::<MOST_VECTORS, _>(&r.u).concat());
+    all.extend(table::<MOST_VECTORS, _>(&r.v).concat());
     all
+}
+
+/// The rows as a table.
+fn table<const N: usize, R: AsRef<[i64]>>(rows: &[R]) -> Table<N> {
+    std::array::from_fn(|i| padded(rows.get(i).map_or(&[], |row| row.as_ref())))
 }
 
 /// The safe wrapper gives the same answer.
@@ -61,12 +65,10 @@ fn wrapped(case: &Case, out: &[i64]) -> Result<(), String> {
         Err(refusal) => refusal.number() == out[0],
         Ok(r) => {
             let mut all = vec![0, 0, r.passes() as i64];
-            all.extend(padded(r.squares()));
-            for rows in [r.vectors(), r.u(), r.v()] {
-                let rows: Vec<&[i64]> = rows.collect();
-                for i in 0..4 {
-                    all.extend(padded(rows.get(i).unwrap_or(&&[][..])));
-                }
+            all.extend(padded::<MOST_VECTORS>(r.squares()));
+            all.extend(table::<MOST_COORDINATES, _>(&r.vectors().collect::<Vec<_>>()).concat());
+            for rows in [r.u(), r.v()] {
+                all.extend(table::<MOST_VECTORS, _>(&rows.collect::<Vec<_>>()).concat());
             }
             (r.d(), r.m()) == (case.d, case.m) && all == out
         }
@@ -80,13 +82,9 @@ fn wrapped(case: &Case, out: &[i64]) -> Result<(), String> {
 
 /// U times the inputs is the outputs, V times the outputs the inputs.
 fn tables(case: &Case, out: &[i64]) -> Result<(), String> {
-    let mut inputs = [[0; 4]; 4];
-    for (i, v) in case.numbers.chunks(case.m).enumerate() {
-        inputs[i] = padded(v);
-    }
-    let table =
-        |at: usize| -> Table { std::array::from_fn(|i| padded(&out[at + 4 * i..at + 4 * i + 4])) };
-    let (outputs, u, v) = (table(7), table(23), table(39));
+    let inputs: Table<MOST_COORDINATES> = table(&case.numbers.chunks(case.m).collect::<Vec<_>>());
+    let outputs: Table<MOST_COORDINATES> = part(out, 7);
+    let (u, v): (Table<MOST_VECTORS>, Table<MOST_VECTORS>) = (part(out, 39), part(out, 55));
     if product(&u, &inputs) != wide(&outputs) {
         return Err("U times the inputs is not the outputs".into());
     }
@@ -96,11 +94,17 @@ fn tables(case: &Case, out: &[i64]) -> Result<(), String> {
     Ok(())
 }
 
-fn wide(t: &Table) -> [[i128; 4]; 4] {
+/// The table that stands in an answer from this place on.
+fn part<const N: usize>(out: &[i64], at: usize) -> Table<N> {
+    table(&out[at..at + MOST_VECTORS * N].chunks(N).collect::<Vec<_>>())
+}
+
+fn wide<const N: usize>(t: &Table<N>) -> [[i128; N]; MOST_VECTORS] {
     t.map(|row| row.map(i128::from))
 }
 
-fn product(a: &Table, b: &Table) -> [[i128; 4]; 4] {
+fn product<const N: usize>(a: &Table<MOST_VECTORS>, b: &Table<N>) -> [[i128; N]; MOST_VECTORS] {
     let (a, b) = (wide(a), wide(b));
-    std::array::from_fn(|i| std::array::from_fn(|j| (0..4).map(|k| a[i][k] * b[k][j]).sum()))
+    let at = |i: usize, j: usize| (0..MOST_VECTORS).map(|k| a[i][k] * b[k][j]).sum();
+    std::array::from_fn(|i| std::array::from_fn(|j| at(i, j)))
 }

@@ -7,6 +7,8 @@ use reference::catalogue::writer::write;
 use reference::catalogue::Entry;
 use reference::random::Random;
 
+use crate::widths::Widths;
+
 /// So many catalogues must show every way to a word.
 const ENOUGH: usize = 1_000;
 
@@ -18,10 +20,13 @@ struct Counts {
     behind_own: u64,
     before_others: u64,
     none: u64,
+    /// Catalogues with an entry of each m.
+    widths: Widths,
 }
 
 impl Counts {
     fn add(&mut self, entries: &[Entry]) {
+        self.widths.add_each(entries.iter().map(Entry::m));
         let standing = standing(entries);
         let leads = leads(entries, &standing);
         for i in (0..entries.len()).filter(|&i| standing[i] == i) {
@@ -67,6 +72,7 @@ pub fn compare(count: usize, seed: u64) -> Result<(), String> {
          entry folded into them {} (behind an own word that leads nowhere {}), before a word that leads elsewhere {}, without {}",
         counts.own, counts.of_another, counts.behind_own, counts.before_others, counts.none
     );
+    counts.widths.print("catalogues", count)?;
     if count < ENOUGH || counts.is_complete() {
         Ok(())
     } else {

@@ -6,10 +6,11 @@ use reference::catalogue::pairs::{pair, Pair};
 use reference::catalogue::reader::read;
 use reference::catalogue::separation::{separate, Separation};
 use reference::catalogue::{Entry, Refused};
-use reference::MOST;
+use reference::MOST_VECTORS;
 
 use crate::commands::{said, same, same_of_file};
 use crate::lent::written;
+use crate::widths::Widths;
 
 /// So many pairs must show every case, every position, and 17 for either number.
 const ENOUGH: usize = 10_000;
@@ -20,18 +21,25 @@ struct Counts {
     same: u64,
     different_m: u64,
     different_d: u64,
-    first_outside: [u64; MOST],
-    second_outside: [u64; MOST],
+    first_outside: [u64; MOST_VECTORS],
+    second_outside: [u64; MOST_VECTORS],
     /// Refused with 17 for the first number alone, for the second alone, and for both.
     unknown: [u64; 3],
     /// Catalogues that are refused.
     refused: u64,
     /// Of these, with a number that no entry can have, so that 17 would be given if it came first.
     refused_before_17: u64,
+    /// Answered pairs, by the m of the first entry.
+    widths: Widths,
 }
 
 impl Counts {
     fn add(&mut self, pair: &Pair, said: Result<Separation, Refused>) {
+        if said.is_ok() {
+            let entries = read(&pair.bytes).expect("answered");
+            let first = entries.iter().find(|e| e.number == pair.first);
+            self.widths.add(first.expect("answered").m());
+        }
         match said {
             Ok(Separation::Same) => self.same += 1,
             Ok(Separation::DifferentM) => self.different_m += 1,
@@ -112,6 +120,7 @@ pub fn compare(count: usize, seed: u64) -> Result<(), String> {
         counts.add(&pair, expected);
     }
     counts.print();
+    counts.widths.print("first entries", count)?;
     if count < ENOUGH || counts.is_complete() {
         Ok(())
     } else {
@@ -187,6 +196,7 @@ fn line(expected: Separation) -> Vec<u8> {
 
 /// Compares the command line on the first pairs of a seed, in turn with the catalogue on standard input and in a file.
 pub fn by_command(count: usize, seed: u64) -> Result<(), String> {
+    let mut widths = Widths::default();
     for index in 0..count {
         let pair = pair(seed, index);
         let (first, second) = (pair.first.to_string(), pair.second.to_string());
@@ -197,7 +207,8 @@ pub fn by_command(count: usize, seed: u64) -> Result<(), String> {
             _ => same_of_file(&words, &pair.bytes, expected),
         };
         compared.map_err(|what| format!("{what}\n{}", shown(&pair, seed, index)))?;
+        widths.add_each(read(&pair.bytes).iter().flatten().map(Entry::m));
     }
     println!("{count} pairs of entries by the command line, as the reference separates them");
-    Ok(())
+    widths.print("catalogues accepted", count)
 }

@@ -2,9 +2,9 @@
 
 use crate::cases::Kind;
 use crate::random::Random;
-use crate::tied::{centred, checkerboard, hexagonal, tied};
-use crate::vectors::plus;
-use crate::{fits, MOST};
+use crate::tied::{centred, checkerboard, hexagonal, section, simplex, tied};
+use crate::vectors::{plus, square};
+use crate::{fits, MOST_COORDINATES, MOST_SQUARE, MOST_VECTORS};
 
 pub fn basis(kind: Kind, random: &mut Random) -> Vec<Vec<i64>> {
     match kind {
@@ -23,20 +23,31 @@ pub fn basis(kind: Kind, random: &mut Random) -> Vec<Vec<i64>> {
         Kind::FaceCentred => centred([[0, 1, 1], [1, 0, 1], [1, 1, 0]], random),
         Kind::BodyCentred => centred([[-1, 1, 1], [1, -1, 1], [1, 1, -1]], random),
         Kind::Checkerboard => checkerboard(random),
+        Kind::Simplex => simplex(random),
+        Kind::Section => section(random),
         Kind::Generator => generator(random),
         Kind::Limit => limit(random),
         _ => {
             let (d, m) = sizes(random);
-            let size = random.pick(&[1, 2, 3, 10, 100, 1000, 10_000]);
+            let size = random.pick(&[1, 2, 3, 10, 100, 1000, most_size(m)]);
             any(d, m, size, random)
         }
     }
 }
 
-/// d and m from 1 to 4, d not above m.
+/// m from 1 to 8, more often a small one, since some kinds have none; and d from 1 to 4, not above m.
 fn sizes(random: &mut Random) -> (usize, usize) {
-    let m = 1 + random.index(MOST);
-    (1 + random.index(m), m)
+    let m = random.pick(&[1, 1, 1, 2, 2, 2, 3, 4, 5, 6, 7, 8]);
+    (1 + random.index(m.min(MOST_VECTORS)), m)
+}
+
+/// A size that all m coordinates can have.
+pub fn most_size(m: usize) -> i64 {
+    if m <= 4 {
+        10_000
+    } else {
+        7_000
+    }
 }
 
 fn unit(d: usize, m: usize) -> Vec<Vec<i64>> {
@@ -69,9 +80,33 @@ pub fn scrambled(mut vectors: Vec<Vec<i64>>, random: &mut Random) -> Vec<Vec<i64
     vectors
 }
 
+/// The same vectors with zeros behind them, so that there are m coordinates.
+pub fn widened(mut vectors: Vec<Vec<i64>>, m: usize) -> Vec<Vec<i64>> {
+    vectors.iter_mut().for_each(|v| v.resize(m, 0));
+    vectors
+}
+
+/// The coordinates in any order, each with any sign.
+pub fn placed(vectors: Vec<Vec<i64>>, random: &mut Random) -> Vec<Vec<i64>> {
+    let m = vectors[0].len();
+    let mut order: Vec<usize> = (0..m).collect();
+    shuffle(&mut order, random);
+    let signs: Vec<i64> = (0..m).map(|_| random.pick(&[-1, 1])).collect();
+    let moved = |v: &Vec<i64>| (0..m).map(|j| signs[j] * v[order[j]]).collect();
+    vectors.iter().map(moved).collect()
+}
+
+fn shuffle<T>(list: &mut [T], random: &mut Random) {
+    for i in (1..list.len()).rev() {
+        let j = random.index(i + 1);
+        list.swap(i, j);
+    }
+}
+
 /// Adds vectors to each other wherever that makes the columns of U longer, which are kept beside the vectors.
 fn large_table(random: &mut Random) -> Vec<Vec<i64>> {
-    let d = 2 + random.index(MOST - 1);
+    let d = 2 + random.index(MOST_VECTORS - 1);
+    let m = random.between(d as i64, MOST_COORDINATES as i64) as usize;
     let (mut vectors, mut columns) = (unit(d, d), unit(d, d));
     let long = |v: &[i64]| v.iter().map(|&x| (x as i128) * (x as i128)).sum::<i128>();
     for _ in 0..2_000 {
@@ -86,13 +121,13 @@ fn large_table(random: &mut Random) -> Vec<Vec<i64>> {
             columns[j] = column;
         }
     }
-    vectors
+    placed(widened(vectors, m), random)
 }
 
 /// Long vectors a little off the combinations of fewer.
 fn nearly_dependent(random: &mut Random) -> Vec<Vec<i64>> {
-    let m = 2 + random.index(MOST - 1);
-    let d = 2 + random.index(m - 1);
+    let m = 2 + random.index(MOST_COORDINATES - 1);
+    let d = 2 + random.index(m.min(MOST_VECTORS) - 1);
     let directions = 1 + random.index(d - 1);
     let long = any(directions, m, 9_000, random);
     let noise = random.pick(&[1, 1, 3, 20]);
@@ -110,16 +145,17 @@ fn nearly_dependent(random: &mut Random) -> Vec<Vec<i64>> {
         .collect()
 }
 
+/// In more than four coordinates a part of the lattice: four vectors at most.
 fn generator(random: &mut Random) -> Vec<Vec<i64>> {
-    let m = 1 + random.index(MOST);
-    let modulus = random.between(2, 11_000);
+    let m = 1 + random.index(MOST_COORDINATES);
+    let modulus = random.between(2, if m <= 4 { 11_000 } else { 7_500 });
     let a = random.between(1, modulus - 1);
     let mut first = vec![1];
     for j in 1..m {
         first.push(first[j - 1] * a % modulus);
     }
     let mut vectors = vec![first];
-    for i in 1..m {
+    for i in 1..m.min(MOST_VECTORS) {
         vectors.push((0..m).map(|j| if i == j { modulus } else { 0 }).collect());
     }
     vectors
@@ -131,33 +167,32 @@ pub fn limit(random: &mut Random) -> Vec<Vec<i64>> {
     (0..d).map(|_| at_limit(m, random)).collect()
 }
 
+/// Sizes of coordinates whose squares sum to 400,000,000, for the fewest coordinates first.
+const EXACT: [&[i64]; 8] = [
+    &[20_000],
+    &[12_000, 16_000],
+    &[5_600, 19_200],
+    &[10_000, 10_000, 10_000, 10_000],
+    &[12_000, 8_000, 8_000, 8_000, 8_000],
+    &[10_000, 10_000, 6_000, 8_000, 6_000, 8_000],
+    &[10_000, 6_000, 8_000, 6_000, 8_000, 6_000, 8_000],
+    &[6_000, 8_000, 6_000, 8_000, 6_000, 8_000, 6_000, 8_000],
+];
+
+/// Of the squared length 400,000,000, or a little less.
 pub fn at_limit(m: usize, random: &mut Random) -> Vec<i64> {
-    let mut v = match random.between(0, 4) {
-        0 => vec![20_000, 0, 0, 0],
-        1 => vec![12_000, 16_000, 0, 0],
-        2 => vec![10_000, 10_000, 10_000, 10_000],
-        3 => vec![5_600, 19_200, 0, 0],
-        _ => near_limit(random),
+    let exact = EXACT.iter().filter(|sizes| sizes.len() <= m).count();
+    let v = match random.index(exact + 1) {
+        i if i < exact => EXACT[i].to_vec(),
+        _ => near_limit(m, random),
     };
-    if v[m..].iter().any(|&x| x != 0) {
-        v = vec![random.between(19_990, 20_000), 0, 0, 0];
-    }
-    v.truncate(m);
-    for i in (1..m).rev() {
-        let j = random.index(i + 1);
-        v.swap(i, j);
-    }
-    v.iter_mut().for_each(|x| *x *= random.pick(&[-1, 1]));
-    v
+    placed(widened(vec![v], m), random).remove(0)
 }
 
-/// The last of four coordinates as large as the limit lets it be.
-fn near_limit(random: &mut Random) -> Vec<i64> {
-    let mut v = random.vector(4, 11_000);
-    v[3] = 0;
-    while fits(&v) {
-        v[3] += 1;
-    }
-    v[3] -= 1;
+/// The last coordinate as large as the limit lets it be.
+fn near_limit(m: usize, random: &mut Random) -> Vec<i64> {
+    let mut v = random.vector(m, most_size(m));
+    v[m - 1] = 0;
+    v[m - 1] = (MOST_SQUARE - square(&v)).isqrt();
     v
 }

@@ -1,9 +1,9 @@
 //! Inputs for comparison tests, the same for the same seed.
 
-use crate::bases::{any, at_limit, basis, limit};
+use crate::bases::{any, at_limit, basis, limit, most_size};
 use crate::random::Random;
-use crate::vectors::plus;
-use crate::{fits, MOST};
+use crate::vectors::{coefficient, dot, plus};
+use crate::{fits, MOST_COORDINATES, MOST_SIZE, MOST_VECTORS};
 
 /// What an input is made to try. Up to `Limit` they are accepted, unless chance makes the vectors dependent.
 #[derive(Clone, Copy, Debug, PartialEq, Eq)]
@@ -19,6 +19,10 @@ pub enum Kind {
     BodyCentred,
     /// The lattice D4 and its dual.
     Checkerboard,
+    /// The lattice A4 and its dual, in five coordinates or more.
+    Simplex,
+    /// Parts of the lattice E8, and of lattices of whole vectors with an even sum, in five coordinates or more.
+    Section,
     /// (1, a, a², …) modulo M.
     Generator,
     /// Squared lengths at the limit or just below.
@@ -32,7 +36,10 @@ pub enum Kind {
     WrongLength,
 }
 
-pub const KINDS: [Kind; 15] = [
+/// So many kinds are accepted, the first ones.
+pub const ACCEPTED: usize = 13;
+
+pub const KINDS: [Kind; 17] = [
     Kind::Random,
     Kind::NearlyDependent,
     Kind::Scrambled,
@@ -42,6 +49,8 @@ pub const KINDS: [Kind; 15] = [
     Kind::FaceCentred,
     Kind::BodyCentred,
     Kind::Checkerboard,
+    Kind::Simplex,
+    Kind::Section,
     Kind::Generator,
     Kind::Limit,
     Kind::Dependent,
@@ -91,11 +100,12 @@ fn complete(kind: Kind, vectors: Vec<Vec<i64>>, random: &mut Random) -> Case {
     }
 }
 
-/// A target in range: any, zero, in the lattice or near it, half of a lattice vector (where ties are), a third, or at the limit.
+/// A target in range: any, zero, in the lattice or near it, half of a lattice vector (where ties are), a third, a quarter or a fifth, in the
+/// dual lattice (where deep holes are), or at the limit.
 /// Where there are fewer vectors than coordinates, most of them lie outside the span.
 fn target(vectors: &[Vec<i64>], random: &mut Random) -> Vec<i64> {
     let m = vectors[0].len();
-    let way = random.between(0, 8);
+    let way = random.between(0, 9);
     for _ in 0..20 {
         let mut t = vec![0; m];
         let most = random.pick(&[1, 1, 2, 5]);
@@ -104,7 +114,7 @@ fn target(vectors: &[Vec<i64>], random: &mut Random) -> Vec<i64> {
         }
         match way {
             0 => {
-                let size = random.pick(&[3, 100, 10_000]);
+                let size = random.pick(&[3, 100, most_size(m)]);
                 t = random.vector(m, size);
             }
             1 => return vec![0; m],
@@ -114,22 +124,62 @@ fn target(vectors: &[Vec<i64>], random: &mut Random) -> Vec<i64> {
                 let e = random.vector(m, size);
                 t = plus(&t, 1, &e);
             }
-            5 => t = t.iter().map(|x| x / 3).collect(),
+            5 => {
+                let parts = random.pick(&[3, 4, 5, 5]);
+                t = t.iter().map(|x| x / parts).collect();
+            }
             6 => return at_limit(m, random),
+            7 => match dual(vectors, random) {
+                Some(point) => t = point,
+                None => continue,
+            },
             _ => t = t.iter().map(|x| x / 2).collect(),
         }
         if fits(&t) {
             return t;
         }
     }
-    random.vector(m, 10_000)
+    random.vector(m, most_size(m))
+}
+
+/// In a multiple of the dual lattice that has the lattice as a part: the inner products with the vectors are multiples of what all inner
+/// products of the vectors are multiples of. Where coordinates are then no whole numbers, near it. None where the vectors are dependent or
+/// the numbers too large.
+fn dual(vectors: &[Vec<i64>], random: &mut Random) -> Option<Vec<i64>> {
+    let pairs = vectors
+        .iter()
+        .flat_map(|v| vectors.iter().map(move |w| dot(v, w)));
+    let unit = pairs.fold(0, divisor);
+    let products: Vec<i64> = vectors
+        .iter()
+        .map(|_| unit * random.between(-2, 2))
+        .collect();
+    let coefficients: Vec<(i128, i128)> = (0..vectors.len())
+        .map(|i| coefficient(vectors, i, |k| products[k]))
+        .collect();
+    let coordinate = |j: usize| {
+        let pairs = coefficients.iter().zip(vectors);
+        let mut terms = pairs.map(|((top, _), v)| top.checked_mul(v[j] as i128));
+        let sum = terms.try_fold(0, |sum: i128, term| sum.checked_add(term?))?;
+        i64::try_from(sum.checked_div(coefficients[0].1)?).ok()
+    };
+    let point: Option<Vec<i64>> = (0..vectors[0].len()).map(coordinate).collect();
+    point.filter(|t| t.iter().all(|x| x.abs() <= MOST_SIZE))
+}
+
+/// The greatest common divisor.
+fn divisor(a: i64, b: i64) -> i64 {
+    match b {
+        0 => a.abs(),
+        _ => divisor(b, a % b),
+    }
 }
 
 // ---- refused input
 
 fn dependent(random: &mut Random) -> Vec<Vec<i64>> {
-    let m = 1 + random.index(MOST);
-    let d = 1 + random.index(MOST);
+    let m = 1 + random.index(MOST_COORDINATES);
+    let d = 1 + random.index(MOST_VECTORS);
     let size = random.pick(&[1, 5, 100, 1_000]);
     let mut vectors = any(d, m, size, random);
     let i = random.index(d);
@@ -156,7 +206,7 @@ fn over(random: &mut Random) -> Case {
 }
 
 fn damaged(random: &mut Random) -> Case {
-    let kind = KINDS[random.index(11)];
+    let kind = KINDS[random.index(ACCEPTED)];
     let mut c = complete(Kind::Damaged, basis(kind, random), random);
     let values = [
         20_001,
@@ -184,7 +234,8 @@ fn wrong_length(random: &mut Random) -> Case {
     let kind = KINDS[random.index(KINDS.len() - 1)];
     let mut c = case(kind, random);
     c.kind = Kind::WrongLength;
-    let sizes = [0, 1, 2, 3, 4, 5, 6, 1 << 32, 1 << 63, usize::MAX];
+    let small = random.index(18);
+    let sizes = [0, 5, 9, small, small, small, 1 << 32, 1 << 63, usize::MAX];
     match random.between(0, 5) {
         0 => c.d = random.pick(&sizes),
         1 => c.m = random.pick(&sizes),

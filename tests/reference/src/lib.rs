@@ -10,12 +10,14 @@ pub mod search;
 pub mod tied;
 pub mod vectors;
 
-use catalogue::hermite::hermite;
+use catalogue::hermite::{hermite, with};
 use search::nearest_coefficients;
 use vectors::{combination, coordinates, minus, rank, rows, square};
 
-/// The most vectors, and the most coordinates.
-pub const MOST: usize = 4;
+/// The most vectors.
+pub const MOST_VECTORS: usize = 4;
+/// The most coordinates.
+pub const MOST_COORDINATES: usize = 8;
 /// The most a coordinate may be in size.
 pub const MOST_SIZE: i64 = 20_000;
 /// The most a squared length may be.
@@ -110,8 +112,8 @@ pub fn nearest(numbers: &[i64], d: usize, m: usize, target: &[i64]) -> Nearest {
     }
 }
 
-/// Whether the target is in the lattice, or the refusal's number: by Hermite normal forms, which a vector of the lattice leaves as they
-/// are.
+/// Whether the target is in the lattice, or the refusal's number: by the Hermite normal form, which a vector of the lattice leaves as it
+/// is.
 pub fn member(numbers: &[i64], d: usize, m: usize, target: &[i64]) -> Result<bool, u64> {
     let mut refusal = refused_vectors(numbers, d, m);
     if refusal == 0 {
@@ -120,19 +122,16 @@ pub fn member(numbers: &[i64], d: usize, m: usize, target: &[i64]) -> Result<boo
     if refusal != 0 {
         return Err(refusal);
     }
-    let basis = rows(numbers, m);
-    let mut more = basis.clone();
-    more.push(target.to_vec());
-    let form = hermite(&more);
-    Ok(form[d].iter().all(|&x| x == 0) && form[..d] == hermite(&basis))
+    let form = hermite(&rows(numbers, m));
+    Ok(with(form.clone(), target) == form)
 }
 
 // ---- refusals
 
 fn refused_vectors(numbers: &[i64], d: usize, m: usize) -> u64 {
-    if !(1..=MOST).contains(&d) {
+    if !(1..=MOST_VECTORS).contains(&d) {
         1
-    } else if !(1..=MOST).contains(&m) {
+    } else if !(1..=MOST_COORDINATES).contains(&m) {
         2
     } else if numbers.len() != d * m {
         3

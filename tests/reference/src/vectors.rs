@@ -1,6 +1,6 @@
 //! Vectors of whole numbers, exactly.
 
-use crate::MOST;
+use crate::MOST_VECTORS;
 
 pub fn rows(numbers: &[i64], m: usize) -> Vec<Vec<i64>> {
     numbers.chunks(m).map(|v| v.to_vec()).collect()
@@ -43,13 +43,18 @@ pub fn coordinates(basis: &[Vec<i64>], v: &[i64]) -> Vec<i64> {
         .collect()
 }
 
-/// Coefficient i of the projection of v to the span, as a fraction, by Cramer's rule on the inner products.
+/// Coefficient i of the projection of v to the span, as a fraction.
 pub fn coordinate(basis: &[Vec<i64>], i: usize, v: &[i64]) -> (i128, i128) {
+    coefficient(basis, i, |k| dot(&basis[k], v))
+}
+
+/// Coefficient i of the vector of the span that has these inner products with the basis, as a fraction, by Cramer's rule.
+pub fn coefficient(basis: &[Vec<i64>], i: usize, product: impl Fn(usize) -> i64) -> (i128, i128) {
     let n = basis.len();
     let mut g = gram(basis);
     let bottom = determinant(&g, n);
-    for k in 0..n {
-        g[k][i] = dot(&basis[k], v) as i128;
+    for (k, row) in g.iter_mut().enumerate().take(n) {
+        row[i] = product(k) as i128;
     }
     (determinant(&g, n), bottom)
 }
@@ -61,10 +66,10 @@ pub fn squared_volume(vectors: &[Vec<i64>], more: Option<&[i64]>) -> i128 {
     determinant(&gram(&all), all.len())
 }
 
-type Matrix = [[i128; MOST]; MOST];
+type Matrix = [[i128; MOST_VECTORS]; MOST_VECTORS];
 
 fn gram(vectors: &[Vec<i64>]) -> Matrix {
-    let mut g = [[0; MOST]; MOST];
+    let mut g = [[0; MOST_VECTORS]; MOST_VECTORS];
     for (i, a) in vectors.iter().enumerate() {
         for (j, b) in vectors.iter().enumerate() {
             g[i][j] = dot(a, b) as i128;
@@ -80,7 +85,7 @@ fn determinant(a: &Matrix, n: usize) -> i128 {
     }
     let mut sum = 0;
     for j in 0..n {
-        let mut minor = [[0; MOST]; MOST];
+        let mut minor = [[0; MOST_VECTORS]; MOST_VECTORS];
         for i in 1..n {
             for k in 0..n - 1 {
                 minor[i - 1][k] = a[i][if k < j { k } else { k + 1 }];

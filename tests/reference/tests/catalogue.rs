@@ -4,10 +4,11 @@ use reference::catalogue::cases::case;
 use reference::catalogue::fold::{folded, standing};
 use reference::catalogue::hermite::hermite;
 use reference::catalogue::listing::listing;
+use reference::catalogue::made::largest;
 use reference::catalogue::reader::{read, words};
 use reference::catalogue::text::{commented, entries, text};
 use reference::catalogue::writer::{bytes, write};
-use reference::catalogue::{fold, lookup, write_out, Refused};
+use reference::catalogue::{fold, lookup, write_out, Refused, MOST_BYTES};
 use reference::random::Random;
 use reference::vectors::coordinate;
 
@@ -54,13 +55,19 @@ fn rows_of_the_table() {
         words
     };
     assert_eq!(listing(&[0; 3]), "refused 8 0\n");
-    assert_eq!(listing(&[0; 18_437]), "refused 8 0\n");
-    assert_eq!(listing(&[0; 18_440]), "refused 9 0\n");
+    assert_eq!(listing(&[0; 34_821]), "refused 8 0\n");
+    assert_eq!(listing(&[0; 34_824]), "refused 9 0\n");
+    assert_eq!(listing(&[0; 34_820]), "refused 10 0\n");
     refused(&[], 10, 0);
     refused(&FULL[..17], 10, 17);
     refused(&changed(2, 0x50004E20), 10, 2);
     refused(&changed(5, 0x10000900), 1, 5);
     refused(&changed(5, 0x10000920), 2, 5);
+    for m in 9..=15 {
+        refused(&changed(5, 0x10000920 + m), 2, 5);
+    }
+    // three vectors of eight coordinates are more words than there are
+    refused(&changed(11, 0x10000C38), 10, 16);
     refused(&changed(5, 0x10000722), 11, 5);
     refused(&changed(0, 0x10000022), 11, 0);
     refused(&changed(1, 0x20009C41), 4, 1);
@@ -70,6 +77,34 @@ fn rows_of_the_table() {
     refused(&changed(9, 0x20004E20), 5, 5);
     refused(&changed(16, 0x30000008), 12, 16);
     assert_eq!(listing(&bytes(&[0x40000000])), "0 0\n");
+}
+
+/// Entries of eight and of five coordinates: 2 has the lattice of 1 in another basis, 3 has another m.
+#[test]
+fn wide_entries() {
+    let list = entries(
+        "1 2 8 ; 0 0 0 0 0 0 1 1 0 0 0 0 0 0 0 3 ; 3\n2 2 8 ; 0 0 0 0 0 0 -1 2 0 0 0 0 0 0 2 -1 ; 2\n\
+         3 2 5 ; 0 0 0 1 1 0 0 0 0 3 ; 2\n4 2 8 ; 0 0 0 0 0 0 1 2 0 0 0 0 0 0 0 4\n",
+    );
+    let bytes = write(&list.unwrap());
+    assert_eq!(words(&bytes)[..2], [0x10000128, 0x20004E20]);
+    let expected = "4 3\n1 1 3 1\nv 0 0 0 0 0 0 1 1\nv 0 0 0 0 0 0 -1 2\n2 1 0 2\n\
+                    3 3 1 1\nv 0 0 0 1 1\nv 0 0 0 -1 2\n4 4 0 2\nv 0 0 0 0 0 0 -2 0\nv 0 0 0 0 0 0 -1 2\n";
+    assert_eq!(listing(&bytes), expected);
+    assert_eq!(lookup(&bytes, 2), Ok(1));
+    assert_eq!(lookup(&bytes, 3), Ok(3));
+}
+
+/// 256 entries of four vectors of eight coordinates, with see words, are the most bytes that are read.
+#[test]
+fn the_largest_catalogue() {
+    let all = largest(&mut Random::new(5));
+    let mut bytes = write(&all);
+    assert_eq!(bytes.len(), MOST_BYTES);
+    assert!(all.iter().all(|e| (e.d(), e.m()) == (4, 8)));
+    assert_eq!(read(&bytes), Ok(all));
+    bytes.extend([0, 0, 0, 0x40]);
+    assert_eq!(read(&bytes).map_err(|r| r.number), Err(9));
 }
 
 /// Every vector is a combination with whole coefficients, by Cramer's rule.
@@ -90,8 +125,8 @@ fn inside(vectors: &[Vec<i64>], basis: &[Vec<i64>]) -> bool {
 #[test]
 fn forms_tell_lattices_apart() {
     let mut random = Random::new(7);
-    let mut counts = [0; 2];
-    for i in 0..40_000 {
+    let mut counts = [[0; 2]; 2];
+    for i in 0..60_000 {
         let Ok(list) = read(&case(9, i)) else {
             continue;
         };
@@ -101,11 +136,11 @@ fn forms_tell_lattices_apart() {
                 let is_one = inside(&e.vectors, &f.vectors) && inside(&f.vectors, &e.vectors);
                 let (g, h) = (hermite(&e.vectors), hermite(&f.vectors));
                 assert_eq!(g == h, is_one, "{e:?} {f:?}");
-                counts[is_one as usize] += 1;
+                counts[(e.m() > 4) as usize][is_one as usize] += 1;
             }
         }
     }
-    assert!(counts.iter().all(|&n| n > 5_000), "{counts:?}");
+    assert!(counts.iter().flatten().all(|&n| n > 3_000), "{counts:?}");
 }
 
 /// Catalogues as text, and as text what they fold to.

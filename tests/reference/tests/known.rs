@@ -2,7 +2,7 @@
 
 use reference::enumeration::lists;
 use reference::vectors::{combination, minus, rows, square};
-use reference::{nearest, reduce, Nearest, Reduction};
+use reference::{member, nearest, reduce, Nearest, Reduction};
 
 fn unit(n: usize) -> Vec<Vec<i64>> {
     (0..n)
@@ -100,12 +100,87 @@ fn p9_p10() {
     assert_eq!((n.vector, n.square), (vec![20, 0], 117));
 }
 
+/// The lattice A4, in five coordinates: each root that follows is as near to its sum with those before as to itself.
+#[test]
+fn five_coordinates() {
+    let numbers = [
+        1, -1, 0, 0, 0, 0, 1, -1, 0, 0, 0, 0, 1, -1, 0, 0, 0, 0, 1, -1,
+    ];
+    let r = reduce(&numbers, 4, 5);
+    let vectors = [
+        [1, -1, 0, 0, 0],
+        [1, 0, -1, 0, 0],
+        [1, 0, 0, -1, 0],
+        [1, 0, 0, 0, -1],
+    ];
+    assert_eq!(r.vectors, vectors);
+    assert_eq!(r.u, [[1, 0, 0, 0], [1, 1, 0, 0], [1, 1, 1, 0], [1; 4]]);
+    assert_eq!(
+        r.v,
+        [[1, 0, 0, 0], [-1, 1, 0, 0], [0, -1, 1, 0], [0, 0, -1, 1]]
+    );
+    assert_eq!((r.squares, r.passes), (vec![2; 4], 3));
+    // a deep hole of five times the lattice: ten vectors are as near
+    let times: Vec<i64> = vectors.concat().iter().map(|x| 5 * x).collect();
+    let n = nearest(&times, 4, 5, &[3, 3, -2, -2, -2]);
+    assert_eq!(
+        (n.vector, n.coefficients, n.square),
+        (vec![0, 5, 0, 0, -5], vec![-1, 0, 0, 1], 30)
+    );
+}
+
+/// Four vectors of the lattice E8 in doubled coordinates, with the inner products of twice those of p6.
+const EIGHT: [i64; 32] = [
+    2, 2, 0, 0, 0, 0, 0, 0, 0, 0, 2, 2, 0, 0, 0, 0, 0, 0, 0, 0, 2, 2, 0, 0, 1, 1, 1, 1, 1, 1, 1, 1,
+];
+
+#[test]
+fn eight_coordinates() {
+    let r = reduce(&EIGHT, 4, 8);
+    assert_eq!(r.vectors, rows(&EIGHT, 8));
+    assert_eq!(
+        (r.u, r.v, r.squares, r.passes),
+        (unit(4), unit(4), vec![8; 4], 3)
+    );
+    // one with the coefficients 1, 1, 1 and -1, and one beside the span
+    assert_eq!(member(&EIGHT, 4, 8, &[1, 1, 1, 1, 1, 1, -1, -1]), Ok(true));
+    assert_eq!(member(&EIGHT, 4, 8, &[1, 1, 1, 1, 1, -1, 1, -1]), Ok(false));
+    // in the span, and half of a vector of the lattice
+    assert_eq!(member(&EIGHT, 4, 8, &[1, 1, 1, 1, 0, 0, 0, 0]), Ok(false));
+    // as near to the last vector as to the one with 1, 1, 1 and -1
+    let n = nearest(&EIGHT, 4, 8, &[1, 1, 1, 1, 1, 1, -1, 1]);
+    assert_eq!(
+        (n.vector, n.coefficients, n.square),
+        (vec![1; 8], vec![0, 0, 0, 1], 4)
+    );
+}
+
+/// Vectors that are the same but for the last of eight coordinates are independent.
+#[test]
+fn the_last_coordinate_counts() {
+    let mut numbers = [1; 16];
+    assert_eq!(reduce(&numbers, 2, 8).refusal, 5);
+    numbers[15] = 2;
+    let r = reduce(&numbers, 2, 8);
+    assert_eq!((r.refusal, r.squares), (0, vec![1, 7]));
+    let fourfold: Vec<i64> = (0..32).map(|i| (i / 8 == i % 8 - 4) as i64).collect();
+    assert_eq!(reduce(&fourfold, 4, 8).vectors, rows(&fourfold, 8));
+}
+
 #[test]
 fn lengths() {
     assert_eq!(reduce(&[20_000], 1, 1).refusal, 0);
     assert_eq!(reduce(&[20_001], 1, 1).refusal, 4);
     assert_eq!(reduce(&[20_000, 1], 1, 2).refusal, 4);
     assert_eq!(reduce(&[10_000; 4], 1, 4).refusal, 0);
+    let mut eight = [6_000, 8_000, 6_000, 8_000, 6_000, 8_000, 6_000, 8_000];
+    assert_eq!(reduce(&eight, 1, 8).refusal, 0);
+    eight[7] += 1;
+    assert_eq!(reduce(&eight, 1, 8).refusal, 4);
+    assert_eq!(
+        reduce(&[10_000, 10_000, 10_000, 10_000, 1], 1, 5).refusal,
+        4
+    );
     assert_eq!(reduce(&[i64::MIN], 1, 1).refusal, 4);
 }
 
@@ -150,7 +225,9 @@ fn the_first_refusal_is_given() {
     assert_eq!(nearest(&far, 0, 0, &[]).refusal, 1);
     assert_eq!(nearest(&far, 5, 0, &[]).refusal, 1);
     assert_eq!(nearest(&far, 4, 0, &[]).refusal, 2);
-    assert_eq!(nearest(&far, 4, 5, &[]).refusal, 2);
+    assert_eq!(nearest(&far, 4, 9, &[]).refusal, 2);
+    assert_eq!(nearest(&far, 4, 8, &[]).refusal, 3);
+    assert_eq!(nearest(&far, 5, 9, &[]).refusal, 1);
     assert_eq!(nearest(&far, 2, 3, &[]).refusal, 3);
     assert_eq!(nearest(&far, 7, 1, &[]).refusal, 1);
     assert_eq!(nearest(&far[..6], 2, 3, &[]).refusal, 4);
@@ -160,4 +237,7 @@ fn the_first_refusal_is_given() {
     assert_eq!(nearest(&[1; 3], 1, 3, &[20_000, 1, 0]).refusal, 7);
     assert_eq!(nearest(&[1; 3], 1, 3, &[0, 0, i64::MIN]).refusal, 7);
     assert_eq!(nearest(&[1; 3], 1, 3, &[20_000, 0, 0]).refusal, 0);
+    assert_eq!(nearest(&[1; 8], 1, 8, &[1; 7]).refusal, 6);
+    assert_eq!(nearest(&[1; 8], 1, 8, &[7_072; 8]).refusal, 7);
+    assert_eq!(nearest(&[1; 8], 1, 8, &[7_071; 8]).refusal, 0);
 }

@@ -1,10 +1,18 @@
 //! What the answers promise, and that the inputs cover what they name.
 
-use reference::cases::{case, cases, Kind, KINDS};
+use reference::cases::{case, cases, Kind, ACCEPTED, KINDS};
 use reference::enumeration::{box_nearest, lists, minima};
 use reference::random::Random;
 use reference::vectors::{combination, minus, rank, rows, square, squared_volume};
-use reference::{nearest, reduce, MOST, MOST_SQUARE};
+use reference::{nearest, reduce, MOST_COORDINATES, MOST_SQUARE, MOST_VECTORS};
+
+/// Counts for each d and m.
+type Sizes = [[u64; MOST_COORDINATES + 1]; MOST_VECTORS + 1];
+
+/// Whether there are more than so many for each m, and for each d that is not above it.
+fn all_above(sizes: &Sizes, least: u64) -> bool {
+    (1..=MOST_COORDINATES).all(|m| (1..=m.min(MOST_VECTORS)).all(|d| sizes[d][m] > least))
+}
 
 fn unit(n: usize) -> Vec<Vec<i64>> {
     (0..n)
@@ -37,7 +45,7 @@ fn wide(vectors: &[Vec<i64>]) -> Vec<Vec<i128>> {
 fn rank_agrees_with_the_volume() {
     let mut random = Random::new(3);
     for i in 0..20_000 {
-        let c = case(KINDS[i % 12], &mut random);
+        let c = case(KINDS[i % (ACCEPTED + 1)], &mut random);
         let vectors = rows(&c.numbers, c.m);
         assert_eq!(
             rank(&vectors) < c.d,
@@ -78,24 +86,24 @@ fn tables_and_lengths() {
 
 #[test]
 fn squares_are_the_successive_minima() {
-    let mut tried = [0; MOST + 1];
-    for c in cases(2, 6_000) {
+    let mut tried = Sizes::default();
+    for c in cases(2, 12_000) {
         let r = reduce(&c.numbers, c.d, c.m);
         if r.refusal != 0 {
             continue;
         }
         if let Some(known) = minima(&r.vectors) {
             assert_eq!(r.squares, known, "{c:?}");
-            tried[c.d] += 1;
+            tried[c.d][c.m] += 1;
         }
     }
-    assert!(tried[1..].iter().all(|&n| n > 200), "{tried:?}");
+    assert!(all_above(&tried, 20), "{tried:?}");
 }
 
 #[test]
 fn nearest_is_the_least_of_a_box() {
-    let mut tried = [0; MOST + 1];
-    for c in cases(4, 12_000) {
+    let mut tried = Sizes::default();
+    for c in cases(4, 24_000) {
         let n = nearest(&c.numbers, c.d, c.m, &c.target);
         if n.refusal != 0 {
             continue;
@@ -104,22 +112,25 @@ fn nearest_is_the_least_of_a_box() {
         if let Some(known) = box_nearest(&basis, &c.target) {
             assert_eq!((n.square, &n.coefficients), (known.0, &known.1), "{c:?}");
             assert_eq!(n.vector, combination(&n.coefficients, &basis, c.m), "{c:?}");
-            tried[c.d] += 1;
+            tried[c.d][c.m] += 1;
         }
     }
-    assert!(tried[1..].iter().all(|&n| n > 200), "{tried:?}");
+    assert!(all_above(&tried, 20), "{tried:?}");
 }
 
 #[test]
 fn inputs_cover_what_they_name() {
     let mut refusals = [0; 8];
-    let mut sizes = [[0; MOST + 1]; MOST + 1];
-    let (mut ties, mut inside, mut outside, mut longest) = (0, 0, 0, 0);
-    for c in cases(5, 14_000) {
+    let mut sizes = Sizes::default();
+    let (mut ties, mut holes, mut inside, mut outside, mut longest) = ([0; 2], [0; 2], 0, 0, 0);
+    for c in cases(5, 28_000) {
         let n = nearest(&c.numbers, c.d, c.m, &c.target);
         refusals[n.refusal as usize] += 1;
         if c.kind == Kind::Dependent {
             assert_eq!(n.refusal, 5, "{c:?}");
+        }
+        if KINDS[..ACCEPTED].contains(&c.kind) {
+            assert!([0, 5].contains(&n.refusal), "{c:?}");
         }
         if n.refusal != 0 {
             continue;
@@ -129,20 +140,21 @@ fn inputs_cover_what_they_name() {
         longest += (square(&c.target) == MOST_SQUARE) as u64;
         let with_target = [rows(&c.numbers, c.m), vec![c.target.clone()]].concat();
         outside += (rank(&with_target) > c.d) as u64;
-        // a tie: another list as near, one step away
+        // a tie: another list as near, one step away; in a hole, d others
         let basis = reduce(&c.numbers, c.d, c.m).vectors;
         let tied = |e: &Vec<i64>| {
             let v = combination(e, &basis, c.m);
             square(&v) != 0 && square(&minus(&minus(&c.target, 1, &n.vector), 1, &v)) == n.square
         };
-        ties += lists(&vec![1; c.d]).iter().any(tied) as u64;
+        let others = lists(&vec![1; c.d]).iter().filter(|e| tied(e)).count();
+        let is_wide = (c.m > 4) as usize;
+        ties[is_wide] += (others > 0) as u64;
+        holes[is_wide] += (c.d > 1 && others >= c.d) as u64;
     }
     assert!(refusals.iter().all(|&n| n > 50), "{refusals:?}");
-    assert!(
-        (1..=MOST).all(|m| (1..=m).all(|d| sizes[d][m] > 50)),
-        "{sizes:?}"
-    );
-    assert!(ties > 1_000, "{ties}");
+    assert!(all_above(&sizes, 50), "{sizes:?}");
+    assert!(ties.iter().all(|&n| n > 1_000), "{ties:?}");
+    assert!(holes.iter().all(|&n| n > 300), "{holes:?}");
     assert!(
         inside > 1_000 && outside > 1_000 && longest > 300,
         "{inside} {outside} {longest}"

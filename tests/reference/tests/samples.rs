@@ -25,4 +25,5 @@ fn counts(name: &str) -> String {
 fn samples() {
     assert_eq!(counts("generators"), "51 27");
     assert_eq!(counts("cells"), "28 16");
+    assert_eq!(counts("embedded"), "26 16");
 }

@@ -8,7 +8,7 @@ use reference::catalogue::writer::write;
 use reference::catalogue::{Entry, Refused};
 use reference::enumeration::box_nearest;
 use reference::vectors::{coordinate, minus, rank, square};
-use reference::{nearest, reduce, MOST};
+use reference::{nearest, reduce, MOST_COORDINATES, MOST_VECTORS};
 use Separation::{DifferentD, DifferentM, Same};
 
 fn first(position: usize, square: i64) -> Separation {
@@ -92,6 +92,43 @@ fn examples() -> Vec<(&'static str, &'static str, Separation, Separation)> {
             first(2, 1),
         ),
         ("1 2 ; 7 1", "1 2 ; 2 0", first(1, 2), first(1, 4)),
+        // five to eight coordinates
+        (
+            "4 5 ; 1 -1 0 0 0 0 1 -1 0 0 0 0 1 -1 0 0 0 0 1 -1",
+            "4 5 ; 1 0 0 0 -1 1 0 0 -1 0 1 0 -1 0 0 1 -1 0 0 0",
+            Same,
+            Same,
+        ),
+        (
+            "1 8 ; 0 0 0 0 0 0 0 3",
+            "1 7 ; 0 0 0 0 0 0 3",
+            DifferentM,
+            DifferentM,
+        ),
+        (
+            "1 6 ; 0 0 0 0 0 3",
+            "2 6 ; 0 0 0 0 0 3 1 0 0 0 0 0",
+            DifferentD,
+            DifferentD,
+        ),
+        (
+            "1 8 ; 0 0 0 0 0 0 0 4",
+            "1 8 ; 0 0 0 0 0 0 0 6",
+            first(1, 4),
+            first(1, 4),
+        ),
+        (
+            "1 6 ; 0 0 0 0 0 3",
+            "1 6 ; 0 0 0 0 2 0",
+            first(1, 9),
+            first(1, 4),
+        ),
+        (
+            "4 8 ; 2 2 0 0 0 0 0 0 0 0 2 2 0 0 0 0 0 0 0 0 2 2 0 0 0 0 0 0 0 0 2 2",
+            "4 8 ; 2 2 0 0 0 0 0 0 0 0 2 2 0 0 0 0 0 0 0 0 2 2 0 0 1 1 1 1 1 1 1 1",
+            second(4, 8),
+            first(4, 8),
+        ),
         // the nearest vector is (4,4): neither zero nor a reduced vector
         ("2 2 ; 3 3 0 4", "2 2 ; 4 0 0 4", first(1, 2), first(1, 2)),
     ]
@@ -223,8 +260,8 @@ fn answers_are_what_they_say() {
 /// Each position in either entry, each d and m, vectors outside the span, and distances that need more than the reduced vectors.
 #[test]
 fn pairs_cover_what_can_be_outside() {
-    let mut positions = [[0; MOST + 1]; 2];
-    let mut sizes = [[0; MOST + 1]; MOST + 1];
+    let mut positions = [[0; MOST_VECTORS + 1]; 2];
+    let mut sizes = [[0; MOST_COORDINATES + 1]; MOST_VECTORS + 1];
     let (mut off_span, mut beyond) = (0, 0);
     for i in 0..12_000 {
         let p = pair(7, i);
@@ -245,6 +282,9 @@ fn pairs_cover_what_can_be_outside() {
     }
     let many = |counts: &[u64]| counts.iter().all(|&n| n > 20);
     assert!(positions.iter().all(|p| many(&p[1..])), "{positions:?}");
-    assert!((1..=MOST).all(|d| many(&sizes[d][d..])), "{sizes:?}");
+    assert!(
+        (1..=MOST_VECTORS).all(|d| many(&sizes[d][d..])),
+        "{sizes:?}"
+    );
     assert!(off_span > 500 && beyond > 500, "{off_span} {beyond}");
 }

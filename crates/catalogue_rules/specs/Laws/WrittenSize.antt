@@ -1,4 +1,4 @@
--- The words written for well-formed entries have 32 bits, and make at most 18,436 bytes.
+-- The words written for well-formed entries have 32 bits, and make at most 34,820 bytes.
 use mathlib.Core.Path.{_≡_, sym, subst}
 use mathlib.Core.Bool.{false}
 use mathlib.Core.List.{List, [], _∷_, _++_, map, map-append}

@@ -14,7 +14,7 @@ diagonal-requires c κs = search needs
 
 returns : tie.Need-returns
 unfolding finished
-returns c = let w = c .before .before .before .before .before .args .w in
+returns c = let w = c .before .before .before .before .args .w in
     ap {B = Reduction} (λ s. record { refusal = 0; place = 0; vectors = w .vectors; u = w .u; v = w .v; squares = s; passes = w .passes }) (c .diagonal .ensures)
 
 pub finished-spec : {M : Type 1} → statement M

@@ -12,13 +12,15 @@ use lib.ListN.{length, getD, take, length-map, length-take, List·getD-eq-defaul
 use lib.Seq.{getD-take}
 use Rattle.integers.specs.Identity.{by-ring, reads}
 use Rattle.integers.specs.Size.{Within}
+use Rattle.integers.specs.FilledLaws.{length-filled}
 use Rattle.lattices.specs.Vector.{Vec, N, nth, dot}
 use Rattle.lattices.specs.Laws.Vector.{dot-comm, nil-dot, ≈-refl, ≈-dot}
 use Rattle.lattices.specs.Greedy.{Row, vectors, units, reduction}
 use Rattle.lattices.specs.Refusal.{Input, basis, firstOf, vectorChecks, mostVectors, mostCoordinates}
 use Rattle.lattices.specs.Answer as Definition
 use Rattle.lattices.specs.Answer.{padded, table, reductionGiven, noReduction, reductionOf}
-use Rattle.lattices.specs.Laws.Answer.{table-rows, padded-≈}
+use Rattle.lattices.specs.Laws.Answer.{length-padded, table-rows, padded-≈}
+use Rattle.greedy_reduction.specs.Start.{Coordinates}
 use Rattle.greedy_reduction.specs.Accepted.{accepted}
 use Rattle.greedy_reduction.specs.Demand.{accepted-reduction}
 use Rattle.row_operations.specs.declared.VectorRow.{VectorRow}
@@ -27,7 +29,7 @@ use Rattle.row_operations.specs.Rows.{transposed, Tables, rowsOf-tables, map-fo
 use Rattle.row_operations.specs.RowStructs.{vectorRow, tableRow}
 use Rattle.gram_matrix.specs.declared.work.Work.{Work}
 use Rattle.gram_matrix.specs.Gram.{gramOf}
-use Rattle.gram_matrix.specs.Formed.{formed, formed-is}
+use Rattle.gram_matrix.specs.Formed.{products, formed, formed-is}
 use Rattle.gram_matrix.specs.Tied.{whole, Tied, tied-diagonal, tied-length-gram, tied-square}
 use Rattle.gram_matrix.specs.Passed.{tied-entry}
 use Rattle.gram_matrix.specs.Lose.{row-wide}
@@ -49,9 +51,9 @@ pub record Array (i : Input) (d : ℕ) (b : List (List ℤ)) : Type 0 where
   pub count : d ≡ i .d
   pub rows : b ≡ table mostVectors mostCoordinates (basis i)
 
--- a finished work in the struct of the answer
-unfoldable pub finished : Work → Reduction
-finished w = record { refusal = 0; place = 0; vectors = w .vectors; u = w .u; v = w .v; squares = diagonalOf (tableIn (w .gram)); passes = w .passes }
+-- a finished work and its Gram matrix in the struct of the answer
+unfoldable pub finished : List (List ℤ) → Work → Reduction
+finished g w = record { refusal = 0; place = 0; vectors = w .vectors; u = w .u; v = w .v; squares = diagonalOf g; passes = w .passes }
 
 -- the rows of an answer's vectors
 pub vectors-back : (l : List (List ℤ)) → map (λ r. r .at) (map vectorRow l) ≡ l
@@ -90,6 +92,15 @@ pub length-table : (h w : ℕ) (rows : List (List ℤ)) → length (table h w ro
 length-table zero w rows = refl
 length-table (suc h) w [] = ap suc (length-table h w [])
 length-table (suc h) w (r ∷ rows) = ap suc (length-table h w rows)
+
+-- a Gram matrix as it is formed has four rows
+pub four-formed : (bs : List Vec) {g : List (List ℤ)} → g ≡ formed bs → length g ≡ 4
+four-formed bs e = ap length e ∙ length-filled (padded 4 []) 4 (map (products bs) bs)
+
+table-wide : (h w : ℕ) (rows : List (List ℤ)) → Coordinates w (table h w rows)
+table-wide zero w rows = tt
+table-wide (suc h) w [] = (length-padded w [], table-wide h w [])
+table-wide (suc h) w (r ∷ rows) = (length-padded w r, table-wide h w rows)
 
 -- beyond the rows of a table the products are 0
 beyond : (h w : ℕ) (rows : List (List ℤ)) (j : ℕ) (v : Vec) → length rows ≤ j → dot (getD (table h w rows) j []) v ≡ pos 0
@@ -134,6 +145,8 @@ module _ (i : Input) (e : firstOf vectorChecks i ≡ 0) where
     vectors = ones (vectors (first i e)) ∙ tables .vectors;
     us = tables .u;
     vs = ap transposed (tables .v) ∙ symmetric-units (i .d) (accepted i e .most);
+    vectors-wide = table-wide mostVectors mostCoordinates (basis i);
+    us-wide = table-wide mostVectors mostVectors (units (i .d));
   }
 
   pub begun-few : 0 + greedyPasses (i .d) (first i e) ≤ 1000000000000
@@ -149,15 +162,15 @@ module _ (i : Input) (e : firstOf vectorChecks i ≡ 0) where
   }
 
   -- and so are what the steps give
-  pub outcome-of : {d : ℕ} {c g u : List (List ℤ)} {w : Work} → Array i d c → g ≡ formed (take d c) → u ≡ table mostVectors mostVectors (units d)
-      → ((p : Reducible d 0 g c u u) → Outcome (p .kind) d 0 (p .rows) w) → Outcome whole (i .d) 0 (first i e) w
-  outcome-of {w = w} a p q o = subst (λ n. Outcome whole n 0 (first i e) w) (a .count) (o (begins a p q))
+  pub outcome-of : {d : ℕ} {c g u h : List (List ℤ)} {w : Work} → Array i d c → g ≡ formed (take d c) → u ≡ table mostVectors mostVectors (units d)
+      → ((p : Reducible d 0 g c u u) → Outcome (p .kind) d 0 (p .rows) h w) → Outcome whole (i .d) 0 (first i e) h w
+  outcome-of {h = h} {w} a p q o = subst (λ n. Outcome whole n 0 (first i e) h w) (a .count) (o (begins a p q))
 
   -- ---- the engine's answer for an accepted input
   abbrev G : List Row
   G = greedyRows (i .d) (first i e)
 
-  module _ (w : Work) (o : Outcome whole (i .d) 0 (first i e) w) where
+  module _ (g : List (List ℤ)) (w : Work) (o : Outcome whole (i .d) 0 (first i e) g w) where
     -- the vectors, which the nearest vector is searched in
     pub vectors-given : vectorsIn (w .vectors) ≡ table mostVectors mostCoordinates (vectors (R i e))
     vectors-given = sym (o .tied .vectors) ∙ ones (vectors G) ∙ last-vectors i e
@@ -174,7 +187,7 @@ module _ (i : Input) (e : firstOf vectorChecks i ≡ 0) where
     G-count : length G ≡ 4
     G-count = sym (length-map G (λ r. r .vector)) ∙ ap length (last-vectors i e) ∙ length-table mostVectors mostCoordinates (vectors (R i e))
 
-    pub gram-given : GramOf (take (i .d) (table mostVectors mostCoordinates (vectors (R i e)))) (tableIn (w .gram))
+    pub gram-given : GramOf (take (i .d) (table mostVectors mostCoordinates (vectors (R i e)))) g
     gram-given = record {
       gram = record {
         row = λ m. record {
@@ -187,13 +200,13 @@ module _ (i : Input) (e : firstOf vectorChecks i ≡ 0) where
       long = λ m. wide m (decLt m 4);
     }
       where
-        wide : (m : ℕ) → Dec (m < 4) → length (getD (tableIn (w .gram)) m []) ≤ 4
-        wide m (yes h) = omega (arith, row-wide (length G) m (tableIn (w .gram)) (tied-square (o .tied)) (omega (arith, tied-length-gram (o .tied), G-count, h)), G-count)
+        wide : (m : ℕ) → Dec (m < 4) → length (getD g m []) ≤ 4
+        wide m (yes h) = omega (arith, row-wide (length G) m g (tied-square (o .tied)) (omega (arith, tied-length-gram (o .tied), G-count, h)), G-count)
         wide m (no h) =
-            let n : length (tableIn (w .gram)) ≤ m = omega (arith, tied-length-gram (o .tied), G-count, h) in
-            rw (List·getD-eq-default (tableIn (w .gram)) [] n) (omega arith)
+            let n : length g ≤ m = omega (arith, tied-length-gram (o .tied), G-count, h) in
+            rw (List·getD-eq-default g [] n) (omega arith)
 
-    finished-rows : finished w ≡ packed (reductionGiven (reduction (basis i)))
+    finished-rows : finished g w ≡ packed (reductionGiven (reduction (basis i)))
     unfolding finished
     finished-rows = λ k. record {
       refusal = 0;
@@ -205,7 +218,7 @@ module _ (i : Input) (e : firstOf vectorChecks i ≡ 0) where
       passes = (o .passes ∙ zero-add (greedyPasses (i .d) (first i e)) ∙ last-passes i e) k;
     }
 
-    pub accepted-answer : finished w ≡ packed (reductionOf i)
+    pub accepted-answer : finished g w ≡ packed (reductionOf i)
     accepted-answer = finished-rows ∙ ap packed (sym (accepted-reduction i e))
 
 -- the answer for a refused input

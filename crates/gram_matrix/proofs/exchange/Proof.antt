@@ -1,11 +1,11 @@
 -- The exchanges on the four tables are that of the rows.
-use mathlib.Core.Path.{_≡_, ap, _∙_}
-use mathlib.Core.List.{map}
+use mathlib.Core.Path.{_≡_, ap, _∙_, subst}
 use native.Mathlib.Omega.{arith}
 use lib.ListN.{length, length-map}
 use denote.Ref.{now}
-use Rattle.gram_matrix.specs.Order.{exchanged, swapped, length-exchanged}
-use Rattle.gram_matrix.specs.Tied.{tied-exchanged, tied-length}
+use Rattle.greedy_reduction.specs.Start.{Coordinates}
+use Rattle.gram_matrix.specs.Order.{exchanged, swapped, swapped-wide}
+use Rattle.gram_matrix.specs.Tied.{tied-exchanged, tied-length, tied-square}
 use borrow.Author.Needs.{needs}
 use Rattle.gram_matrix.proofs.exchange.Statement.{statement}
 use Rattle.gram_matrix.proofs.exchange.Tie as tie
@@ -34,17 +34,16 @@ returns : tie.Need-returns
 returns c = let s = c .before .before .before .before .before .before .before .before .before .before in
     let j = s .args .j in
     let h = s .pre .1 in
-    let g = c .before .before .before .before .before .before .exchange-rows .ensures ∙ ap (exchanged j) (c .before .before .before .before .before .before .before .before .exchange-columns .ensures) in
+    let f = c .before .before .before .before .before .before .before .before .exchange-columns .ensures in
+    let g = c .before .before .before .before .before .before .exchange-rows .ensures in
     let b = c .before .before .before .before .exchange-vectors .ensures in
     let u = c .before .before .exchange-rows2 .ensures in
     let v = c .exchange-columns2 .ensures in (
-      record {
-        gram = ap length g ∙ length-exchanged j (map (swapped j) (now (s .args .g))) ∙ length-map (now (s .args .g)) (swapped j) ∙ h .gram;
-        vectors = ap length b ∙ length-exchanged j (now (s .args .b)) ∙ h .vectors;
-        us = ap length u ∙ length-exchanged j (now (s .args .u)) ∙ h .us;
-        vs = ap length v ∙ length-map (now (s .args .v)) (swapped j) ∙ h .vs;
-      },
-      λ K rows t. rw (g, b, u, v) (tied-exchanged j (omega (arith, tied-length t, h .us, s .pre .0)) t),
+      record { gram = g .0; vectors = b .0; us = u .0; vs = ap length v ∙ length-map (now (s .args .v)) (swapped j) ∙ h .vs },
+      λ K rows t.
+          let four : length rows ≡ 4 = tied-length t ∙ h .us in
+          let wide = swapped-wide 4 j (now (s .args .g)) (subst (λ n. Coordinates n (now (s .args .g))) four (tied-square t)) in
+          rw (g .1 (rw f wide) ∙ ap (exchanged j) f, b .1 (t .vectors-wide), u .1 (t .us-wide), v) (tied-exchanged j (omega (arith, four, s .pre .0)) t),
     )
 
 pub exchange-spec : {M : Type 1} → statement M

@@ -1,64 +1,144 @@
--- Two rows stored crosswise are the exchange.
+-- Number by number, the two rows change places.
+use mathlib.Core.Path.{_≡_, _∙_}
 use mathlib.Core.List.{[]}
-use Prim.Native.Nat.{suc, _<_}
-use native.Mathlib.Numerals.{add-one}
+use Prim.Native.Nat.{suc, _+_, _-_, _≤_, _<_}
 use native.Mathlib.Omega.{arith}
-use lib.ListN.{length}
+use lib.ListN.{length, getD}
+use mir.Syntax.{w64}
+use mir.Val.{SFits}
+use mir.Facts.{toZ-ofZ}
 use denote.Ref.{now}
-use Rattle.gram_matrix.specs.Order.{exchanged-set}
+use Rattle.lattices.specs.Vector.{nth}
+use Rattle.lattices.specs.Refusal.{mostCoordinates}
+use Rattle.greedy_reduction.specs.Start.{Coordinates}
+use Rattle.gram_matrix.specs.Exchange.{exchangedTo, length-stored, exchanging-none, exchanging-all, exchanging-next}
 use borrow.Author.Needs.{needs}
 use Rattle.gram_matrix.proofs.exchange_vectors.Statement.{statement}
 use Rattle.gram_matrix.proofs.exchange_vectors.Tie as tie
 use Rattle.gram_matrix.proofs.exchange_vectors.Reads as reads
 use Rattle.gram_matrix.proofs.exchange_vectors.Lts as lts
 
-mul-row : tie.Need-mul-row
-mul-row c = search needs
+abbrev Inv-loop : tie.InvT-loop
+Inv-loop b₀ j i₀ b i = (i ≤ mostCoordinates) × ((length b ≡ 4) × (Coordinates mostCoordinates b₀ → b ≡ exchangedTo i j b₀))
 
-element-copy-out-row : tie.Need-element-copy-out-row
-element-copy-out-row c = search needs
+abbrev μ-loop : tie.MeasureT-loop
+μ-loop b₀ j i₀ b i = mostCoordinates - i
 
-add-b : tie.Need-add-b
+loop-holds : tie.Need-loop-holds Inv-loop μ-loop
+loop-holds c = (search needs, (c .pre .0, λ w. exchanging-none (c .args .j) (now (c .args .b))))
+
+mul-x : tie.Need-mul-x Inv-loop μ-loop
+mul-x c = search needs
+
+mul-x-2 : tie.Need-mul-x-2 Inv-loop μ-loop
+mul-x-2 c = search needs
+
+index-1-x : tie.Need-index-1-x Inv-loop μ-loop
+index-1-x c = search needs
+
+index-2-x : tie.Need-index-2-x Inv-loop μ-loop
+index-2-x c = search needs
+
+add-b : tie.Need-add-b Inv-loop μ-loop
 add-b c = search needs
 
-mul-b : tie.Need-mul-b
+mul-b : tie.Need-mul-b Inv-loop μ-loop
 mul-b c = search needs
 
-element-copy-out-b : tie.Need-element-copy-out-b
-element-copy-out-b c = search needs
+mul-b-2 : tie.Need-mul-b-2 Inv-loop μ-loop
+mul-b-2 c = search needs
 
-mul-t11 : tie.Need-mul-t11
-mul-t11 c = search needs
+index-1-b : tie.Need-index-1-b Inv-loop μ-loop
+index-1-b c = search needs
 
-element-set-from-b : tie.Need-element-set-from-b
-element-set-from-b c = search needs
+index-2-b : tie.Need-index-2-b Inv-loop μ-loop
+index-2-b c = search needs
 
-add-row : tie.Need-add-row
-add-row c = search needs
+mul-t18 : tie.Need-mul-t18 Inv-loop μ-loop
+mul-t18 c = search needs
 
-mul-row-2 : tie.Need-mul-row-2
-mul-row-2 c = search needs
+mul-t21 : tie.Need-mul-t21 Inv-loop μ-loop
+mul-t21 c = search needs
 
-element-set-from-row : tie.Need-element-set-from-row
-element-set-from-row c = search needs
+index-1-b-2 : tie.Need-index-1-b-2 Inv-loop μ-loop
+index-1-b-2 c = search needs
 
-returns : tie.Need-returns
-returns c = let s = c .before .before in
-    let h : suc (s .args .j) < length (now (s .args .b)) = omega (arith, s .pre .0) in
-    rw add-one (exchanged-set [] (s .args .j) (now (s .args .b)) h)
+index-2-b-2 : tie.Need-index-2-b-2 Inv-loop μ-loop
+index-2-b-2 c = search needs
+
+add-x : tie.Need-add-x Inv-loop μ-loop
+add-x c = search needs
+
+mul-x-3 : tie.Need-mul-x-3 Inv-loop μ-loop
+mul-x-3 c = search needs
+
+mul-x-4 : tie.Need-mul-x-4 Inv-loop μ-loop
+mul-x-4 c = search needs
+
+index-1-x-2 : tie.Need-index-1-x-2 Inv-loop μ-loop
+index-1-x-2 c = search needs
+
+index-2-x-2 : tie.Need-index-2-x-2 Inv-loop μ-loop
+index-2-x-2 c = search needs
+
+add-i : tie.Need-add-i Inv-loop μ-loop
+add-i c = search needs
+
+loop-less : tie.Need-loop-less Inv-loop μ-loop
+loop-less c = search needs
+
+-- the two numbers fit
+first-fits : (c : tie.After-x Inv-loop μ-loop) → let l = c .before .before in SFits w64 (nth (getD (l .loop .b) (l .before .args .j) []) (l .loop .i))
+first-fits c = record { sfits = c .x .given }
+
+second-fits : (c : tie.After-b Inv-loop μ-loop) → let l = c .before .before .before in SFits w64 (nth (getD (l .loop .b) (l .before .args .j + 1) []) (l .loop .i))
+second-fits c = record { sfits = c .b .given }
+
+loop-again : tie.Need-loop-again Inv-loop μ-loop
+loop-again c =
+    let l = c .before .before .before in
+    let s = l .before in
+    let j = s .args .j in
+    let i = l .loop .i in
+    let h : i < mostCoordinates = search needs in
+    let m : suc j < length (now (s .args .b)) = omega (arith, s .pre .0, s .pre .1) in
+    rw (toZ-ofZ {w = w64} (first-fits (c .before)), toZ-ofZ {w = w64} (second-fits c))
+    (omega arith, (length-stored i j (l .loop .b) ∙ l .loop .inv .1 .0, λ w. exchanging-next mostCoordinates j (now (s .args .b)) w m i h (l .loop .inv .1 .1 w)))
+
+returns : tie.Need-returns Inv-loop μ-loop
+returns c =
+    let l = c .before in
+    let s = l .before in
+    let h : mostCoordinates ≤ l .loop .i = search needs in
+    let m : suc (s .args .j) < length (now (s .args .b)) = omega (arith, s .pre .0, s .pre .1) in
+    (l .loop .inv .1 .0, λ w. l .loop .inv .1 .1 w ∙ exchanging-all mostCoordinates (s .args .j) (now (s .args .b)) w m (l .loop .i) h)
 
 pub exchange-vectors-spec : {M : Type 1} → statement M
 exchange-vectors-spec =
     tie.close
     (tie.spec
-    mul-row
-    element-copy-out-row
+    Inv-loop
+    μ-loop
+    loop-holds
+    mul-x
+    mul-x-2
+    index-1-x
+    index-2-x
     add-b
     mul-b
-    element-copy-out-b
-    mul-t11
-    element-set-from-b
-    add-row
-    mul-row-2
-    element-set-from-row
+    mul-b-2
+    index-1-b
+    index-2-b
+    mul-t18
+    mul-t21
+    index-1-b-2
+    index-2-b-2
+    add-x
+    mul-x-3
+    mul-x-4
+    index-1-x-2
+    index-2-x-2
+    add-i
+    loop-less
+    loop-again
     returns)

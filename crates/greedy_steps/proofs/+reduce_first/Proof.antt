@@ -10,6 +10,7 @@ use borrow.Fn.Kinds.{In}
 use borrow.Fn.PlainCycle.{Measures, is, falls, and}
 use lib.IntN.{natAbs}
 use lib.ListN.{length}
+use denote.Ref as Ref
 use Rattle.lattices.specs.Greedy.{Row}
 use Rattle.gram_matrix.specs.Tied.{Held, Tied, tied-length}
 use Rattle.gram_matrix.specs.Work.{vectorsIn, tableIn, work-held}
@@ -29,18 +30,18 @@ use Rattle.greedy_steps.proofs.+reduce_first.{statement}
 use Rattle.greedy_steps.proofs.+reduce_first.Tie.{close}
 
 -- the number of vectors falls at each call
-abbrev μ : Measures 0 kinds.ps ℕ
+abbrev μ : Measures 1 kinds.ps ℕ
 μ κs a = a .1 .1 .1 .1 .0
 
 abbrev Inv-loop : lts.InvT-loop
-Inv-loop n before g₀ b₀ u₀ v₀ passes₀ g b u v passes = Held g b u v × ((p : Reducible n passes₀ g₀ b₀ u₀ v₀) → Going (p .kind) n passes₀ (p .rows) g b u v passes)
+Inv-loop g₀ n before b₀ u₀ v₀ passes₀ g b u v passes = Held g b u v × ((p : Reducible n passes₀ g₀ b₀ u₀ v₀) → Going (p .kind) n passes₀ (p .rows) g b u v passes)
 
 abbrev μ-loop : lts.MeasureT-loop
-μ-loop n before g₀ b₀ u₀ v₀ passes₀ g b u v passes = natAbs (trace n g)
+μ-loop g₀ n before b₀ u₀ v₀ passes₀ g b u v passes = natAbs (trace n g)
 
 module _ (t : ℕ) where
-  abbrev given : In 0 kinds.ps
-  given = and 0 kinds.ps (is 0 kinds.ps μ t) reads.Pre
+  abbrev given : In 1 kinds.ps
+  given = and 1 kinds.ps (is 1 kinds.ps μ t) reads.Pre
 
   abbrev claims : lts.Claims
   claims = (
@@ -48,39 +49,41 @@ module _ (t : ℕ) where
     packed-reads.Learnt,
     order-reads.Asked,
     order-reads.Learnt,
-    and 0 kinds.ps (falls 0 kinds.ps _<_ μ t) reads.Pre,
+    and 1 kinds.ps (falls 1 kinds.ps _<_ μ t) reads.Pre,
     reads.Post,
-    take-table-reads.Asked,
-    take-table-reads.Learnt,
     take-vectors-reads.Asked,
     take-vectors-reads.Learnt,
+    take-table-reads.Asked,
+    take-table-reads.Learnt,
     pass-reads.Asked,
     pass-reads.Learnt,
     shorter-reads.Asked,
     shorter-reads.Learnt,
   )
 
-  held : (s : lts.Start claims given reads.Post Inv-loop μ-loop) → Held (s .args .gram) (s .args .vectors) (s .args .us) (s .args .vs)
-  held s = record { gram = search needs; vectors = search needs; us = search needs; vs = search needs }
+  held : (s : lts.Start claims given reads.Post Inv-loop μ-loop) → Held (Ref.now (s .args .g)) (s .args .vectors) (s .args .us) (s .args .vs)
+  held s = record { gram = s .pre .1 .1 .0; vectors = search needs; us = search needs; vs = search needs }
 
   packed-requires : lts.Need-packed-requires claims given reads.Post Inv-loop μ-loop
-  packed-requires c κs = held (c .before .before .before .before .before)
+  packed-requires c κs = let h = held (c .before .before .before .before) in (h .vectors, (h .us, h .vs))
 
   returns : lts.Need-returns claims given reads.Post Inv-loop μ-loop
   returns c =
-      let s = c .before .before .before .before .before .before in
-      let few = c .before .before .before .before .before .if1 .taken in
-      λ p. outcome (s .args .gram) (s .args .vectors) (s .args .us) (s .args .vs) (p .rows) (p .rows) (c .packed .ensures) (p .tied) (sym (few-rows (s .args .n) few (p .rows) .0)) (omega (arith, few-rows (s .args .n) few (p .rows) .1))
+      let s = c .before .before .before .before .before in
+      let few = c .before .before .before .before .if1 .taken in (
+        s .pre .1 .1 .0,
+        λ p. outcome (Ref.now (s .args .g)) (s .args .vectors) (s .args .us) (s .args .vs) (p .rows) (p .rows) (c .packed .ensures) (p .tied) (sym (few-rows (s .args .n) few (p .rows) .0)) (omega (arith, few-rows (s .args .n) few (p .rows) .1)),
+      )
 
   loop-holds : lts.Need-loop-holds claims given reads.Post Inv-loop μ-loop
   loop-holds c = (held (c .before), begin)
 
   -- the rows that the tables belong to, whatever rows those at the start belong to, and what holds of the turn
   abbrev Begun : lts.At-loop claims given reads.Post Inv-loop μ-loop → Type 0
-  Begun a = let s = a .before .before in Reducible (s .args .n) (s .args .before) (s .args .gram) (s .args .vectors) (s .args .us) (s .args .vs)
+  Begun a = let s = a .before .before in Reducible (s .args .n) (s .args .before) (Ref.now (s .args .g)) (s .args .vectors) (s .args .us) (s .args .vs)
 
   here : (a : lts.At-loop claims given reads.Post Inv-loop μ-loop) → Begun a
-  here a = a .before .before .pre .1 .1
+  here a = a .before .before .pre .1 .1 .1
 
   now : (a : lts.At-loop claims given reads.Post Inv-loop μ-loop) → Begun a → List Row
   now a p = a .loop .inv .1 p .now
@@ -113,24 +116,25 @@ module _ (t : ℕ) where
       }
 
   reduce-first-requires : lts.Need-reduce-first-requires claims given reads.Post Inv-loop μ-loop
-  reduce-first-requires c κs = let r = c .before in (omega arith, (omega arith, fewer r (here (r .before .before .before .before .before))))
+  reduce-first-requires c κs = let r = c .before .before in (omega arith, (omega arith, (r .order .ensures .0 .gram, fewer r (here (r .before .before .before .before .before)))))
 
-  take-table-requires : lts.Need-take-table-requires claims given reads.Post Inv-loop μ-loop
-  take-table-requires c κs = c .before .before .before .before .before .before .before .order .ensures .0 .gram
+  -- what the tables hold before the call
+  ordered : (c : lts.After-reduce-first claims given reads.Post Inv-loop μ-loop) → let o = c .before .before .before .order .last in Held (o .0) (o .1 .0) (o .1 .1 .0) (o .1 .1 .1 .0)
+  ordered c = c .before .before .before .order .ensures .0
 
   take-vectors-requires : lts.Need-take-vectors-requires claims given reads.Post Inv-loop μ-loop
-  take-vectors-requires c κs = c .before .before .before .before .before .before .before .before .before .order .ensures .0 .vectors
+  take-vectors-requires c κs = ordered (c .before .before .before .before) .vectors
+
+  take-table-requires : lts.Need-take-table-requires claims given reads.Post Inv-loop μ-loop
+  take-table-requires c κs = ordered (c .before .before .before .before .before .before) .us
 
   take-table-requires-2 : lts.Need-take-table-requires-2 claims given reads.Post Inv-loop μ-loop
-  take-table-requires-2 c κs = c .before .before .before .before .before .before .before .before .before .before .before .order .ensures .0 .us
+  take-table-requires-2 c κs = ordered (c .before .before .before .before .before .before .before .before) .vs
 
-  take-table-requires-3 : lts.Need-take-table-requires-3 claims given reads.Post Inv-loop μ-loop
-  take-table-requires-3 c κs = c .before .before .before .before .before .before .before .before .before .before .before .before .before .order .ensures .0 .vs
-
-  handed : (c : lts.After-reduce-first claims given reads.Post Inv-loop μ-loop) → let f = c .reduce-first .result in Held (tableIn (f .gram)) (vectorsIn (f .vectors)) (tableIn (f .u)) (tableIn (f .v))
+  handed : (c : lts.After-reduce-first claims given reads.Post Inv-loop μ-loop) → let f = c .reduce-first .result in Held (c .reduce-first .last .0) (vectorsIn (f .vectors)) (tableIn (f .u)) (tableIn (f .v))
   handed c =
       let g = c .reduce-first .ok .1 .1 in
-      work-held (c .reduce-first .result) _ _ _ _ (g .0 .1 .0 .1) (g .1 .0 .1 .0 .1) (g .1 .1 .0 .1 .0 .1) (g .1 .1 .1 .0 .1 .0 .1)
+      work-held (c .reduce-first .result) _ _ _ (c .reduce-first .ensures .0) (g .0 .1 .0 .1) (g .1 .0 .1 .0 .1) (g .1 .1 .0 .1 .0 .1)
 
   -- after step 3
   rows-first : (q : lts.Joined2 claims given reads.Post Inv-loop μ-loop) → Begun (q .before .before .before .before .before .before) → List Row
@@ -140,7 +144,7 @@ module _ (t : ℕ) where
   first-held q =
       let r = q .before in
       ⊎-elim
-      (λ w. rw (w .14 ∙ w .7 .ensures, w .15 ∙ w .9 .ensures, w .16 ∙ w .11 .ensures, w .17 ∙ w .13 .ensures) (handed (record { before = record { before = r; if2 = w .0 }; reduce-first = w .1 })))
+      (λ w. rw (w .12, w .13 ∙ w .7 .ensures, w .14 ∙ w .9 .ensures, w .15 ∙ w .11 .ensures) (handed (record { before = record { before = record { before = r; if2 = w .0 }; reduce-first-arg = w .1 }; reduce-first = w .2 })))
       (λ w. rw (w .1, w .2, w .3, w .4) (r .order .ensures .0))
       (q .if2 .came)
 
@@ -156,8 +160,8 @@ module _ (t : ℕ) where
       let l = r .order .last in
       ⊎-elim
       (λ w.
-      let o = w .1 .ensures (fewer r p) in
-      (rw (w .14 ∙ w .7 .ensures, w .15 ∙ w .9 .ensures, w .16 ∙ w .11 .ensures, w .17 ∙ w .13 .ensures) (o .tied), w .18 ∙ o .passes))
+      let o = w .2 .ensures .1 (fewer r p) in
+      (rw (w .12, w .13 ∙ w .7 .ensures, w .14 ∙ w .9 .ensures, w .15 ∙ w .11 .ensures) (o .tied), w .16 ∙ o .passes))
       (λ w.
       let k : n - 1 < 2 = omega (arith, w .0 .left) in
       let e = few-rows (n - 1) k rows in
@@ -210,7 +214,7 @@ module _ (t : ℕ) where
       tested (turned d p) (a .before .before .args .n - 1) (omega (arith, four d p, a .before .before .pre .1 .0, a .before .if1 .left)) ∙ sym (c .shorter .ensures)
 
   packed-requires-2 : lts.Need-packed-requires-2 claims given reads.Post Inv-loop μ-loop
-  packed-requires-2 c κs = c .before .before .before .before .before .before .before .before .pass .ensures .0
+  packed-requires-2 c κs = let h = c .before .before .before .before .before .before .before .pass .ensures .0 in (h .vectors, (h .us, h .vs))
 
   loop-less : lts.Need-loop-less claims given reads.Post Inv-loop μ-loop
   unfolding now
@@ -232,10 +236,12 @@ module _ (t : ℕ) where
   returns-2 : lts.Need-returns-2 claims given reads.Post Inv-loop μ-loop
   unfolding now
   returns-2 c =
-      let x = c .before .before .before .before .before in
+      let x = c .before .before .before .before in
       let d = x .before .before .before .before in
-      let a = d .before .before .before .before .before .before .before .before .before .before .before in
-      λ p. ended (a .loop .inv .1 p) (turn a p) (c .packed2 .ensures) (turned d p) (counted d p) (test (x .before) p ∙ not-true _ (x .if3 .taken))
+      let a = d .before .before .before .before .before .before .before .before .before .before .before in (
+        d .pass .ensures .0 .gram,
+        λ p. ended (a .loop .inv .1 p) (turn a p) (c .packed2 .ensures) (turned d p) (counted d p) (test (x .before) p ∙ not-true _ (x .if3 .taken)),
+      )
 
 pub +reduce-first-spec : {M : Type 1} → statement M
 +reduce-first-spec = close μ λ t. lts.spec
@@ -250,10 +256,9 @@ pub +reduce-first-spec : {M : Type 1} → statement M
     (order-requires t)
     (sub-reduce-first t)
     (reduce-first-requires t)
-    (take-table-requires t)
     (take-vectors-requires t)
+    (take-table-requires t)
     (take-table-requires-2 t)
-    (take-table-requires-3 t)
     (sub-pass t)
     (pass-requires t)
     (add-passes t)

@@ -4,7 +4,9 @@ use super::made::made;
 use super::reader::{kind, load, COORDINATE, END, HEAD, SEE};
 use super::writer::{bytes, end_word, entry_words, head_word, see_word};
 use super::{Entry, MOST_BYTES, MOST_ENTRIES};
+use crate::bases::any;
 use crate::random::Random;
+use crate::{MOST_COORDINATES, MOST_VECTORS};
 
 /// What is done to the words. Some of it leaves a catalogue that is accepted.
 #[derive(Clone, Copy, Debug, PartialEq, Eq)]
@@ -61,7 +63,10 @@ pub fn damaged(mut words: Vec<u32>, damage: Damage, random: &mut Random) -> Vec<
     let other = random.index(words.len());
     match damage {
         Damage::D => words[i] = words[i] & !0xF0 | random.pick(&[0, 5, 6, 8, 15, 4]) << 4,
-        Damage::M => words[i] = words[i] & !0xF | random.pick(&[0, 5, 6, 8, 15, 4]),
+        Damage::M => {
+            let wrong = 9 + random.index(7) as u32;
+            words[i] = words[i] & !0xF | random.pick(&[0, wrong, wrong, wrong, 4, 8]);
+        }
         Damage::Number => {
             // that of another head, or 0
             let used = load(words[random.pick(&places)]) >> 8;
@@ -94,21 +99,24 @@ pub fn damaged(mut words: Vec<u32>, damage: Damage, random: &mut Random) -> Vec<
     words
 }
 
-/// One entry gets dependent vectors: a zero vector, one twice, or more than there are coordinates.
+/// One entry gets dependent vectors: a zero vector, one twice, one that is the negative of another, or more than there are coordinates.
 pub fn made_dependent(entries: &mut [Entry], random: &mut Random) {
     let i = random.index(entries.len());
     let vectors = &mut entries[i].vectors;
     let m = vectors[0].len();
     match random.between(0, 2) {
         0 => vectors[0] = vec![0; m],
-        1 if vectors.len() < 4 => {
+        1 if vectors.len() < MOST_VECTORS => {
             vectors.push(vectors[0].clone());
         }
-        1 => vectors[3] = vectors[0].clone(),
+        1 => vectors[MOST_VECTORS - 1] = vectors[0].clone(),
+        _ if m < MOST_VECTORS => {
+            let d = m + 1 + random.index(MOST_VECTORS - m);
+            *vectors = any(d, m, 50, random);
+        }
         _ => {
-            let d = (m + 1).min(4);
-            vectors.resize(d, vec![1; m]);
-            vectors[d - 1] = vec![0; m];
+            vectors.truncate(MOST_VECTORS - 1);
+            vectors.push(vectors[0].iter().map(|x| -x).collect());
         }
     }
 }
@@ -132,13 +140,27 @@ pub fn too_many(random: &mut Random) -> Vec<u8> {
     bytes(&words)
 }
 
-/// More bytes than a catalogue may have, or a little less.
+/// More bytes than a catalogue may have, or a little less: a small catalogue or a full one, cut there or with any bytes behind.
 pub fn too_large(random: &mut Random) -> Vec<u8> {
     let length = MOST_BYTES - 4 + random.index(20);
-    let start = made(2, random);
+    let start = match random.between(0, 1) {
+        0 => made(2, random),
+        _ => full(random),
+    };
     let mut all = super::writer::write(&start);
     all.resize(length, random.pick(&[0, 0x40, 0xFF]));
     all
+}
+
+/// As many entries as there can be, of the largest kind, with any vectors.
+fn full(random: &mut Random) -> Vec<Entry> {
+    let size = random.pick(&[1, 20, 1_000, 7_000]);
+    let entry = |i| Entry {
+        number: 1 + i as u32,
+        vectors: any(MOST_VECTORS, MOST_COORDINATES, size, random),
+        see: Some(1),
+    };
+    (0..MOST_ENTRIES).map(entry).collect()
 }
 
 /// A few bytes less or more.

@@ -1,11 +1,11 @@
 //! Accepted catalogues: few lattices, most of them in several bases.
 
 use super::{Entry, MOST_ENTRIES, MOST_NUMBER};
-use crate::bases::{basis, scrambled};
-use crate::cases::KINDS;
+use crate::bases::{basis, placed, scrambled, widened};
+use crate::cases::{ACCEPTED, KINDS};
 use crate::random::Random;
 use crate::vectors::rank;
-use crate::{fits, MOST};
+use crate::{fits, MOST_COORDINATES, MOST_VECTORS};
 
 /// A catalogue of so many entries.
 pub fn made(count: usize, random: &mut Random) -> Vec<Entry> {
@@ -26,13 +26,13 @@ pub fn made(count: usize, random: &mut Random) -> Vec<Entry> {
         .collect()
 }
 
-/// The largest catalogue: each entry with four vectors of four coordinates and a see word.
+/// The largest catalogue: each entry with four vectors of eight coordinates and a see word.
 pub fn largest(random: &mut Random) -> Vec<Entry> {
     let numbers = numbers(MOST_ENTRIES, random);
     let some = (0..40).map(|_| loop {
         let vectors = independent(random);
-        if vectors.len() == MOST {
-            break vectors;
+        if vectors.len() == MOST_VECTORS {
+            break placed(widened(vectors, MOST_COORDINATES), random);
         }
     });
     let lattices: Vec<Vec<Vec<i64>>> = some.collect();
@@ -50,7 +50,9 @@ pub fn largest(random: &mut Random) -> Vec<Entry> {
 pub fn referring(random: &mut Random) -> Vec<Entry> {
     let count = 2 + random.index(31);
     let numbers = numbers(count, random);
-    let lattices: Vec<i64> = (0..1 + random.index(6)).map(|k| k as i64 + 2).collect();
+    let lattices: Vec<(i64, usize)> = (0..1 + random.index(6))
+        .map(|k| (k as i64 + 2, 1 + random.index(MOST_COORDINATES)))
+        .collect();
     let of: Vec<usize> = (0..count).map(|_| random.index(lattices.len())).collect();
     let alike = |i: usize, random: &mut Random| {
         let others: Vec<u32> = (0..count)
@@ -76,20 +78,26 @@ pub fn referring(random: &mut Random) -> Vec<Entry> {
         .collect()
 }
 
-/// The lattice of the multiples of a, or that of the pairs of them, which is told by whether a is even.
-fn line_or_square(a: i64, random: &mut Random) -> Vec<Vec<i64>> {
+/// The lattice of the multiples of a, or that of the pairs of them, which is told by whether a is even, in the last of m coordinates.
+fn line_or_square((a, m): (i64, usize), random: &mut Random) -> Vec<Vec<i64>> {
     let sign = random.pick(&[-1, 1]);
-    if a % 2 == 0 {
-        return vec![vec![sign * a]];
+    if a % 2 == 0 || m == 1 {
+        let mut v = vec![0; m];
+        v[m - 1] = sign * a;
+        return vec![v];
     }
     let k = random.between(-9, 9);
-    vec![vec![sign * a, 0], vec![k * a, a]]
+    let mut vectors = vec![vec![0; m]; 2];
+    vectors[0][m - 2] = sign * a;
+    vectors[1][m - 2] = k * a;
+    vectors[1][m - 1] = a;
+    vectors
 }
 
 /// A basis that is accepted.
 pub fn independent(random: &mut Random) -> Vec<Vec<i64>> {
     loop {
-        let vectors = basis(KINDS[random.index(11)], random);
+        let vectors = basis(KINDS[random.index(ACCEPTED)], random);
         if is_basis(&vectors) {
             return vectors;
         }
@@ -152,7 +160,7 @@ pub fn turned(mut vectors: Vec<Vec<i64>>, random: &mut Random) -> Vec<Vec<i64>> 
 
 /// One coordinate more, which is 0: a lattice of another m.
 pub fn padded(mut vectors: Vec<Vec<i64>>) -> Vec<Vec<i64>> {
-    if vectors[0].len() < MOST {
+    if vectors[0].len() < MOST_COORDINATES {
         vectors.iter_mut().for_each(|v| v.push(0));
     }
     vectors

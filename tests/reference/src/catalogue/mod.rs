@@ -14,7 +14,7 @@ pub mod text;
 pub mod writer;
 
 pub const MOST_ENTRIES: usize = 256;
-pub const MOST_BYTES: usize = 18_436;
+pub const MOST_BYTES: usize = 34_820;
 /// The greatest entry number.
 pub const MOST_NUMBER: u32 = 1_048_575;
 

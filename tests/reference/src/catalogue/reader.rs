@@ -2,7 +2,7 @@
 
 use super::{refuse, Entry, Refused, MOST_BYTES, MOST_ENTRIES};
 use crate::vectors::{rank, square};
-use crate::{MOST, MOST_SIZE, MOST_SQUARE};
+use crate::{MOST_COORDINATES, MOST_SIZE, MOST_SQUARE, MOST_VECTORS};
 
 /// The kinds of words.
 pub const HEAD: u32 = 1;
@@ -77,10 +77,10 @@ impl Reader {
         if self.entries.len() == MOST_ENTRIES {
             return refuse(15, place);
         }
-        if !(1..=MOST).contains(&d) {
+        if !(1..=MOST_VECTORS).contains(&d) {
             return refuse(1, place);
         }
-        if !(1..=MOST).contains(&m) {
+        if !(1..=MOST_COORDINATES).contains(&m) {
             return refuse(2, place);
         }
         if number == 0 || self.entries.iter().any(|e| e.number == number) {

@@ -16,66 +16,53 @@ use Rattle.gram_matrix.proofs.work.packed.Reads as reads
 use Rattle.gram_matrix.proofs.work.packed.Lts as lts
 
 abbrev Inv-loop : tie.InvT-loop
-Inv-loop g b u v passes w₀ i₀ w i =
+Inv-loop b u v passes w₀ i₀ w i =
     (i ≤ 4)
-    × ((w .gram ≡ front i (map tableRow g) (blanks 4 tableRow))
     × ((w .vectors ≡ front i (map vectorRow b) (blanks mostCoordinates vectorRow))
     × ((w .u ≡ front i (map tableRow u) (blanks 4 tableRow))
-    × ((w .v ≡ front i (map tableRow v) (blanks 4 tableRow)) × (w .passes ≡ passes)))))
+    × ((w .v ≡ front i (map tableRow v) (blanks 4 tableRow)) × (w .passes ≡ passes))))
 
 abbrev μ-loop : tie.MeasureT-loop
-μ-loop g b u v passes w₀ i₀ w i = 4 - i
+μ-loop b u v passes w₀ i₀ w i = 4 - i
 
 loop-holds : tie.Need-loop-holds Inv-loop μ-loop
-loop-holds c = (search needs, (refl, (refl, (refl, (refl, refl)))))
+loop-holds c = (search needs, (refl, (refl, (refl, refl))))
 
-mul-t21 : tie.Need-mul-t21 Inv-loop μ-loop
-mul-t21 c = search needs
+mul-t17 : tie.Need-mul-t17 Inv-loop μ-loop
+mul-t17 c = search needs
 
-element-copy-out-t24 : tie.Need-element-copy-out-t24 Inv-loop μ-loop
-element-copy-out-t24 c = search needs
+element-copy-out-t20 : tie.Need-element-copy-out-t20 Inv-loop μ-loop
+element-copy-out-t20 c = search needs
 
-mul-w : tie.Need-mul-w Inv-loop μ-loop
-mul-w c = search needs
+mul-t22 : tie.Need-mul-t22 Inv-loop μ-loop
+mul-t22 c = search needs
 
 element-set-from-w : tie.Need-element-set-from-w Inv-loop μ-loop
 element-set-from-w c = search needs
 
-mul-t21-2 : tie.Need-mul-t21-2 Inv-loop μ-loop
-mul-t21-2 c = search needs
+mul-t17-2 : tie.Need-mul-t17-2 Inv-loop μ-loop
+mul-t17-2 c = search needs
 
-element-copy-out-t24-2 : tie.Need-element-copy-out-t24-2 Inv-loop μ-loop
-element-copy-out-t24-2 c = search needs
+element-copy-out-t27 : tie.Need-element-copy-out-t27 Inv-loop μ-loop
+element-copy-out-t27 c = search needs
 
-mul-t26 : tie.Need-mul-t26 Inv-loop μ-loop
-mul-t26 c = search needs
+mul-w : tie.Need-mul-w Inv-loop μ-loop
+mul-w c = search needs
 
 element-set-from-w-2 : tie.Need-element-set-from-w-2 Inv-loop μ-loop
 element-set-from-w-2 c = search needs
 
-mul-t21-3 : tie.Need-mul-t21-3 Inv-loop μ-loop
-mul-t21-3 c = search needs
+mul-t17-3 : tie.Need-mul-t17-3 Inv-loop μ-loop
+mul-t17-3 c = search needs
 
-element-copy-out-t24-3 : tie.Need-element-copy-out-t24-3 Inv-loop μ-loop
-element-copy-out-t24-3 c = search needs
+element-copy-out-t27-2 : tie.Need-element-copy-out-t27-2 Inv-loop μ-loop
+element-copy-out-t27-2 c = search needs
 
-mul-w-2 : tie.Need-mul-w-2 Inv-loop μ-loop
-mul-w-2 c = search needs
+mul-t22-2 : tie.Need-mul-t22-2 Inv-loop μ-loop
+mul-t22-2 c = search needs
 
 element-set-from-w-3 : tie.Need-element-set-from-w-3 Inv-loop μ-loop
 element-set-from-w-3 c = search needs
-
-mul-t21-4 : tie.Need-mul-t21-4 Inv-loop μ-loop
-mul-t21-4 c = search needs
-
-element-copy-out-t24-4 : tie.Need-element-copy-out-t24-4 Inv-loop μ-loop
-element-copy-out-t24-4 c = search needs
-
-mul-t26-2 : tie.Need-mul-t26-2 Inv-loop μ-loop
-mul-t26-2 c = search needs
-
-element-set-from-w-4 : tie.Need-element-set-from-w-4 Inv-loop μ-loop
-element-set-from-w-4 c = search needs
 
 add-i : tie.Need-add-i Inv-loop μ-loop
 add-i c = search needs
@@ -85,19 +72,16 @@ loop-less c = search needs
 
 loop-again : tie.Need-loop-again Inv-loop μ-loop
 loop-again c =
-    let a = c .before .before .before .before .before in
+    let a = c .before .before .before .before in
     let f = a .before .pre in
     let i = a .loop .i in
     let h : i < 4 = search needs in (
       search needs,
       (
-        rw add-one (row-packed 4 tableRow (now (a .before .args .g)) i (a .loop .inv .1 .0) (f .gram) h),
+        rw add-one (row-packed mostCoordinates vectorRow (now (a .before .args .b)) i (a .loop .inv .1 .0) (f .0) h),
         (
-          rw add-one (row-packed mostCoordinates vectorRow (now (a .before .args .b)) i (a .loop .inv .1 .1 .0) (f .vectors) h),
-          (
-            rw add-one (row-packed 4 tableRow (now (a .before .args .u)) i (a .loop .inv .1 .1 .1 .0) (f .us) h),
-            (rw add-one (row-packed 4 tableRow (now (a .before .args .v)) i (a .loop .inv .1 .1 .1 .1 .0) (f .vs) h), a .loop .inv .1 .1 .1 .1 .1),
-          ),
+          rw add-one (row-packed 4 tableRow (now (a .before .args .u)) i (a .loop .inv .1 .1 .0) (f .1 .0) h),
+          (rw add-one (row-packed 4 tableRow (now (a .before .args .v)) i (a .loop .inv .1 .1 .1 .0) (f .1 .1) h), a .loop .inv .1 .1 .1 .1),
         ),
       ),
     )
@@ -107,12 +91,11 @@ returns c = let s = c .before .before in
     let f = s .pre in
     let l = c .before .loop in
     let e : l .i ≡ 4 = search needs in
-    work-packed (now (s .args .g)) (now (s .args .b)) (now (s .args .u)) (now (s .args .v))
-    (rows-packed 4 tableRow (now (s .args .g)) (l .i) (l .inv .1 .0) (f .gram) e)
-    (rows-packed mostCoordinates vectorRow (now (s .args .b)) (l .i) (l .inv .1 .1 .0) (f .vectors) e)
-    (rows-packed 4 tableRow (now (s .args .u)) (l .i) (l .inv .1 .1 .1 .0) (f .us) e)
-    (rows-packed 4 tableRow (now (s .args .v)) (l .i) (l .inv .1 .1 .1 .1 .0) (f .vs) e)
-    (l .inv .1 .1 .1 .1 .1)
+    work-packed (now (s .args .b)) (now (s .args .u)) (now (s .args .v))
+    (rows-packed mostCoordinates vectorRow (now (s .args .b)) (l .i) (l .inv .1 .0) (f .0) e)
+    (rows-packed 4 tableRow (now (s .args .u)) (l .i) (l .inv .1 .1 .0) (f .1 .0) e)
+    (rows-packed 4 tableRow (now (s .args .v)) (l .i) (l .inv .1 .1 .1 .0) (f .1 .1) e)
+    (l .inv .1 .1 .1 .1)
 
 pub packed-spec : {M : Type 1} → statement M
 packed-spec =
@@ -121,22 +104,18 @@ packed-spec =
     Inv-loop
     μ-loop
     loop-holds
-    mul-t21
-    element-copy-out-t24
-    mul-w
+    mul-t17
+    element-copy-out-t20
+    mul-t22
     element-set-from-w
-    mul-t21-2
-    element-copy-out-t24-2
-    mul-t26
+    mul-t17-2
+    element-copy-out-t27
+    mul-w
     element-set-from-w-2
-    mul-t21-3
-    element-copy-out-t24-3
-    mul-w-2
+    mul-t17-3
+    element-copy-out-t27-2
+    mul-t22-2
     element-set-from-w-3
-    mul-t21-4
-    element-copy-out-t24-4
-    mul-t26-2
-    element-set-from-w-4
     add-i
     loop-less
     loop-again
