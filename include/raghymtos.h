@@ -18,9 +18,9 @@ extern "C" {
 #endif
 
 #define RAGHYMTOS_VERSION_MAJOR 0
-#define RAGHYMTOS_VERSION_MINOR 5
+#define RAGHYMTOS_VERSION_MINOR 6
 #define RAGHYMTOS_VERSION_PATCH 0
-#define RAGHYMTOS_VERSION "0.5.0"
+#define RAGHYMTOS_VERSION "0.6.0"
 
 /* A name that ends in _AT is an index into an answer, one that ends in _COUNT a number of numbers,
  * one that begins with MOST a limit. */
@@ -51,10 +51,11 @@ extern "C" {
 #define RAGHYMTOS_V_AT 55         /* 16 numbers, row i: the coefficients of input i on the outputs */
 
 /* The answer with a nearest vector. Unused places hold 0. */
-#define RAGHYMTOS_NEAREST_COUNT 15
+#define RAGHYMTOS_NEAREST_COUNT 19
 #define RAGHYMTOS_SQUARE_AT 2       /* the squared distance: 0 exactly for a target in the lattice */
 #define RAGHYMTOS_COEFFICIENTS_AT 3 /* 4 numbers: its coefficients on the reduced vectors */
-#define RAGHYMTOS_VECTOR_AT 7       /* 8 numbers: the nearest vector */
+#define RAGHYMTOS_TENTHS_AT 7       /* 4 numbers: the solution of the target's system, in tenths */
+#define RAGHYMTOS_VECTOR_AT 11      /* 8 numbers: the nearest vector */
 
 /* The answer of a membership. */
 #define RAGHYMTOS_MEMBER_COUNT 3
@@ -145,21 +146,28 @@ bool raghymtos_reduce(const int64_t *numbers, size_t count, size_t d, size_t m,
  * vectors are reduced first; of equally near vectors the one with the least coefficients on the
  * reduced vectors is given, the first coefficient compared first.
  *
+ * With it comes the solution of the target's linear system: the d numbers y for which the sum of
+ * the reduced vectors, each taken y times, has with every reduced vector the inner product that the
+ * target has. They are the target's own coefficients on the reduced vectors, or, for a target beside
+ * their span, those of its projection, and need not be whole. They stand in whole tenths, 0.5 as 5;
+ * each is less than a tenth from the exact number. Where that leaves two, which of them is given is
+ * free, and a later version may give the other. Behind the d numbers, and in a refusal, stand zeros.
+ *
  * numbers, count         the coordinates, vector by vector: any 64-bit numbers, any count
  * d, m                   how many vectors, and how many coordinates each has
  * target, target_count   the target's coordinates: any 64-bit numbers, any count; it need not lie
  *                        in the span of the vectors
  * out, room              where the answer goes, and how many numbers are lent there
  *
- * Gives true and writes the first 15 numbers of out; those behind them keep their values. If room
- * is less than 15, gives false and writes nothing. No pointer may be null, also for a count of 0,
+ * Gives true and writes the first 19 numbers of out; those behind them keep their values. If room
+ * is less than 19, gives false and writes nothing. No pointer may be null, also for a count of 0,
  * all must be aligned for int64_t, and out must overlap neither numbers nor target. */
 bool raghymtos_nearest(const int64_t *numbers, size_t count, size_t d, size_t m,
                        const int64_t *target, size_t target_count, int64_t *out, size_t room);
 
 /* Says whether a target is in the lattice of d vectors of m coordinates each: exactly when it is a
  * combination of the vectors with whole coefficients. All but the answer is as for raghymtos_nearest,
- * with 3 in the place of 15. */
+ * with 3 in the place of 19. */
 bool raghymtos_member(const int64_t *numbers, size_t count, size_t d, size_t m,
                       const int64_t *target, size_t target_count, int64_t *out, size_t room);
 

@@ -31,20 +31,24 @@ static void nearest(void) {
     const int64_t numbers[] = {20, 0, 10, 20};
     const int64_t target[] = {14, 9};
     int64_t out[RAGHYMTOS_NEAREST_COUNT];
-    expect(raghymtos_nearest(numbers, 4, 2, 2, target, 2, out, RAGHYMTOS_NEAREST_COUNT), "15 lent numbers are enough");
+    expect(raghymtos_nearest(numbers, 4, 2, 2, target, 2, out, RAGHYMTOS_NEAREST_COUNT), "19 lent numbers are enough");
     expect(out[RAGHYMTOS_SQUARE_AT] == 117, "the squared distance from (14,9) is 117");
     expect(out[RAGHYMTOS_COEFFICIENTS_AT] == 1 && out[RAGHYMTOS_COEFFICIENTS_AT + 1] == 0, "its coefficients are 1 and 0");
+    /* the exact ones are 4.75 and 4.5 tenths */
+    expect(out[RAGHYMTOS_TENTHS_AT] / 2 == 2 && out[RAGHYMTOS_TENTHS_AT + 1] / 2 == 2, "the solution is 4 or 5 tenths, twice");
+    expect(out[RAGHYMTOS_TENTHS_AT + 2] == 0 && out[RAGHYMTOS_TENTHS_AT + 3] == 0, "zeros follow it");
     expect(out[RAGHYMTOS_VECTOR_AT] == 20 && out[RAGHYMTOS_VECTOR_AT + 1] == 0, "the nearest vector is (20,0)");
     raghymtos_nearest(numbers, 4, 2, 2, target, 1, out, RAGHYMTOS_NEAREST_COUNT);
     expect(out[RAGHYMTOS_REFUSAL_AT] == RAGHYMTOS_TARGET_NOT_M, "a target of one number is refused");
-    expect(!raghymtos_nearest(numbers, 4, 2, 2, target, 2, out, RAGHYMTOS_NEAREST_COUNT - 1), "14 lent numbers are too few");
+    expect(out[RAGHYMTOS_TENTHS_AT] == 0 && out[RAGHYMTOS_TENTHS_AT + 1] == 0, "with zeros for a solution");
+    expect(!raghymtos_nearest(numbers, 4, 2, 2, target, 2, out, RAGHYMTOS_NEAREST_COUNT - 1), "18 lent numbers are too few");
 }
 
 /* the lattice A4 in five coordinates, and five times the lattice with a target that ten of its vectors are nearest to */
 static void five_coordinates(void) {
     const int64_t numbers[] = {1, -1, 0, 0, 0, 0, 1, -1, 0, 0, 0, 0, 1, -1, 0, 0, 0, 0, 1, -1};
     const int64_t target[] = {3, 3, -2, -2, -2};
-    static const int64_t near[RAGHYMTOS_NEAREST_COUNT] = {0, 0, 30, -1, 0, 0, 1, 0, 5, 0, 0, -5, 0, 0, 0};
+    static const int64_t near[RAGHYMTOS_NEAREST_COUNT] = {0, 0, 30, -1, 0, 0, 1, -6, 4, 4, 4, 0, 5, 0, 0, -5, 0, 0, 0};
     int64_t times[20], wanted[RAGHYMTOS_REDUCTION_COUNT] = {0, 0, 3, 2, 2, 2, 2}, out[RAGHYMTOS_REDUCTION_COUNT];
     for (int i = 0; i < 20; i++)
         times[i] = 5 * numbers[i];

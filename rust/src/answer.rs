@@ -11,7 +11,8 @@ const U_AT: usize = 39;
 const V_AT: usize = 55;
 const SQUARE_AT: usize = 2;
 const COEFFICIENTS_AT: usize = 3;
-const VECTOR_AT: usize = 7;
+const TENTHS_AT: usize = 7;
+const VECTOR_AT: usize = 11;
 const MEMBER_AT: usize = 2;
 
 /// The answer of a reduction: d reduced vectors of m coordinates, the tables that lead to them and back, their squared lengths and the
@@ -100,7 +101,7 @@ impl<'a> Iterator for Rows<'a> {
 
 impl ExactSizeIterator for Rows<'_> {}
 
-/// The lattice vector nearest to a target.
+/// The lattice vector nearest to a target, and the solution of the target's linear system on the reduced vectors.
 #[derive(Clone, Copy, Debug, PartialEq, Eq, Hash)]
 pub struct Nearest {
     d: usize,
@@ -118,6 +119,14 @@ impl Nearest {
     /// Its coefficients on the reduced vectors that [`reduce`] gives, d numbers.
     pub fn coefficients(&self) -> &[i64] {
         &self.numbers[COEFFICIENTS_AT..COEFFICIENTS_AT + self.d]
+    }
+
+    /// The solution of the target's linear system in whole tenths, d numbers: 5 stands for 0.5. The exact numbers are those for which the
+    /// sum of the reduced vectors that [`reduce`] gives, each taken so many times, has with every reduced vector the inner product that the
+    /// target has: the target's own coefficients, or, for a target beside the span, those of its projection. Each is less than a tenth from
+    /// the exact number. Where that leaves two, which of them is given is free, and a later version may give the other.
+    pub fn tenths(&self) -> &[i64] {
+        &self.numbers[TENTHS_AT..TENTHS_AT + self.d]
     }
 
     /// Its squared distance from the target, 0 exactly when the target is in the lattice.

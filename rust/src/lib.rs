@@ -12,6 +12,9 @@
 //! let n = nearest(&[20, 0, 10, 20], 2, 2, &[14, 9]).unwrap();
 //! assert_eq!((n.vector(), n.square()), (&[20, 0][..], 117));
 //! assert_eq!(nearest(&[3], 1, 1, &[1, 2]), Err(Refusal::TargetCount));
+//! // (14, 8) is 0.5 and 0.4 times the reduced vectors
+//! let n = nearest(&[20, 0, 10, 20], 2, 2, &[14, 8]).unwrap();
+//! assert_eq!(n.tenths(), [5, 4]);
 //!
 //! assert_eq!(member(&[20, 0, 10, 20], 2, 2, &[50, 20]), Ok(true));
 //! ```

@@ -5,7 +5,7 @@
 pub const REDUCTION_NUMBERS: usize = 71;
 
 /// How many numbers the answer with a nearest vector takes.
-pub const NEAREST_NUMBERS: usize = 15;
+pub const NEAREST_NUMBERS: usize = 19;
 
 /// How many numbers the answer of a membership takes.
 pub const MEMBER_NUMBERS: usize = 3;
@@ -109,7 +109,7 @@ pub fn reduce(numbers: &[i64], d: usize, m: usize, out: &mut [i64]) -> bool {
     }
 }
 
-/// Writes the answer with the nearest vector to the first 15 numbers of `out`. A shorter `out` is left as it is, and false is given.
+/// Writes the answer with the nearest vector to the first 19 numbers of `out`. A shorter `out` is left as it is, and false is given.
 pub fn nearest(numbers: &[i64], d: usize, m: usize, target: &[i64], out: &mut [i64]) -> bool {
     unsafe {
         raghymtos_nearest(

@@ -23,6 +23,7 @@ fn fewer_vectors_than_coordinates() {
         (n.vector(), n.coefficients(), n.square()),
         (&[0, 6, 8][..], &[2][..], 49)
     );
+    assert_eq!(n.tenths(), [20]);
 }
 
 /// The lattice A4: four vectors of five coordinates.
@@ -54,6 +55,7 @@ fn five_coordinates() {
         (n.vector(), n.coefficients(), n.square()),
         (&[0, 5, 0, 0, -5][..], &[-1, 0, 0, 1][..], 30)
     );
+    assert_eq!(n.tenths(), [-6, 4, 4, 4]);
 }
 
 /// Four vectors of the lattice E8 in doubled coordinates.
@@ -72,6 +74,7 @@ fn eight_coordinates() {
         (n.vector(), n.coefficients(), n.square()),
         (&[1; 8][..], &[0, 0, 0, 1][..], 4)
     );
+    assert_eq!(n.tenths(), [5, 5, 5, 0]);
 }
 
 /// As many vectors as coordinates up to four, then more coordinates.
@@ -91,6 +94,7 @@ fn every_width() {
         let n = nearest(&numbers, d, m, &target).unwrap();
         assert_eq!((n.vector()[m - 1], n.vector().len()), (4, m), "{m}");
         assert_eq!(n.coefficients()[d - 1], 2, "{m}");
+        assert_eq!((n.tenths()[d - 1], n.tenths().len()), (25, d), "{m}");
         assert_eq!(member(&numbers, d, m, &target), Ok(false), "{m}");
         target[m - 1] = 6;
         assert_eq!(member(&numbers, d, m, &target), Ok(true), "{m}");
@@ -99,6 +103,19 @@ fn every_width() {
     assert_eq!(reduce(&nine, 1, 9), Err(Refusal::Coordinates));
     assert_eq!(nearest(&nine, 1, 9, &nine), Err(Refusal::Coordinates));
     assert_eq!(member(&nine, 1, 9, &nine), Err(Refusal::Coordinates));
+}
+
+/// Less than a tenth away, from below or from above; where the solution is in whole tenths, there is only one such number.
+#[test]
+fn tenths() {
+    let of = |numbers: &[i64], target: i64| nearest(numbers, 1, 1, &[target]).unwrap().tenths()[0];
+    assert!([3, 4].contains(&of(&[3], 1)));
+    assert!([-4, -3].contains(&of(&[3], -1)));
+    assert_eq!((of(&[10], 3), of(&[10], -3), of(&[-10], 3)), (3, -3, -3));
+    assert_eq!(of(&[1], 20_000), 200_000);
+    // beside the span
+    let n = nearest(&[0, 10], 1, 2, &[7, -1]).unwrap();
+    assert_eq!(n.tenths(), [-1]);
 }
 
 #[test]

@@ -40,7 +40,8 @@ fn the_layout() {
     assert_eq!(at("U_AT"), at("VECTORS_AT") + 4 * at("VECTOR_COUNT"));
     assert_eq!(at("V_AT"), at("U_AT") + 4 * at("ROW_COUNT"));
     assert_eq!(at("REDUCTION_COUNT"), at("V_AT") + 4 * at("ROW_COUNT"));
-    assert_eq!(at("VECTOR_AT"), at("COEFFICIENTS_AT") + 4);
+    assert_eq!(at("TENTHS_AT"), at("COEFFICIENTS_AT") + 4);
+    assert_eq!(at("VECTOR_AT"), at("TENTHS_AT") + 4);
     assert_eq!(at("NEAREST_COUNT"), at("VECTOR_AT") + at("VECTOR_COUNT"));
 }
 

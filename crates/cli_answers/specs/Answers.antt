@@ -53,9 +53,9 @@ reductionText d m a = cond (eqb (a .refusal) 0) (reducedText d m a) (refusedText
 abbrev pub nearestWord : List ℕ
 nearestWord = 110 ∷ 101 ∷ 97 ∷ 114 ∷ 101 ∷ 115 ∷ 116 ∷ []
 
--- the squared distance; the coefficients behind "c", the vector behind "v"
+-- the squared distance; the coefficients behind "c", the solution in tenths behind "s", the vector behind "v"
 abbrev pub foundText : (d m : ℕ) → NearestVector → List ℕ
-foundText d m a = line nearestWord (signed (a .square) ∷ []) ++ (rowLine 99 d (a .coefficients) ++ rowLine 118 m (a .vector))
+foundText d m a = line nearestWord (signed (a .square) ∷ []) ++ (rowLine 99 d (a .coefficients) ++ (rowLine 115 d (a .tenths) ++ rowLine 118 m (a .vector)))
 
 abbrev pub nearestText : (d m : ℕ) → NearestVector → List ℕ
 nearestText d m a = cond (eqb (a .refusal) 0) (foundText d m a) (refusedText (a .refusal) (a .place))

@@ -14,9 +14,9 @@ errorRoom = 6 + numberRoom + 2 + 1
 abbrev pub reductionRoom : ℕ
 reductionRoom = 8 + numberRoom + rowRoom + 3 * linesRoom
 
--- "nearest", the squared distance and the end of the line; coefficients and vector
+-- "nearest", the squared distance and the end of the line; coefficients, tenths and vector
 abbrev pub nearestRoom : ℕ
-nearestRoom = 7 + fieldRoom + 1 + 2 * lineRoom
+nearestRoom = 7 + fieldRoom + 1 + 3 * lineRoom
 
 -- a blank, the position, the squared distance and the end of the line; the word comes to it
 abbrev pub outsideRoom : ℕ

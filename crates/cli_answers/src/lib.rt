@@ -85,7 +85,7 @@ pub fn put_basis(out: &mut [u8], at: usize, a: engine::Reduction, d: usize, m: u
     cli_output::put_vectors(out, at, row_operations::vectors_of(vectors), d, m)
 }
 
-// The squared distance, then a line with the coefficients and one with the vector.
+// The squared distance, then a line with the coefficients, one with the solution in tenths and one with the vector.
 fn put_found(out: &mut [u8], at: usize, a: engine::NearestVector, d: usize, m: usize) -> usize
     requires { ⌜ at + nearestRoom ≤ length (now out) ⌝ }
     ensures { λ r. ⌜ Puts (foundText d m a) (now (out .entry)) at (now (out .exit)) r ⌝ }
@@ -96,8 +96,10 @@ fn put_found(out: &mut [u8], at: usize, a: engine::NearestVector, d: usize, m: u
     let third = text_output::put_byte(out, second, b'\n');
     let x = a.coefficients;
     let fourth = cli_output::put_table_row(out, third, b'c', x, d);
+    let s = a.tenths;
+    let fifth = cli_output::put_table_row(out, fourth, b's', s, d);
     let v = a.vector;
-    cli_output::put_vector(out, fourth, v, m)
+    cli_output::put_vector(out, fifth, v, m)
 }
 
 // The answer to a search for the vector nearest to a target.

@@ -3,7 +3,7 @@ use libc::STDERR_FILENO;
 
 // Writes the program's name and version.
 pub(crate) fn version() {
-    cli_output::write(b"raghymtos 0.5.0\n");
+    cli_output::write(b"raghymtos 0.6.0\n");
 }
 
 // Says what may be asked for, on standard error.
@@ -45,7 +45,7 @@ fn usage() {
     );
     go = line(
         go,
-        b"                      answers: nearest SQUARED DISTANCE, and lines c (coefficients) and v",
+        b"                      answers: nearest SQUARED DISTANCE, and lines c (coefficients), s (the solution in tenths) and v",
     );
     go = line(
         go,
@@ -139,6 +139,7 @@ fn stream_example(command: &[u8]) -> bool {
         go = line(go, b"v 10 20");
         go = line(go, b"nearest 117");
         go = line(go, b"c 1 0");
+        go = line(go, b"s 5 4");
         line(go, b"v 20 0");
         return true;
     }

@@ -6,6 +6,7 @@ use lib.Dec.{eqb, ltb}
 use lib.IntN.{ℤ}
 use lib.ListN.{length, drop}
 use Rattle.integers.specs.Decimal.{decimal}
+use Rattle.lattices.specs.Refusal.{Input}
 use Rattle.lattices.specs.Answer.{reductionOf, nearestOf, membershipOf}
 use Rattle.engine.specs.Packed.{packed, packedNearest, packedMembership}
 use Rattle.text_parts.specs.declared.Kind.{Kind}
@@ -19,6 +20,7 @@ use Rattle.cli_replies.specs.declared.Command.{Command}
 use Rattle.cli_replies.specs.declared.Command.the-variants.{Reduce, Nearest, NearestOnBasis, Member}
 use Rattle.cli_replies.specs.declared.Wanted.{Wanted}
 use Rattle.cli_replies.specs.declared.Wanted.the-variants.{Vector, VectorOnBasis, Membership}
+use Rattle.cli_replies.specs.Reply.{Reply, always, headed}
 
 -- ---- what is wrong where a part stops in a way that it may not
 
@@ -65,33 +67,37 @@ abbrev pub basisOf : (with : Bool) (refusal d m : ℕ) → List ℤ → List ℕ
 basisOf with refusal d m numbers =
     cond with (cond (eqb refusal 0) (basisText d m (packed (reductionOf (record { numbers = numbers; d = d; m = m; target = [] })))) []) []
 
-abbrev pub foundOn : (with : Bool) (d m : ℕ) → List ℤ → List ℤ → List ℕ
+-- the nearest vector, after the reduced ones
+abbrev pub foundOn : (with : Bool) (d m : ℕ) → List ℤ → List ℤ → Reply
 foundOn with d m numbers target =
-    let a = packedNearest (nearestOf (record { numbers = numbers; d = d; m = m; target = target })) in basisOf with (a .refusal) d m numbers ++ nearestText d m a
+    let i : Input = record { numbers = numbers; d = d; m = m; target = target } in
+    record { asked = i ∷ []; text = λ tenths. basisOf with (nearestOf i .refusal) d m numbers ++ nearestText d m (packedNearest (nearestOf i) tenths) }
 
 abbrev pub memberOn : (d m : ℕ) → List ℤ → List ℤ → List ℕ
 memberOn d m numbers target = membershipText (packedMembership (membershipOf (record { numbers = numbers; d = d; m = m; target = target })))
 
 -- what is asked about the target
-abbrev pub wantedOf : Wanted → (d m : ℕ) → List ℤ → List ℤ → List ℕ
+abbrev pub wantedOf : Wanted → (d m : ℕ) → List ℤ → List ℤ → Reply
 wantedOf Vector d m numbers target = foundOn false d m numbers target
 wantedOf VectorOnBasis d m numbers target = foundOn true d m numbers target
-wantedOf Membership d m numbers target = memberOn d m numbers target
+wantedOf Membership d m numbers target = always (memberOn d m numbers target)
 
-abbrev pub withTarget : Wanted → (line d m : ℕ) → List ℤ → List ℕ → List ℕ
-withTarget wanted line d m numbers s = let p = takenAt mostListed s in cond (isEnd (p .stop)) (wantedOf wanted d m numbers (p .numbers)) (mistakeText line (p .stop))
+abbrev pub withTarget : Wanted → (line d m : ℕ) → List ℤ → List ℕ → Reply
+withTarget wanted line d m numbers s =
+    let p = takenAt mostListed s in cond (isEnd (p .stop)) (wantedOf wanted d m numbers (p .numbers)) (always (mistakeText line (p .stop)))
 
-abbrev pub withVectors : Wanted → (line d m : ℕ) → List ℕ → List ℕ
+abbrev pub withVectors : Wanted → (line d m : ℕ) → List ℕ → Reply
 withVectors wanted line d m s =
-    let p = takenAt mostListed s in cond (isSemicolon (p .stop)) (withTarget wanted line d m (p .numbers) (drop (p .length) s)) (mistakeText line (p .stop))
+    let p = takenAt mostListed s in cond (isSemicolon (p .stop)) (withTarget wanted line d m (p .numbers) (drop (p .length) s)) (always (mistakeText line (p .stop)))
 
-abbrev pub targetReply : Wanted → ℕ → List ℕ → List ℕ
-targetReply wanted line s = let c = countsAt s in cond (isSemicolon (c .stop)) (withVectors wanted line (c .d) (c .m) (drop (c .length) s)) (mistakeText line (c .stop))
+abbrev pub targetReply : Wanted → ℕ → List ℕ → Reply
+targetReply wanted line s =
+    let c = countsAt s in cond (isSemicolon (c .stop)) (withVectors wanted line (c .d) (c .m) (drop (c .length) s)) (always (mistakeText line (c .stop)))
 
 -- ---- a line
 
-abbrev pub reply : Command → ℕ → List ℕ → List ℕ
-reply Reduce line s = reduceReply line s
+abbrev pub reply : Command → ℕ → List ℕ → Reply
+reply Reduce line s = always (reduceReply line s)
 reply Nearest line s = targetReply Vector line s
 reply NearestOnBasis line s = targetReply VectorOnBasis line s
 reply Member line s = targetReply Membership line s
@@ -105,7 +111,7 @@ abbrev pub tooLong : List ℕ
 tooLong = 108 ∷ 111 ∷ 110 ∷ 103 ∷ 101 ∷ 114 ∷ 32 ∷ 116 ∷ 104 ∷ 97 ∷ 110 ∷ 32 ∷ 52 ∷ 48 ∷ 57 ∷ 54 ∷ 32 ∷ 98 ∷ 121 ∷ 116 ∷ 101 ∷ 115 ∷ []
 
 -- a line that holds nothing but blanks has no answer
-abbrev pub answer : Command → Bool → ℕ → List ℕ → List ℕ
+abbrev pub answer : Command → Bool → ℕ → List ℕ → Reply
 answer command numbered line s =
-    cond (ltb 4096 (length s)) (numberText numbered line ++ errorText line tooLong)
-    (cond (eqb (leading isBlank s) (length s)) [] (numberText numbered line ++ reply command line s))
+    cond (ltb 4096 (length s)) (always (numberText numbered line ++ errorText line tooLong))
+    (cond (eqb (leading isBlank s) (length s)) (always []) (headed (numberText numbered line) (reply command line s)))

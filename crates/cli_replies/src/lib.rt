@@ -4,6 +4,7 @@ ghost use Prim.Native.Nat.{_+_, _≤_};
 ghost use lib.ListN.{length};
 ghost use Rattle.text_output.specs.Puts.{Puts};
 ghost use Rattle.cli_replies.specs.Replies.{mistakeText, reducedOf, reduceWith, reduceReply, basisOf, foundOn, memberOn, wantedOf, withTarget, withVectors, targetReply, reply, numberText, answer};
+ghost use Rattle.cli_replies.specs.Reply.{Told};
 ghost use Rattle.cli_output.specs.Room.{fieldRoom, linesRoom};
 ghost use Rattle.cli_answers.specs.Room.{refusedRoom, reductionRoom};
 ghost use Rattle.cli_replies.specs.Replies.{mostListed};
@@ -131,7 +132,7 @@ fn put_nearest(
     target: &[i64],
 ) -> usize
     requires { ⌜ at + targetRoom ≤ length (now out) ⌝ }
-    ensures { λ r. ⌜ Puts (foundOn basis d m (now (numbers .entry)) (now (target .entry))) (now (out .entry)) at (now (out .exit)) r ⌝ }
+    ensures { λ r. ⌜ Told (foundOn basis d m (now (numbers .entry)) (now (target .entry))) (now (out .entry)) at (now (out .exit)) r ⌝ }
     ensures { λ r. ⌜ r ≤ at + targetRoom ⌝ }
 {
     let a = engine::nearest(numbers, d, m, target);
@@ -166,7 +167,7 @@ fn put_wanted(
     target: &[i64],
 ) -> usize
     requires { ⌜ at + targetRoom ≤ length (now out) ⌝ }
-    ensures { λ r. ⌜ Puts (wantedOf wanted d m (now (numbers .entry)) (now (target .entry))) (now (out .entry)) at (now (out .exit)) r ⌝ }
+    ensures { λ r. ⌜ Told (wantedOf wanted d m (now (numbers .entry)) (now (target .entry))) (now (out .entry)) at (now (out .exit)) r ⌝ }
     ensures { λ r. ⌜ r ≤ at + targetRoom ⌝ }
 {
     match wanted {
@@ -190,7 +191,7 @@ fn with_target(
 ) -> usize
     requires { ⌜ at + targetRoom ≤ length (now out) ⌝ }
     requires { ⌜ length (now target) ≡ mostListed ⌝ }
-    ensures { λ r. ⌜ Puts (withTarget wanted line d m (now (numbers .entry)) (now (s .entry))) (now (out .entry)) at (now (out .exit)) r ⌝ }
+    ensures { λ r. ⌜ Told (withTarget wanted line d m (now (numbers .entry)) (now (s .entry))) (now (out .entry)) at (now (out .exit)) r ⌝ }
     ensures { λ r. ⌜ r ≤ at + targetRoom ⌝ }
 {
     let part = text_parts::read_part(s, target);
@@ -217,7 +218,7 @@ fn with_vectors(
     requires { ⌜ at + targetRoom ≤ length (now out) ⌝ }
     requires { ⌜ length (now numbers) ≡ mostListed ⌝ }
     requires { ⌜ length (now target) ≡ mostListed ⌝ }
-    ensures { λ r. ⌜ Puts (withVectors wanted line d m (now (s .entry))) (now (out .entry)) at (now (out .exit)) r ⌝ }
+    ensures { λ r. ⌜ Told (withVectors wanted line d m (now (s .entry))) (now (out .entry)) at (now (out .exit)) r ⌝ }
     ensures { λ r. ⌜ r ≤ at + targetRoom ⌝ }
 {
     let part = text_parts::read_part(s, numbers);
@@ -253,7 +254,7 @@ fn about_target(
     requires { ⌜ at + targetRoom ≤ length (now out) ⌝ }
     requires { ⌜ length (now numbers) ≡ mostListed ⌝ }
     requires { ⌜ length (now target) ≡ mostListed ⌝ }
-    ensures { λ r. ⌜ Puts (targetReply wanted line (now (s .entry))) (now (out .entry)) at (now (out .exit)) r ⌝ }
+    ensures { λ r. ⌜ Told (targetReply wanted line (now (s .entry))) (now (out .entry)) at (now (out .exit)) r ⌝ }
     ensures { λ r. ⌜ r ≤ at + targetRoom ⌝ }
 {
     let counts = text_parts::first_part::read_counts(s);
@@ -288,7 +289,7 @@ fn put_reply(
     requires { ⌜ at + reductionRoom ≤ length (now out) ⌝ }
     requires { ⌜ length (now numbers) ≡ mostListed ⌝ }
     requires { ⌜ length (now target) ≡ mostListed ⌝ }
-    ensures { λ r. ⌜ Puts (reply command line (now (s .entry))) (now (out .entry)) at (now (out .exit)) r ⌝ }
+    ensures { λ r. ⌜ Told (reply command line (now (s .entry))) (now (out .entry)) at (now (out .exit)) r ⌝ }
     ensures { λ r. ⌜ r ≤ at + reductionRoom ⌝ }
 {
     match command {
@@ -328,7 +329,7 @@ pub fn answer(
     requires { ⌜ at + answerRoom ≤ length (now out) ⌝ }
     requires { ⌜ length (now numbers) ≡ mostListed ⌝ }
     requires { ⌜ length (now target) ≡ mostListed ⌝ }
-    ensures { λ r. ⌜ Puts (answer command numbered line (now (s .entry))) (now (out .entry)) at (now (out .exit)) r ⌝ }
+    ensures { λ r. ⌜ Told (answer command numbered line (now (s .entry))) (now (out .entry)) at (now (out .exit)) r ⌝ }
     ensures { λ r. ⌜ r ≤ at + answerRoom ⌝ }
 {
     if 4096 < s.len() {

@@ -13,14 +13,15 @@ use Rattle.text_parts.specs.Numbers.{leading}
 use Rattle.text_parts.specs.Tokens.{isBlank}
 use Rattle.cli_replies.specs.declared.Command.{Command}
 use Rattle.cli_requests.specs.Lines.{kept}
+use Rattle.cli_replies.specs.Reply.{always, headed}
 use Rattle.cli_replies.specs.Replies.{reply, numberText, tooLong, answer}
 use Rattle.cli_answers.specs.Answers.{errorText}
 
 module _ (command : Command) (numbered : Bool) (line : ℕ) where
-  long-answer : (s : List ℕ) → 4096 < length s → answer command numbered line s ≡ numberText numbered line ++ errorText line tooLong
+  long-answer : (s : List ℕ) → 4096 < length s → answer command numbered line s ≡ always (numberText numbered line ++ errorText line tooLong)
   long-answer s h =
       ap
-      (λ b. cond b (numberText numbered line ++ errorText line tooLong) (cond (eqb (leading isBlank s) (length s)) [] (numberText numbered line ++ reply command line s)))
+      (λ b. cond b (always (numberText numbered line ++ errorText line tooLong)) (cond (eqb (leading isBlank s) (length s)) (always []) (headed (numberText numbered line) (reply command line s))))
       (lt-ltb _ _ h)
 
   pub kept-alike : (s : List ℕ) → answer command numbered line (kept s) ≡ answer command numbered line s

@@ -1,5 +1,6 @@
 -- The definitions' answers in the structs of the engine, field by field.
-use mathlib.Core.List.{map}
+use mathlib.Core.List.{List, map}
+use lib.IntN.{ℤ}
 use Rattle.lattices.specs.Answer as Definition
 use Rattle.row_operations.specs.RowStructs.{vectorRow, tableRow}
 use Rattle.engine.specs.declared.Reduction.{Reduction}
@@ -18,9 +19,9 @@ packed a = record {
   passes = a .passes;
 }
 
--- of a nearest vector
-abbrev pub packedNearest : Definition.Nearest → NearestVector
-packedNearest a = record { refusal = a .refusal; place = a .place; vector = a .vector; coefficients = a .coefficients; square = a .square }
+-- of a nearest vector, with tenths of the solution
+abbrev pub packedNearest : Definition.Nearest → List ℤ → NearestVector
+packedNearest a s = record { refusal = a .refusal; place = a .place; vector = a .vector; coefficients = a .coefficients; tenths = s; square = a .square }
 
 -- of a membership
 abbrev pub packedMembership : Definition.Membership → MemberAnswer

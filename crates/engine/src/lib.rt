@@ -5,14 +5,16 @@ ghost use Prim.Native.Nat.{_≤_};
 ghost use lib.IntN.{pos};
 ghost use lib.Signed.{ltZ};
 ghost use lib.ListN.{length, take};
-ghost use Rattle.lattices.specs.Answer.{noReduction, reductionOf, noNearest, nearestOf, table};
+ghost use Rattle.lattices.specs.Vector.{N};
+ghost use Rattle.lattices.specs.Answer.{noReduction, reductionOf, noNearest, nearestOf, padded, table};
+ghost use Rattle.solutions.specs.Solution.{TenthsFor};
 ghost use Rattle.lattices.specs.Refusal.{mostVectors, mostCoordinates, mostSquare, vectorsOf, firstOf, vectorChecks};
 ghost use Rattle.integers.specs.Every.{any};
 ghost use Rattle.gram_matrix.specs.Formed.{formed};
 ghost use Rattle.gram_matrix.specs.Work.{diagonalOf};
 ghost use Rattle.successive_minima.specs.Laws.Digits.{Bounded};
-ghost use Rattle.nearest_of_three.specs.Formed.{GramOf};
-ghost use Rattle.nearest_of_four.specs.Near.{Near};
+ghost use Rattle.nearest_steps.specs.Formed.{GramOf};
+ghost use Rattle.nearest_search.specs.Near.{Near};
 ghost use Rattle.engine.specs.Packed.{packed, packedNearest};
 ghost use Rattle.engine.specs.Laws.Answer.{finished};
 ghost use Rattle.engine.specs.Laws.Named.{named, Answered};
@@ -126,61 +128,68 @@ pub fn reduce(numbers: &[i64], d: usize, m: usize) -> Reduction
     finished(&g, w)
 }
 
-// The answer of a search for the nearest vector: the vector, its coefficients on the reduced basis, its squared distance from the target.
+// The answer of a search for the nearest vector: the vector, its coefficients on the reduced basis, the solution there in tenths, its squared
+// distance from the target.
 // Where the refusal is not 0, all else is 0; unused places hold 0.
 pub struct NearestVector {
     pub refusal: u64,
     pub place: u64,
     pub vector: Vector,
     pub coefficients: [i64; 4],
+    pub tenths: [i64; 4],
     pub square: i64,
 }
 
 // A refusal: its number, and zeros.
 fn refused_nearest(n: u64) -> NearestVector
-    ensures { λ r. ⌜ r ≡ packedNearest (noNearest n) ⌝ }
+    ensures { λ r. ⌜ r ≡ packedNearest (noNearest n) (padded mostVectors []) ⌝ }
 {
     NearestVector {
         refusal: n,
         place: 0,
         vector: [0; WIDTH],
         coefficients: [0; 4],
+        tenths: [0; 4],
         square: 0,
     }
 }
 
-// The answer from the coefficients and what the nearest vector leaves of the target t.
-fn named(t: Vector, x: [i64; 4], rest: Vector) -> NearestVector
+// The answer from the coefficients, the tenths and what the nearest vector leaves of the target t.
+fn named(t: Vector, x: [i64; 4], tenths: [i64; 4], rest: Vector) -> NearestVector
     requires { ⌜ Bounded 20000 t ⌝ }
     requires { ⌜ Bounded 100000 rest ⌝ }
-    ensures { λ r. ⌜ r ≡ named t x rest ⌝ }
+    ensures { λ r. ⌜ r ≡ named t x tenths rest ⌝ }
 {
     NearestVector {
         refusal: 0,
         place: 0,
         vector: row_operations::minus_multiple(t, 1, rest),
         coefficients: x,
+        tenths,
         square: row_operations::dot(rest, rest),
     }
 }
 
-// The vector nearest to t in the lattice of the first d vectors of b, found on their Gram matrix g.
-fn searched(g: &Table, b: &Basis, d: usize, t: Vector) -> NearestVector
+// The vector nearest to t in the lattice of the first d vectors of b, found on their Gram matrix g. n is the squared length of t.
+fn searched(g: &Table, b: &Basis, d: usize, n: i64, t: Vector) -> NearestVector
     requires { ⌜ d ≤ 4 ⌝ }
     requires { ⌜ length (now b) ≡ 4 ⌝ }
+    requires { ⌜ n ≡ N t ⌝ }
     requires { ⌜ Near d (now b) t ⌝ }
     requires { ⌜ GramOf (take d (now b)) (now g) ⌝ }
     ensures { λ r. ⌜ Answered d (now (b .entry)) t r ⌝ }
 {
     let mut rest = t;
-    let x = nearest_vectors::lose_nearest(g, b, d, &mut rest);
-    named(t, x, rest)
+    let mut tenths = [0; 4];
+    let x = nearest_vectors::lose_nearest(g, b, d, n, &mut rest, &mut tenths);
+    named(t, x, tenths, rest)
 }
 
 // Nearest: d vectors of m coordinates each, vector by vector, and a target of m coordinates. The basis is reduced first, and the search goes
 // on the Gram matrix that the reduction leaves.
 pub fn nearest(numbers: &[i64], d: usize, m: usize, target: &[i64]) -> NearestVector
-    ensures { λ r. ⌜ r ≡ packedNearest (nearestOf (record { numbers = now (numbers .entry); d = d; m = m; target = now (target .entry) })) ⌝ }
+    ensures { λ r. ⌜ r ≡ packedNearest (nearestOf (record { numbers = now (numbers .entry); d = d; m = m; target = now (target .entry) })) (r .tenths) ⌝ }
+    ensures { λ r. ⌜ TenthsFor (record { numbers = now (numbers .entry); d = d; m = m; target = now (target .entry) }) (r .tenths) ⌝ }
 {
     let mut a = [[0; WIDTH]; 4];
     let mut g = [[0; 4]; 4];
@@ -188,14 +197,15 @@ pub fn nearest(numbers: &[i64], d: usize, m: usize, target: &[i64]) -> NearestVe
     if number != 0 {
         return refused_nearest(number);
     }
-    let n = input_checks::target_refusal(target, m);
+    let mut t = [0; WIDTH];
+    let n = input_checks::target_refusal(target, m, &mut t);
     if n != 0 {
         return refused_nearest(n);
     }
+    let square = row_operations::dot(t, t);
     let e = row_operations::unit_table(d);
     let w = greedy_steps::reduce_first(&mut g, a, e, e, d, 0);
     let vectors = w.vectors;
     let b = row_operations::vectors_of(vectors);
-    let t = input_checks::vector(target, 0, m);
-    searched(&g, &b, d, t)
+    searched(&g, &b, d, square, t)
 }

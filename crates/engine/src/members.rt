@@ -4,6 +4,7 @@ ghost use mathlib.Core.Bool.{false};
 ghost use Rattle.lattices.specs.Answer.{membershipOf};
 ghost use Rattle.engine.specs.Packed.{packedMembership};
 use super::reduce;
+use row_operations::WIDTH;
 
 // The answer of a membership. Where the refusal is not 0, all else is 0 and the answer no.
 pub struct MemberAnswer {
@@ -31,14 +32,14 @@ pub fn membership(numbers: &[i64], d: usize, m: usize, target: &[i64]) -> Member
     if r.refusal != 0 {
         return no_member(r.refusal);
     }
-    let n = input_checks::target_refusal(target, m);
+    let mut t = [0; WIDTH];
+    let n = input_checks::target_refusal(target, m, &mut t);
     if n != 0 {
         return no_member(n);
     }
     let vectors = r.vectors;
     let squares = r.squares;
     let b = row_operations::vectors_of(vectors);
-    let t = input_checks::vector(target, 0, m);
     let l = lattice_membership::lattice_of(b, d, m, squares, r.passes);
     MemberAnswer {
         refusal: 0,

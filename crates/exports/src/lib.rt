@@ -1,14 +1,16 @@
 // The services for callers in other languages. include/raghymtos.h declares them.
 ghost use mathlib.Core.Path.{_≡_};
+ghost use mathlib.Core.Bool.{true};
 ghost use mathlib.Core.List.{[]};
 ghost use lib.Dec.{leb};
 ghost use lib.ListN.{length};
 ghost use Rattle.lattices.specs.Answer.{reductionOf, nearestOf, membershipOf};
+ghost use Rattle.solutions.specs.Solution.{TenthsFor};
 ghost use Rattle.catalogue_rules.specs.Read.{read};
 ghost use Rattle.catalogue_rules.specs.Output.{output};
 ghost use Rattle.fold_rules.specs.Services.{foldOf, lookupOf, listOf};
 ghost use Rattle.separation_rules.specs.Separation.{separateOf};
-ghost use Rattle.lent_numbers.specs.Layout.{reductionCount, nearestCount, layout, layoutNearest, layoutMembership, layoutOutput, layoutLookup, layoutSeparation, written, beside};
+ghost use Rattle.lent_numbers.specs.Layout.{reductionCount, nearestCount, layout, layoutNearest, tenthsIn, layoutMembership, layoutOutput, layoutLookup, layoutSeparation, written, beside};
 
 // Reduces d vectors of m coordinates each. The answer is written to the first numbers of `out`; one with too few stays as it is.
 #[no_mangle]
@@ -30,7 +32,8 @@ pub extern "C" fn raghymtos_nearest(
     out: &mut [i64],
 ) -> bool
     ensures { λ r. ⌜ r ≡ leb nearestCount (length (now (out .entry))) ⌝ }
-    ensures { λ _. ⌜ now (out .exit) ≡ written (now (out .entry)) nearestCount (layoutNearest (nearestOf (record { numbers = now (numbers .entry); d = d; m = m; target = now (target .entry) }))) ⌝ }
+    ensures { λ _. ⌜ now (out .exit) ≡ written (now (out .entry)) nearestCount (layoutNearest (nearestOf (record { numbers = now (numbers .entry); d = d; m = m; target = now (target .entry) })) (tenthsIn (now (out .exit)))) ⌝ }
+    ensures { λ r. ⌜ (r ≡ true → TenthsFor (record { numbers = now (numbers .entry); d = d; m = m; target = now (target .entry) }) (tenthsIn (now (out .exit)))) ⌝ }
 {
     lent_engine::nearest(numbers, d, m, target, out)
 }

@@ -90,7 +90,7 @@ row-wide w i [] c h = absurd (omega arith)
 row-wide w zero (r ∷ t) c h = c .0
 row-wide w (suc i) (r ∷ t) c h = row-wide w i t (c .1) (omega arith)
 
-module _ {w : ℕ} (k : ℕ) (x : List ℤ) (t : List (List ℤ)) (three : k ≤ 3) (count : length x ≡ 3) (l : Loses w k x t) where
+module _ {w : ℕ} (k : ℕ) (x : List ℤ) (t : List (List ℤ)) (three : k ≤ 3) (count : length x ≡ 4) (l : Loses w k x t) where
   left-wide : (j : ℕ) → length (left x t (getD t k []) j) ≡ w
   left-wide j = length-⊕ (getD t k []) (negsuc 0 ⊙ comb (take j x) (take j t))
       ∙ omega (arith, row-wide w k t (l .wide) (omega (arith, l .four)), length-⊙ (negsuc 0) (comb (take j x) (take j t)), comb-places w (take j x) (take j t) (take-wide w j t (l .wide)))
@@ -113,7 +113,7 @@ module _ {w : ℕ} (k : ℕ) (x : List ℤ) (t : List (List ℤ)) (three : k ≤
     pub lost-next : lost k j (nth x j) s ≡ set t k (left x t (getD t k []) (suc j))
     lost-next = ap₂ (λ s a. set s k a) e (ap₂ (λ a b. a ⊖ nth x j ⊙ b) own-is other-is ∙ left-suc x t (getD t k []) j (omega (arith, count)) (omega (arith, l .four))) ∙ set-set t k _ _
 
-module _ (k : ℕ) (x : List ℤ) (t : List (List ℤ)) (three : k ≤ 3) (count : length x ≡ 3) (l : Gains k x t) (j : ℕ) (h : j < k) {s : List (List ℤ)} (e : s ≡ gainedColumns (take j x) k t) where
+module _ (k : ℕ) (x : List ℤ) (t : List (List ℤ)) (three : k ≤ 3) (count : length x ≡ 4) (l : Gains k x t) (j : ℕ) (h : j < k) {s : List (List ℤ)} (e : s ≡ gainedColumns (take j x) k t) where
   pub gainable : length s ≡ 4 → Gainable k j (nth x j) s
   gainable f = record {
     four = f;

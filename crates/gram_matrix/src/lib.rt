@@ -30,7 +30,7 @@ pub mod work;
 // A number for each two vectors.
 pub type Table = [[i64; 4]; 4];
 
-// The inner products of the first d vectors with v, to where there are zeros.
+// The inner products of the first d vectors with v, to where there are zeros: with a target the right side of equation (1) in section 5.
 pub fn products(b: &Basis, d: usize, v: Vector, r: &mut [i64; 4])
     requires { ⌜ d ≤ 4 ⌝ }
     requires { ⌜ length (now b) ≡ 4 ⌝ }
@@ -249,9 +249,9 @@ fn lose_multiple(b: &mut Basis, u: &mut Table, v: &mut Table, k: usize, j: usize
 }
 
 // Row k of the vectors and of U loses the combination x of the rows before it; their columns of V gain.
-pub fn lose_combination(b: &mut Basis, u: &mut Table, v: &mut Table, k: usize, x: &[i64; 3])
+pub fn lose_combination(b: &mut Basis, u: &mut Table, v: &mut Table, k: usize, x: &[i64; 4])
     requires { ⌜ k ≤ 3 ⌝ }
-    requires { ⌜ length (now x) ≡ 3 ⌝ }
+    requires { ⌜ length (now x) ≡ 4 ⌝ }
     requires { ⌜ Loses mostCoordinates k (now x) (now b) ⌝ }
     requires { ⌜ Loses 4 k (now x) (now u) ⌝ }
     requires { ⌜ Gains k (now x) (now v) ⌝ }
@@ -265,7 +265,7 @@ pub fn lose_combination(b: &mut Basis, u: &mut Table, v: &mut Table, k: usize, x
 }
 
 // The inner product of the first k places.
-fn dot_first(x: &[i64; 3], r: &[i64; 4], k: usize) -> i64
+fn dot_first(x: &[i64; 4], r: &[i64; 4], k: usize) -> i64
     requires { ⌜ k ≤ 3 ⌝ }
     requires { ⌜ ((i : ℕ) → Within 3000000000000000000 (nth (now x) i *ℤ nth (now r) i)) ⌝ }
     ensures { λ s. ⌜ s ≡ dot (take k (now (x .entry))) (take k (now (r .entry))) ⌝ }
@@ -279,7 +279,7 @@ fn dot_first(x: &[i64; 3], r: &[i64; 4], k: usize) -> i64
 
 // Row and column k of the Gram matrix become r, what is left of row k when the rows before it are taken away x times; its entry k, the
 // squared length, loses the same once more.
-pub fn cross(g: &mut Table, k: usize, r: &[i64; 4], x: &[i64; 3])
+pub fn cross(g: &mut Table, k: usize, r: &[i64; 4], x: &[i64; 4])
     requires { ⌜ k ≤ 3 ⌝ }
     requires { ⌜ length (now g) ≡ 4 ⌝ }
     requires { ⌜ ((i : ℕ) → Within 2000000000000000000 (nth (now x) i *ℤ nth (now r) i)) ⌝ }

@@ -79,11 +79,11 @@ module _ {K : Kind} (positive : pos 0 <ℤ K .factor) (k : ℕ) (rows : List Row
   unfolding Room.x
   x-count = Room.x-count k rows (r .fine) three (r .reduced)
 
-  pub taken : take k (padded 3 x) ≡ x
-  taken = take-padded k 3 x x-count three
+  pub taken : take k (padded 4 x) ≡ x
+  taken = take-padded k 4 x x-count (omega arith)
 
-  nth-x : (j : ℕ) → nth (padded 3 x) j ≡ nth x j
-  nth-x j = nth-padded 3 x (omega (arith, x-count)) j
+  nth-x : (j : ℕ) → nth (padded 4 x) j ≡ nth x j
+  nth-x j = nth-padded 4 x (omega (arith, x-count)) j
 
   -- what is left of the last vector is no longer
   rest : Vec
@@ -112,7 +112,7 @@ module _ {K : Kind} (positive : pos 0 <ℤ K .factor) (k : ℕ) (rows : List Row
     lower : (z : ℤ) (M : ℕ) → natAbs (F *ℤ z) ≤ natAbs F * M → natAbs z ≤ M
     lower z M h = without (natAbs F) (natAbs z) M (size-positive F positive) (subst (λ n. n ≤ natAbs F * M) (size-mul F z) h)
 
-    pub left-room : (j : ℕ) → Within 2000000000000000000 (nth (padded 3 x) j *ℤ nth left j)
+    pub left-room : (j : ℕ) → Within 2000000000000000000 (nth (padded 4 x) j *ℤ nth left j)
     left-room j = record { within = subst (λ y. natAbs (y *ℤ nth left j) ≤ 2000000000000000000) (sym (nth-x j)) (pick (decLt j k)) }
       where
         swap : (y z : ℤ) → F *ℤ (y *ℤ z) ≡ y *ℤ (F *ℤ z)

@@ -54,8 +54,8 @@ module _ {K : Kind} (k : ℕ) (rows : List Row) (f : Fine K (suc k) rows) (three
   unfolding x
   x-count = nearest-count (vectors (take k rows)) (getD rows k blank .vector) ∙ length-vectors (take k rows) ∙ fine-length fewer
 
-  pub x-taken : take k (padded 3 x) ≡ x
-  x-taken = take-padded k 3 x x-count three
+  pub x-taken : take k (padded 4 x) ≡ x
+  x-taken = take-padded k 4 x x-count (omega arith)
 
   pub long : suc k ≤ length rows
   long = omega (arith, ap length (f .is), length-append (f .active) (f .unused), f .count)
@@ -64,24 +64,24 @@ module _ {K : Kind} (k : ℕ) (rows : List Row) (f : Fine K (suc k) rows) (three
   table-at g = getD-map g rows blank [] k long
 
   -- step 5 on the vectors, where they stand in their table
-  pub vectors-room : K .vectors ≡ true → (i : ℕ) → natAbs (nth (getD (map (λ r. r .vector) rows) k []) i) + load (take k (padded 3 x)) (take k (map (λ r. r .vector) rows)) i ≤ room
+  pub vectors-room : K .vectors ≡ true → (i : ℕ) → natAbs (nth (getD (map (λ r. r .vector) rows) k []) i) + load (take k (padded 4 x)) (take k (map (λ r. r .vector) rows)) i ≤ room
   unfolding x
   vectors-room v i = subst (λ n. n ≤ room)
       (sym (ap₂ _+_ (ap (λ l. natAbs (nth l i)) (table-at (λ r. r .vector))) (ap₂ (λ a t. load a t i) x-taken (take-map (λ r. r .vector) k rows))))
       (f .limits .on-vectors v (take k rows) (getD rows k blank) rest moved few red i)
 
   -- step 5 on U
-  pub u-table-room : (i : ℕ) → natAbs (nth (getD (map (λ r. r .u) rows) k []) i) + load (take k (padded 3 x)) (take k (map (λ r. r .u) rows)) i ≤ room
+  pub u-table-room : (i : ℕ) → natAbs (nth (getD (map (λ r. r .u) rows) k []) i) + load (take k (padded 4 x)) (take k (map (λ r. r .u) rows)) i ≤ room
   unfolding x
   u-table-room i = subst (λ n. n ≤ room)
       (sym (ap₂ _+_ (ap (λ l. natAbs (nth l i)) (table-at (λ r. r .u))) (ap₂ (λ a t. load a t i) x-taken (take-map (λ r. r .u) k rows))))
       (f .limits .on-u (take k rows) (getD rows k blank) rest moved few red i)
 
   -- step 5 on V
-  pub nth-x : (j : ℕ) → nth (padded 3 x) j ≡ nth x j
-  nth-x j = nth-padded 3 x (omega (arith, x-count)) j
+  pub nth-x : (j : ℕ) → nth (padded 4 x) j ≡ nth x j
+  nth-x j = nth-padded 4 x (omega (arith, x-count)) j
 
-  pub v-table-room : (j i : ℕ) → j < k → natAbs (nth (getD (map (λ r. r .v) rows) j []) i) + natAbs (nth (padded 3 x) j *ℤ nth (getD (map (λ r. r .v) rows) k []) i) ≤ room
+  pub v-table-room : (j i : ℕ) → j < k → natAbs (nth (getD (map (λ r. r .v) rows) j []) i) + natAbs (nth (padded 4 x) j *ℤ nth (getD (map (λ r. r .v) rows) k []) i) ≤ room
   unfolding x
   v-table-room j i h = subst (λ n. n ≤ room)
       (ap₂ (λ a b. natAbs (nth a i) + natAbs b) left (ap₂ _*ℤ_ (sym (nth-x j)) (ap (λ l. nth l i) (sym (table-at (λ r. r .v))))))

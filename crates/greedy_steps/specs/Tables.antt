@@ -12,7 +12,7 @@ use Rattle.integers.specs.Identity.{by-ring, reads}
 use Rattle.integers.specs.Order.{≤ℤ-trans, ≤ℤ-of-<ℤ, *ℤ-mono}
 use Rattle.integers.specs.Size.{Within, load}
 use Rattle.integers.specs.ListLaws.{nth-⊙}
-use Rattle.lattices.specs.Vector.{Vec, nth, dot, comb, _⊙_, _⊖_}
+use Rattle.lattices.specs.Vector.{Vec, N, nth, dot, comb, _⊙_, _⊖_}
 use Rattle.lattices.specs.Nearest.{nearest}
 use Rattle.lattices.specs.Refusal.{mostCoordinates}
 use Rattle.lattices.specs.Greedy as Greedy
@@ -28,7 +28,7 @@ use Rattle.gram_matrix.specs.Columns.{gainedColumns, nth-column}
 use Rattle.gram_matrix.specs.Lose.{Loses, Gains, row-wide}
 use Rattle.gram_matrix.specs.Cross.{crossed}
 use Rattle.gram_matrix.specs.Passed.{tied-passed, tied-entry}
-use Rattle.nearest_of_three.specs.Meant.{Meant, Known}
+use Rattle.nearest_search.specs.MeantNear.{MeantNear, KnownNear}
 use Rattle.greedy_steps.specs.State.{blank, passRows}
 use Rattle.greedy_steps.specs.Room as Room
 use Rattle.greedy_steps.specs.Room.{PassReady}
@@ -87,7 +87,7 @@ module _ {K : Kind} {k : ℕ} {g b u v : List (List ℤ)} {rows : List Row} (t :
   rows-four = sym (length-map rows (λ s. s .u)) ∙ ap length (t .us) ∙ four
 
   abbrev x : List ℤ
-  x = padded 3 (coefficients k rows)
+  x = padded 4 (coefficients k rows)
 
   x-is : take k x ≡ coefficients k rows
   x-is = Passing.taken (t .positive) k rows r three
@@ -99,16 +99,19 @@ module _ {K : Kind} {k : ℕ} {g b u v : List (List ℤ)} {rows : List Row} (t :
   pub row-four : length (getD g k []) ≡ 4
   row-four = square k (omega (arith, three))
 
-  pub meant : Meant (K .factor) k (Greedy.vectors rows) (getD rows k blank .vector) g (getD g k [])
-  meant = record {
-    positive = t .positive;
-    enough = omega (arith, length-map rows (λ s. s .vector), rows-four, three);
-    reduced = subst Reduced (sym (Passing.front-is (t .positive) k rows r three)) (r .reduced);
-    short = Passing.short (t .positive) k rows r three;
-    target = ≤ℤ-trans (Passing.short-last (t .positive) k rows r three) (*ℤ-mono {a = pos 400000000} {b = pos 3600000000} (≤ℤ-of-<ℤ (t .positive)) (leZ-yes tt));
-    gram = record { row = λ i. record { at = tied-entry t i } };
-    products = record { at = λ j. tied-entry t k j ∙ ap (dot (getD (Greedy.vectors rows) j [])) (Passing.last-is (t .positive) k rows r three) };
-    wide = λ i. pick i (decLt i 4);
+  pub near : MeantNear (K .factor) k (Greedy.vectors rows) (getD rows k blank .vector) g (getD g k [])
+  near = record {
+    meant = record {
+      positive = t .positive;
+      enough = omega (arith, length-map rows (λ s. s .vector), rows-four, three);
+      reduced = subst Reduced (sym (Passing.front-is (t .positive) k rows r three)) (r .reduced);
+      short = Passing.short (t .positive) k rows r three;
+      target = ≤ℤ-trans (Passing.short-last (t .positive) k rows r three) (*ℤ-mono {a = pos 400000000} {b = pos 3600000000} (≤ℤ-of-<ℤ (t .positive)) (leZ-yes tt));
+      gram = record { row = λ i. record { at = tied-entry t i } };
+      products = record { at = λ j. tied-entry t k j ∙ ap (dot (getD (Greedy.vectors rows) j [])) (Passing.last-is (t .positive) k rows r three) };
+      wide = λ i. pick i (decLt i 4);
+    };
+    close = Passing.short-last (t .positive) k rows r three;
   }
     where
       pick : (i : ℕ) → Dec (i < 4) → length (getD g i []) ≤ length (getD g k [])
@@ -117,11 +120,15 @@ module _ {K : Kind} {k : ℕ} {g b u v : List (List ℤ)} {rows : List Row} (t :
           let m : length g ≤ i = omega (arith, tied-length-gram t, rows-four, h) in
           rw (List·getD-eq-default g [] m) (omega arith)
 
-  pub known : Known k g (getD g k [])
-  known = record { factor = K .factor; vectors = Greedy.vectors rows; target = getD rows k blank .vector; meant = meant }
+  -- the squared length of row k is its entry k
+  square-is : {n : ℤ} → n ≡ nth (getD g k []) k → K .factor *ℤ n ≡ N (getD rows k blank .vector)
+  square-is h = ap (λ z. K .factor *ℤ z) h ∙ tied-entry t k k ∙ ap N (Passing.last-is (t .positive) k rows r three)
 
-  pub found : {y : List ℤ} → ((F : ℤ) (vs : List Vec) (w : Vec) → Meant F k vs w g (getD g k []) → y ≡ padded 3 (nearest (take k vs) w)) → y ≡ x
-  found e = e (K .factor) (Greedy.vectors rows) (getD rows k blank .vector) meant ∙ ap (λ l. padded 3 (nearest l (getD rows k blank .vector))) (Passing.front-is (t .positive) k rows r three)
+  pub known : {n : ℤ} → n ≡ nth (getD g k []) k → KnownNear k n g (getD g k [])
+  known h = record { factor = K .factor; vectors = Greedy.vectors rows; target = getD rows k blank .vector; near = near; square = square-is h }
+
+  pub found : {n : ℤ} {y : List ℤ} → n ≡ nth (getD g k []) k → ((F : ℤ) (vs : List Vec) (w : Vec) → MeantNear F k vs w g (getD g k []) → F *ℤ n ≡ N w → y ≡ padded 4 (nearest (take k vs) w)) → y ≡ x
+  found h e = e (K .factor) (Greedy.vectors rows) (getD rows k blank .vector) near (square-is h) ∙ ap (λ l. padded 4 (nearest l (getD rows k blank .vector))) (Passing.front-is (t .positive) k rows r three)
 
   -- room for the row operations
   pub left-room : (j : ℕ) → Within 2000000000000000000 (nth x j *ℤ nth (getD g k [] ⊖ comb (take k x) (take k g)) j)
@@ -133,7 +140,7 @@ module _ {K : Kind} {k : ℕ} {g b u v : List (List ℤ)} {rows : List Row} (t :
   pub zero-behind : (j : ℕ) → k ≤ j → nth x j ≡ pos 0
   zero-behind j h =
       let count = Passing.x-count (t .positive) k rows r three in
-      nth-padded 3 (coefficients k rows) (omega (arith, count, three)) j ∙ List·getD-eq-default (coefficients k rows) (pos 0) (omega (arith, count, h))
+      nth-padded 4 (coefficients k rows) (omega (arith, count, three)) j ∙ List·getD-eq-default (coefficients k rows) (pos 0) (omega (arith, count, h))
 
   vectors-fit : (s : Bool) → K .vectors ≡ s → (i : ℕ) → natAbs (nth (getD (scaled (bit s) (Greedy.vectors rows)) k []) i) + load (take k x) (take k (scaled (bit s) (Greedy.vectors rows))) i ≤ room
   unfolding Room.x

@@ -1,6 +1,6 @@
 // The greedy steps on the Gram matrix: a pass, and the reduction of the first n rows on one vector fewer at each call of itself.
 ghost use mathlib.Core.Path.{_≡_};
-ghost use Prim.Native.Nat.{_≤_};
+ghost use Prim.Native.Nat.{_≤_, _<_};
 ghost use lib.ListN.{length};
 ghost use Rattle.gram_matrix.specs.Tied.{Held, Tied};
 ghost use Rattle.greedy_steps.specs.State.{passRows};
@@ -11,17 +11,17 @@ use gram_matrix::Work;
 use row_operations::Basis;
 
 // Steps 4 and 5 for row k, the rows before it being reduced: the vector nearest to it in their lattice is subtracted from it.
-// The search leaves the inner products of what is left, which are the new row of the Gram matrix.
+// The search leaves the inner products of what is left, which are the new row of the Gram matrix (Theorem 11 with row k as the target).
 fn pass(g: &mut Table, b: &mut Basis, u: &mut Table, v: &mut Table, k: usize)
-    requires { ⌜ k ≤ 3 ⌝ }
+    requires { ⌜ (0 < k) × (k ≤ 3) ⌝ }
     requires { ⌜ Held (now g) (now b) (now u) (now v) ⌝ }
     requires { ⌜ Passable k (now g) (now b) (now u) (now v) ⌝ }
     ensures { λ _. ⌜ Held (now (g .exit)) (now (b .exit)) (now (u .exit)) (now (v .exit)) ⌝ }
     ensures { λ _. ⌜ ((p : Passable k (now (g .entry)) (now (b .entry)) (now (u .entry)) (now (v .entry))) → Tied (p .kind) (passRows k (p .rows)) (now (g .exit)) (now (b .exit)) (now (u .exit)) (now (v .exit))) ⌝ }
 {
     let mut r = g[k];
-    let mut x = [0; 3];
-    nearest_of_three::among(g, k, &mut r, &mut x);
+    let mut x = [0; 4];
+    nearest_search::among(g, k, r[k], &mut r, &mut x);
     gram_matrix::lose_combination(b, u, v, k, &x);
     gram_matrix::cross(g, k, &r, &x);
 }

@@ -153,15 +153,17 @@ pub fn shaped(numbers: &[i64], d: usize, m: usize, b: &mut Basis) -> u64
     ACCEPTED
 }
 
-// The first refusal that applies to a target of vectors of m coordinates, and 0 for none.
-pub fn target_refusal(target: &[i64], m: usize) -> u64
+// The first refusal that applies to a target of vectors of m coordinates, and 0 for none; then t holds it, with zeros behind.
+pub fn target_refusal(target: &[i64], m: usize, t: &mut Vector) -> u64
     requires { ⌜ m ≤ mostCoordinates ⌝ }
     ensures { λ r. ⌜ r ≡ firstOf targetChecks (record { numbers = []; d = 0; m = m; target = now (target .entry) }) ⌝ }
+    ensures { λ r. ⌜ (r ≡ 0 → now (t .exit) ≡ padded mostCoordinates (take m (drop 0 (now (target .entry))))) ⌝ }
 {
     if target.len() != m {
         return 6;
     }
-    if long(vector(target, 0, m)) {
+    *t = vector(target, 0, m);
+    if long(*t) {
         return 7;
     }
     0

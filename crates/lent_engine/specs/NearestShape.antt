@@ -1,20 +1,21 @@
 -- How long the parts of an answer with a nearest vector are, and that its refusal fits a signed number.
-use mathlib.Core.Path.{_≡_, refl, _∙_, subst}
-use mathlib.Core.Bool.{false}
-use mathlib.Core.List.{List, [], _++_}
-use Prim.Native.Nat.{ℕ, zero, suc, _+_, _≤_}
+use mathlib.Core.Path.{_≡_, refl, ap, _∙_, subst}
+use mathlib.Core.Bool.{false, cond}
+use mathlib.Core.List.{List, [], _++_, append-assoc}
+use Prim.Native.Nat.{ℕ, zero, suc, _+_, _*_, _≤_}
 use native.Mathlib.Omega.{arith}
 use lib.IntN.{ℤ, pos}
 use lib.Signed.{leZ}
-use lib.ListN.{length, length-append}
-use lib.Seq.{sets}
+use lib.ListN.{length, take, drop, length-append}
+use lib.Seq.{sets, take-at, drop-at, drop-append-le}
+use borrow.Author.Tests.{le-leb}
 use Rattle.lattices.specs.Vector.{comb}
 use Rattle.lattices.specs.Nearest.{nearest}
 use Rattle.lattices.specs.Greedy.{vectors, reduction}
 use Rattle.lattices.specs.Refusal.{Input, basis, firstOf, vectorChecks, targetChecks, mostVectors, mostCoordinates}
 use Rattle.lattices.specs.Answer.{Nearest, noNearest, nearestGiven, nearestOf, Membership, membershipOf}
 use Rattle.lattices.specs.Laws.Answer.{length-padded}
-use Rattle.lent_numbers.specs.Layout.{nearestCount, head, layoutNearest, written}
+use Rattle.lent_numbers.specs.Layout.{nearestCount, head, layoutNearest, tenthsIn, written}
 use Rattle.lent_numbers.specs.Runs.{sets-then, written-long}
 use Rattle.lent_engine.specs.Shape.{first-most}
 
@@ -52,19 +53,36 @@ member-few i = go (firstOf (vectorChecks ++ targetChecks) i) (checks-most i)
     go (suc n) h = (h, omega arith)
 
 -- an answer stored part by part
-module _ {a : Nearest} (s : NearestShape a) where
-  length-layout : length (layoutNearest a) ≡ nearestCount
+module _ {a : Nearest} (s : NearestShape a) (tenths : List ℤ) (few : length tenths ≡ mostVectors) where
+  length-layout : length (layoutNearest a tenths) ≡ nearestCount
   unfolding layoutNearest
   length-layout =
-      length-append (head (a .refusal) (a .place) (a .square)) (a .coefficients ++ a .vector)
-      ∙ omega (arith, length-append (a .coefficients) (a .vector), s .coefficients, s .vector)
+      length-append (head (a .refusal) (a .place) (a .square)) (a .coefficients ++ (tenths ++ a .vector))
+      ∙ omega (arith, length-append (a .coefficients) (tenths ++ a .vector), length-append tenths (a .vector), s .coefficients, few, s .vector)
 
-  pub nearest-stored : (l : List ℤ) {p q x : List ℤ} → nearestCount ≤ length l
-      → p ≡ sets l 0 (head (a .refusal) (a .place) (a .square)) → q ≡ sets p 3 (a .coefficients) → x ≡ sets q (3 + mostVectors) (a .vector)
-      → x ≡ written l nearestCount (layoutNearest a)
+  pub nearest-stored : (l : List ℤ) {p q r x : List ℤ} → nearestCount ≤ length l
+      → p ≡ sets l 0 (head (a .refusal) (a .place) (a .square)) → q ≡ sets p 3 (a .coefficients) → r ≡ sets q (3 + mostVectors) tenths
+      → x ≡ sets r (3 + 2 * mostVectors) (a .vector)
+      → x ≡ written l nearestCount (layoutNearest a tenths)
   unfolding layoutNearest
-  nearest-stored l {p} {q} {x} h e f g =
-      g
-      ∙ sets-then p 3 (3 + mostVectors) (a .coefficients) (a .vector) f (omega (arith, s .coefficients))
-      ∙ sets-then l 0 3 (head (a .refusal) (a .place) (a .square)) (a .coefficients ++ a .vector) e refl
-      ∙ written-long l nearestCount (layoutNearest a) length-layout h
+  nearest-stored l {p} {q} {r} {x} h e f g k =
+      k
+      ∙ sets-then q (3 + mostVectors) (3 + 2 * mostVectors) tenths (a .vector) g (omega (arith, few))
+      ∙ sets-then p 3 (3 + mostVectors) (a .coefficients) (tenths ++ a .vector) f (omega (arith, s .coefficients))
+      ∙ sets-then l 0 3 (head (a .refusal) (a .place) (a .square)) (a .coefficients ++ (tenths ++ a .vector)) e refl
+      ∙ written-long l nearestCount (layoutNearest a tenths) length-layout h
+
+  -- the tenths stand where they are looked for
+  tenths-found : (rest : List ℤ) → tenthsIn (layoutNearest a tenths ++ rest) ≡ tenths
+  unfolding layoutNearest tenthsIn
+  tenths-found rest =
+      let before = a .coefficients in
+      let behind = tenths ++ a .vector in
+      let there : drop (3 + mostVectors) (head (a .refusal) (a .place) (a .square) ++ (before ++ behind)) ≡ behind =
+      drop-at before behind mostVectors (s .coefficients) in
+      ap (take mostVectors) (drop-append-le (3 + mostVectors) (head (a .refusal) (a .place) (a .square) ++ (before ++ behind)) rest (omega (arith, length-append before behind, s .coefficients)) ∙ ap (λ l. l ++ rest) there ∙ append-assoc tenths (a .vector) rest)
+      ∙ take-at tenths (a .vector ++ rest) mostVectors few
+
+  pub tenths-written : (l : List ℤ) {x : List ℤ} → nearestCount ≤ length l → x ≡ written l nearestCount (layoutNearest a tenths) → tenthsIn x ≡ tenths
+  tenths-written l h e =
+      ap tenthsIn (e ∙ ap (λ b. cond b (layoutNearest a tenths ++ drop nearestCount l) l) (le-leb nearestCount (length l) h)) ∙ tenths-found (drop nearestCount l)

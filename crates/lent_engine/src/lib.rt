@@ -1,10 +1,12 @@
 // The engine's services with their answers written to lent numbers; include/raghymtos.h gives their order.
 ghost use mathlib.Core.Path.{_≡_};
+ghost use mathlib.Core.Bool.{true};
 ghost use mathlib.Core.List.{[]};
 ghost use lib.Dec.{leb};
 ghost use lib.ListN.{length};
 ghost use Rattle.lattices.specs.Answer.{reductionOf, nearestOf, membershipOf};
-ghost use Rattle.lent_numbers.specs.Layout.{reductionCount, nearestCount, layout, layoutNearest, layoutMembership, written};
+ghost use Rattle.solutions.specs.Solution.{TenthsFor};
+ghost use Rattle.lent_numbers.specs.Layout.{reductionCount, nearestCount, layout, layoutNearest, tenthsIn, layoutMembership, written};
 use row_operations::WIDTH;
 
 // Where the parts of a reduction's answer begin, and how many numbers it takes.
@@ -17,7 +19,7 @@ const V_AT: usize = U_AT + 16;
 const REDUCTION: usize = V_AT + 16;
 
 // How many numbers the answer with a nearest vector takes.
-const NEAREST: usize = 7 + WIDTH;
+const NEAREST: usize = 11 + WIDTH;
 
 // How many numbers the answer of a membership takes.
 const MEMBER: usize = 3;
@@ -47,17 +49,20 @@ pub fn reduce(numbers: &[i64], d: usize, m: usize, out: &mut [i64]) -> bool
 // numbers of `out`; one with too few stays as it is.
 pub fn nearest(numbers: &[i64], d: usize, m: usize, target: &[i64], out: &mut [i64]) -> bool
     ensures { λ r. ⌜ r ≡ leb nearestCount (length (now (out .entry))) ⌝ }
-    ensures { λ _. ⌜ now (out .exit) ≡ written (now (out .entry)) nearestCount (layoutNearest (nearestOf (record { numbers = now (numbers .entry); d = d; m = m; target = now (target .entry) }))) ⌝ }
+    ensures { λ _. ⌜ now (out .exit) ≡ written (now (out .entry)) nearestCount (layoutNearest (nearestOf (record { numbers = now (numbers .entry); d = d; m = m; target = now (target .entry) })) (tenthsIn (now (out .exit)))) ⌝ }
+    ensures { λ r. ⌜ (r ≡ true → TenthsFor (record { numbers = now (numbers .entry); d = d; m = m; target = now (target .entry) }) (tenthsIn (now (out .exit)))) ⌝ }
 {
     if out.len() < NEAREST {
         return false;
     }
     let a = engine::nearest(numbers, d, m, target);
     let coefficients = a.coefficients;
+    let tenths = a.tenths;
     let vector = a.vector;
     lent_numbers::put_head(out, a.refusal, a.place, a.square);
     lent_numbers::put_row(out, 3, coefficients);
-    lent_numbers::put_vector(out, 7, vector);
+    lent_numbers::put_row(out, 7, tenths);
+    lent_numbers::put_vector(out, 11, vector);
     true
 }
 

@@ -4,7 +4,7 @@ use mathlib.Core.List.{List, [], _∷_, _++_}
 use Prim.Native.Nat.{ℕ, _+_, _*_}
 use lib.IntN.{ℤ, pos}
 use lib.Dec.{leb}
-use lib.ListN.{length, drop}
+use lib.ListN.{length, take, drop}
 use Rattle.lattices.specs.Refusal.{mostVectors, mostCoordinates}
 use Rattle.lattices.specs.Answer.{Reduction, Nearest, Membership}
 use Rattle.catalogue_rules.specs.Output.{Output}
@@ -15,9 +15,9 @@ use Rattle.separation_rules.specs.Separation.{Separation, same, differentM, dif
 abbrev pub reductionCount : ℕ
 reductionCount = 3 + mostVectors + mostVectors * mostCoordinates + 2 * (mostVectors * mostVectors)
 
--- R16.3: how many the answer with a nearest vector has: a head, the coefficients, the vector
+-- R16.3: how many the answer with a nearest vector has: a head, the coefficients, the solution in tenths, the vector
 abbrev pub nearestCount : ℕ
-nearestCount = 3 + mostVectors + mostCoordinates
+nearestCount = 3 + 2 * mostVectors + mostCoordinates
 
 -- R16.2: the rows of a table one after another
 abbrev pub flat : List (List ℤ) → List ℤ
@@ -32,9 +32,13 @@ head refusal place number = pos refusal ∷ pos place ∷ number ∷ []
 unfoldable pub layout : Reduction → List ℤ
 layout a = head (a .refusal) (a .place) (pos (a .passes)) ++ (a .squares ++ (flat (a .basis) ++ (flat (a .u) ++ flat (a .v))))
 
--- R16.3: the answer with a nearest vector: head with the squared distance, coefficients, vector
-unfoldable pub layoutNearest : Nearest → List ℤ
-layoutNearest a = head (a .refusal) (a .place) (a .square) ++ (a .coefficients ++ a .vector)
+-- R16.3: the answer with a nearest vector: head with the squared distance, coefficients, the solution in tenths, vector
+unfoldable pub layoutNearest : Nearest → List ℤ → List ℤ
+layoutNearest a tenths = head (a .refusal) (a .place) (a .square) ++ (a .coefficients ++ (tenths ++ a .vector))
+
+-- R16.3: the tenths that stand in such an answer
+unfoldable pub tenthsIn : List ℤ → List ℤ
+tenthsIn numbers = take mostVectors (drop (3 + mostVectors) numbers)
 
 -- R16.4: 1 for yes, 0 for no
 abbrev pub flag : Bool → ℤ

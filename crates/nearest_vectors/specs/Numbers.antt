@@ -12,7 +12,7 @@ use Rattle.lattices.specs.Vector.{Vec, nth, dot}
 use Rattle.lattices.specs.Answer.{padded}
 use Rattle.lattices.specs.Laws.Answer.{length-padded}
 use Rattle.gram_matrix.specs.Formed.{products, formed, nth-products, nth-formed, formed-wide}
-use Rattle.nearest_of_three.specs.Formed.{ProductsOf, GramOf}
+use Rattle.nearest_steps.specs.Formed.{ProductsOf, GramOf}
 
 pub products-of : (bs : List Vec) (v : Vec) {r : List ℤ} → length bs ≤ 4 → r ≡ products bs v → ProductsOf bs v r
 products-of bs v {r} h e = subst (ProductsOf bs v) (sym e)

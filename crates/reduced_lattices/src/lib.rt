@@ -44,6 +44,8 @@ pub fn squared_to(l: Lattice, t: Vector) -> i64
     let mut g = [[0; 4]; 4];
     gram_matrix::formed(&b, l.d, &mut g);
     let mut rest = t;
-    nearest_vectors::lose_nearest(&g, &b, l.d, &mut rest);
+    let mut tenths = [0; 4];
+    let n = row_operations::dot(t, t);
+    nearest_vectors::lose_nearest(&g, &b, l.d, n, &mut rest, &mut tenths);
     row_operations::dot(rest, rest)
 }

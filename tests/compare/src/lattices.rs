@@ -2,6 +2,7 @@
 
 use reference::cases::{cases, Case, KINDS};
 
+use crate::tenths::Tenths;
 use crate::widths::Widths;
 use crate::{membership, nearest, reduction};
 
@@ -20,11 +21,13 @@ struct Counts {
     /// Inputs whose reduction is answered, and of these such whose nearest vector is.
     reduced: Widths,
     found: Widths,
+    tenths: Tenths,
 }
 
 impl Counts {
     fn compare(&mut self, case: &Case, is_sample: bool) -> Result<(), String> {
-        let (reduced, found) = (reduction::compare(case)?, nearest::compare(case)?);
+        let reduced = reduction::compare(case)?;
+        let found = nearest::compare(case, &mut self.tenths)?;
         self.reductions[reduced] += 1;
         self.nearest[found] += 1;
         if reduced == 0 {
@@ -81,7 +84,8 @@ pub fn compare(count: usize, first: u64) -> Result<(), String> {
     println!("{done} inputs, seeds {first} to {}", seed - 1);
     counts.print();
     counts.reduced.print("inputs reduced", count)?;
-    counts.found.print("nearest vectors found", count)
+    counts.found.print("nearest vectors found", count)?;
+    counts.tenths.print(count)
 }
 
 /// The input as a request.

@@ -12,6 +12,7 @@ mod nearest;
 mod reduction;
 mod references;
 mod separations;
+mod tenths;
 mod widths;
 
 use std::process::ExitCode;

@@ -12,7 +12,7 @@ pub mod vectors;
 
 use catalogue::hermite::{hermite, with};
 use search::nearest_coefficients;
-use vectors::{combination, coordinates, minus, rank, rows, square};
+use vectors::{combination, coordinate, coordinates, minus, rank, rows, square};
 
 /// The most vectors.
 pub const MOST_VECTORS: usize = 4;
@@ -46,6 +46,9 @@ pub struct Nearest {
     pub vector: Vec<i64>,
     /// The coefficients on the reduced basis.
     pub coefficients: Vec<i64>,
+    /// For each reduced vector the least and the greatest whole number of tenths that is less than a tenth from the exact solution of the
+    /// target's linear system: the same twice where the solution is in whole tenths.
+    pub tenths: Vec<(i64, i64)>,
     /// The squared distance.
     pub square: i64,
 }
@@ -95,12 +98,16 @@ pub fn nearest(numbers: &[i64], d: usize, m: usize, target: &[i64]) -> Nearest {
             place: 0,
             vector: vec![],
             coefficients: vec![],
+            tenths: vec![],
             square: 0,
         };
     }
     let mut basis = rows(numbers, m);
     greedy(&mut basis, &mut 0);
     let coefficients = nearest_coefficients(&basis, target);
+    let tenths = (0..d)
+        .map(|i| neighbours(coordinate(&basis, i, target)))
+        .collect();
     let vector = combination(&coefficients, &basis, m);
     let square = square(&minus(target, 1, &vector));
     Nearest {
@@ -108,8 +115,16 @@ pub fn nearest(numbers: &[i64], d: usize, m: usize, target: &[i64]) -> Nearest {
         place: 0,
         vector,
         coefficients,
+        tenths,
         square,
     }
+}
+
+/// The whole numbers of tenths less than a tenth from a fraction, the least and the greatest.
+fn neighbours((top, bottom): (i128, i128)) -> (i64, i64) {
+    let (whole, rest) = ((10 * top).div_euclid(bottom), (10 * top).rem_euclid(bottom));
+    let below = i64::try_from(whole).unwrap();
+    (below, below + (rest != 0) as i64)
 }
 
 /// Whether the target is in the lattice, or the refusal's number: by the Hermite normal form, which a vector of the lattice leaves as it

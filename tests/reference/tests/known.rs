@@ -93,11 +93,28 @@ fn p9_p10() {
             place: 0,
             vector: vec![0, 0],
             coefficients: vec![0, 0],
+            tenths: vec![(5, 5), (5, 5)],
             square: 2
         }
     );
     let n = nearest(&[20, 0, 10, 20], 2, 2, &[14, 9]);
     assert_eq!((n.vector, n.square), (vec![20, 0], 117));
+    assert_eq!(n.tenths, [(4, 5), (4, 5)]);
+}
+
+/// In whole tenths and between them, below zero, and for targets beside the span.
+#[test]
+fn tenths() {
+    let of = |numbers: &[i64], d, m, target: &[i64]| nearest(numbers, d, m, target).tenths;
+    assert_eq!(of(&[20, 0, 10, 20], 2, 2, &[14, 8]), [(5, 5), (4, 4)]);
+    assert_eq!(of(&[3], 1, 1, &[1]), [(3, 4)]);
+    assert_eq!(of(&[3], 1, 1, &[-1]), [(-4, -3)]);
+    assert_eq!(of(&[-3], 1, 1, &[6]), [(-20, -20)]);
+    assert_eq!(of(&[0, 10], 1, 2, &[7, -1]), [(-1, -1)]);
+    assert_eq!(of(&[1, 1], 1, 2, &[1, -1]), [(0, 0)]);
+    assert_eq!(of(&[1, 1, 0, 0, 1, 1], 2, 3, &[1, 1, 1]), [(6, 7); 2]);
+    assert_eq!(of(&[1], 1, 1, &[20_000]), [(200_000, 200_000)]);
+    assert_eq!(of(&[1], 1, 1, &[]), []);
 }
 
 /// The lattice A4, in five coordinates: each root that follows is as near to its sum with those before as to itself.
@@ -127,6 +144,7 @@ fn five_coordinates() {
         (n.vector, n.coefficients, n.square),
         (vec![0, 5, 0, 0, -5], vec![-1, 0, 0, 1], 30)
     );
+    assert_eq!(n.tenths, [(-6, -6), (4, 4), (4, 4), (4, 4)]);
 }
 
 /// Four vectors of the lattice E8 in doubled coordinates, with the inner products of twice those of p6.
@@ -153,6 +171,7 @@ fn eight_coordinates() {
         (n.vector, n.coefficients, n.square),
         (vec![1; 8], vec![0, 0, 0, 1], 4)
     );
+    assert_eq!(n.tenths, [(5, 5), (5, 5), (5, 5), (0, 0)]);
 }
 
 /// Vectors that are the same but for the last of eight coordinates are independent.

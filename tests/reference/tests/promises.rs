@@ -3,7 +3,7 @@
 use reference::cases::{case, cases, Kind, ACCEPTED, KINDS};
 use reference::enumeration::{box_nearest, lists, minima};
 use reference::random::Random;
-use reference::vectors::{combination, minus, rank, rows, square, squared_volume};
+use reference::vectors::{combination, coordinate, dot, minus, rank, rows, square, squared_volume};
 use reference::{nearest, reduce, MOST_COORDINATES, MOST_SQUARE, MOST_VECTORS};
 
 /// Counts for each d and m.
@@ -116,6 +116,48 @@ fn nearest_is_the_least_of_a_box() {
         }
     }
     assert!(all_above(&tried, 20), "{tried:?}");
+}
+
+/// Held modulo a prime, since the products pass 128 bits.
+#[test]
+fn the_solution_solves_its_system() {
+    const PRIME: i128 = (1 << 61) - 1;
+    let mut tried = Sizes::default();
+    let (mut one, mut two) = (Sizes::default(), Sizes::default());
+    for c in cases(6, 24_000) {
+        let n = nearest(&c.numbers, c.d, c.m, &c.target);
+        if n.refusal != 0 {
+            assert_eq!(n.tenths, [], "{c:?}");
+            continue;
+        }
+        tried[c.d][c.m] += 1;
+        let basis = reduce(&c.numbers, c.d, c.m).vectors;
+        let solution: Vec<(i128, i128)> =
+            (0..c.d).map(|i| coordinate(&basis, i, &c.target)).collect();
+        let bottom = solution[0].1;
+        assert!(bottom > 0, "{c:?}");
+        for b in &basis {
+            let sum: i128 = solution
+                .iter()
+                .zip(&basis)
+                .map(|((top, _), a)| top % PRIME * dot(a, b) as i128 % PRIME)
+                .sum();
+            let wanted = bottom % PRIME * dot(&c.target, b) as i128;
+            assert_eq!((sum - wanted) % PRIME, 0, "{c:?}");
+        }
+        assert_eq!(n.tenths.len(), c.d, "{c:?}");
+        for (&(low, high), &(top, bottom)) in n.tenths.iter().zip(&solution) {
+            // both are less than a tenth away, the next ones are not
+            let near = |s: i64| (s as i128 * bottom - 10 * top).abs() < bottom;
+            let all = [low - 1, low, high, high + 1].map(near);
+            assert_eq!(all, [false, true, true, false], "{c:?}");
+            one[c.d][c.m] += (low == high) as u64;
+            two[c.d][c.m] += (low + 1 == high) as u64;
+        }
+    }
+    for sizes in [tried, one, two] {
+        assert!(all_above(&sizes, 20), "{sizes:?}");
+    }
 }
 
 #[test]

@@ -5,10 +5,11 @@ use mathlib.Core.Path.{_≡_, sym, ap, _∙_, subst}
 use native.Mathlib.Omega.{arith}
 use lib.ListN.{drop}
 use borrow.Author.Tests.{not-true, not-false}
-use Rattle.text_output.specs.Puts.{Puts}
 use Rattle.text_parts.specs.Parts.{isSemicolon}
 use Rattle.text_parts.specs.Counts.{countsAt}
 use Rattle.cli_replies.specs.Cases.{behind, first-of, second-of}
+use Rattle.cli_replies.specs.Reply.{Told, always}
+use Rattle.cli_replies.specs.Told.{told-always}
 use Rattle.cli_replies.specs.Replies.{mistakeText, withVectors}
 use Rattle.cli_replies.proofs.about_target.Statement.{statement}
 use Rattle.cli_replies.proofs.about_target.Tie as tie
@@ -35,9 +36,9 @@ returns c =
     let a = c .before .before .before .before .before .before .before .before .before .args in
     let s = a .s .now in
     let q = countsAt s in
-    let text = ap (λ x. mistakeText (a .line) (x .stop)) (r .read-counts .ensures .0)
-    ∙ second-of (withVectors (a .wanted) (a .line) (q .d) (q .m) (drop (q .length) s)) (mistakeText (a .line) (q .stop)) (sym (stops (c .before .before .before .before .before)) ∙ not-true _ (c .before .before .before .before .if1 .taken)) in
-    (subst (λ t. Puts t (a .out .now) (a .at) (p .put-mistake .last .0) (p .put-mistake .result)) text (p .put-mistake .ensures .0), omega (arith, p .put-mistake .ensures .1))
+    let text = ap (λ x. always (mistakeText (a .line) (x .stop))) (r .read-counts .ensures .0)
+    ∙ second-of (withVectors (a .wanted) (a .line) (q .d) (q .m) (drop (q .length) s)) (always (mistakeText (a .line) (q .stop))) (sym (stops (c .before .before .before .before .before)) ∙ not-true _ (c .before .before .before .before .if1 .taken)) in
+    (subst (λ t. Told t (a .out .now) (a .at) (p .put-mistake .last .0) (p .put-mistake .result)) text (told-always (p .put-mistake .ensures .0)), omega (arith, p .put-mistake .ensures .1))
 
 sub-with-vectors : tie.Need-sub-with-vectors
 sub-with-vectors c = search needs
@@ -69,8 +70,8 @@ returns-2 c =
     let q = countsAt s in
     let text = ap (withVectors (a .wanted) (a .line) (r .read-counts .result .d) (r .read-counts .result .m)) (behind (r .read-counts .result .length) s)
     ∙ ap (λ x. withVectors (a .wanted) (a .line) (x .d) (x .m) (drop (x .length) s)) (r .read-counts .ensures .0)
-    ∙ first-of (withVectors (a .wanted) (a .line) (q .d) (q .m) (drop (q .length) s)) (mistakeText (a .line) (q .stop)) (sym (stops (c .before .before .before .before .before .before .before .before .before .before)) ∙ not-false _ (c .before .before .before .before .before .before .before .before .before .if1 .left)) in
-    (subst (λ t. Puts t (a .out .now) (a .at) (p .with-vectors .last .0) (p .with-vectors .result)) text (p .with-vectors .ensures .0), p .with-vectors .ensures .1)
+    ∙ first-of (withVectors (a .wanted) (a .line) (q .d) (q .m) (drop (q .length) s)) (always (mistakeText (a .line) (q .stop))) (sym (stops (c .before .before .before .before .before .before .before .before .before .before)) ∙ not-false _ (c .before .before .before .before .before .before .before .before .before .if1 .left)) in
+    (subst (λ t. Told t (a .out .now) (a .at) (p .with-vectors .last .0) (p .with-vectors .result)) text (p .with-vectors .ensures .0), p .with-vectors .ensures .1)
 
 pub about-target-spec : {M : Type 1} → statement M
 about-target-spec =

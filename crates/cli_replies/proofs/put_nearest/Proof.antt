@@ -1,4 +1,4 @@
--- The vectors, then the engine's answer, which is the definition's.
+-- The vectors, then the engine's answer, which is the definition's, with the engine's tenths.
 use borrow.Author.Needs.{needs}
 use Prim.Native.Nat.{_≤_, _-_}
 use mathlib.Core.Path.{subst}
@@ -28,8 +28,12 @@ returns c =
     let b = c .before .before .before .before .before .before in
     let n = c .before .before .before .before .before .before .before .before in
     let a = c .before .before .before .before .before .before .before .before .before .before .args in (
-      subst (λ r. Puts (basisOf (a .basis) (r .refusal) (a .d) (a .m) (a .numbers .now) ++ nearestText (a .d) (a .m) r) (a .out .now) (a .at) (p .put-nearest .last .0) (p .put-nearest .result)) (n .nearest .ensures)
-          (puts-then (b .put-basis .ensures .0) (p .put-nearest .ensures .0)),
+      record {
+        tenths = n .nearest .result .tenths;
+        right = (n .nearest .ensures .1, tt);
+        puts = subst (λ r. Puts (basisOf (a .basis) (r .refusal) (a .d) (a .m) (a .numbers .now) ++ nearestText (a .d) (a .m) r) (a .out .now) (a .at) (p .put-nearest .last .0) (p .put-nearest .result)) (n .nearest .ensures .0)
+            (puts-then (b .put-basis .ensures .0) (p .put-nearest .ensures .0));
+      },
       omega (arith, p .put-nearest .ensures .1, b .put-basis .ensures .1),
     )
 

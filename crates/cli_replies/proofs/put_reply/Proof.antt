@@ -2,7 +2,8 @@
 use borrow.Author.Needs.{needs}
 use mathlib.Core.Path.{sym, subst}
 use native.Mathlib.Omega.{arith}
-use Rattle.text_output.specs.Puts.{Puts}
+use Rattle.cli_replies.specs.Reply.{Told}
+use Rattle.cli_replies.specs.Told.{told-always}
 use Rattle.cli_replies.specs.Replies.{reply}
 use Rattle.cli_replies.proofs.put_reply.Statement.{statement}
 use Rattle.cli_replies.proofs.put_reply.Tie as tie
@@ -41,7 +42,7 @@ returns : tie.Need-returns
 returns c =
     let p = c .before .before .before in
     let a = c .before .before .before .before .before .before .before .before .before .before .args in
-    (subst (λ k. Puts (reply k (a .line) (a .s .now)) (a .out .now) (a .at) (p .reduce .last .0) (p .reduce .result)) (sym (c .before .before .before .before .before .before .enum-told .given .1)) (p .reduce .ensures .0), p .reduce .ensures .1)
+    (subst (λ k. Told (reply k (a .line) (a .s .now)) (a .out .now) (a .at) (p .reduce .last .0) (p .reduce .result)) (sym (c .before .before .before .before .before .before .enum-told .given .1)) (told-always (p .reduce .ensures .0)), p .reduce .ensures .1)
 
 same-length-3 : tie.Need-same-length-3
 same-length-3 c = search needs
@@ -56,7 +57,7 @@ returns-2 : tie.Need-returns-2
 returns-2 c =
     let p = c .before .before .before .before in
     let a = c .before .before .before .before .before .before .before .before .before .before .before .before .args in
-    (subst (λ k. Puts (reply k (a .line) (a .s .now)) (a .out .now) (a .at) (p .about-target .last .0) (p .about-target .result)) (sym (c .before .before .before .before .before .before .before .before .enum-told2 .given .1)) (p .about-target .ensures .0), omega (arith, p .about-target .ensures .1))
+    (subst (λ k. Told (reply k (a .line) (a .s .now)) (a .out .now) (a .at) (p .about-target .last .0) (p .about-target .result)) (sym (c .before .before .before .before .before .before .before .before .enum-told2 .given .1)) (p .about-target .ensures .0), omega (arith, p .about-target .ensures .1))
 
 same-length-6 : tie.Need-same-length-6
 same-length-6 c = search needs
@@ -71,7 +72,7 @@ returns-3 : tie.Need-returns-3
 returns-3 c =
     let p = c .before .before .before .before in
     let a = c .before .before .before .before .before .before .before .before .before .before .before .before .args in
-    (subst (λ k. Puts (reply k (a .line) (a .s .now)) (a .out .now) (a .at) (p .about-target2 .last .0) (p .about-target2 .result)) (sym (c .before .before .before .before .before .before .before .before .enum-told3 .given .1)) (p .about-target2 .ensures .0), omega (arith, p .about-target2 .ensures .1))
+    (subst (λ k. Told (reply k (a .line) (a .s .now)) (a .out .now) (a .at) (p .about-target2 .last .0) (p .about-target2 .result)) (sym (c .before .before .before .before .before .before .before .before .enum-told3 .given .1)) (p .about-target2 .ensures .0), omega (arith, p .about-target2 .ensures .1))
 
 same-length-9 : tie.Need-same-length-9
 same-length-9 c = search needs
@@ -86,7 +87,7 @@ returns-4 : tie.Need-returns-4
 returns-4 c =
     let p = c .before .before .before .before in
     let a = c .before .before .before .before .before .before .before .before .before .before .before .before .args in
-    (subst (λ k. Puts (reply k (a .line) (a .s .now)) (a .out .now) (a .at) (p .about-target3 .last .0) (p .about-target3 .result)) (sym (c .before .before .before .before .before .before .before .before .enum-told4 .given .1)) (p .about-target3 .ensures .0), omega (arith, p .about-target3 .ensures .1))
+    (subst (λ k. Told (reply k (a .line) (a .s .now)) (a .out .now) (a .at) (p .about-target3 .last .0) (p .about-target3 .result)) (sym (c .before .before .before .before .before .before .before .before .enum-told4 .given .1)) (p .about-target3 .ensures .0), omega (arith, p .about-target3 .ensures .1))
 
 pub put-reply-spec : {M : Type 1} → statement M
 put-reply-spec =

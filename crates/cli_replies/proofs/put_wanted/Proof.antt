@@ -2,7 +2,8 @@
 use borrow.Author.Needs.{needs}
 use mathlib.Core.Path.{sym, subst}
 use native.Mathlib.Omega.{arith}
-use Rattle.text_output.specs.Puts.{Puts}
+use Rattle.cli_replies.specs.Reply.{Told}
+use Rattle.cli_replies.specs.Told.{told-always}
 use Rattle.cli_replies.specs.Replies.{wantedOf}
 use Rattle.cli_replies.proofs.put_wanted.Statement.{statement}
 use Rattle.cli_replies.proofs.put_wanted.Tie as tie
@@ -32,7 +33,7 @@ returns : tie.Need-returns
 returns c =
     let p = c .before .before in
     let a = c .before .before .before .before .before .before .before .args in
-    (subst (λ k. Puts (wantedOf k (a .d) (a .m) (a .numbers .now) (a .target .now)) (a .out .now) (a .at) (p .put-nearest .last .0) (p .put-nearest .result)) (sym (p .before .before .enum-told .given .1)) (p .put-nearest .ensures .0), omega (arith, p .put-nearest .ensures .1))
+    (subst (λ k. Told (wantedOf k (a .d) (a .m) (a .numbers .now) (a .target .now)) (a .out .now) (a .at) (p .put-nearest .last .0) (p .put-nearest .result)) (sym (p .before .before .enum-told .given .1)) (p .put-nearest .ensures .0), omega (arith, p .put-nearest .ensures .1))
 
 same-length-2 : tie.Need-same-length-2
 same-length-2 c = search needs
@@ -41,7 +42,7 @@ returns-2 : tie.Need-returns-2
 returns-2 c =
     let p = c .before .before in
     let a = c .before .before .before .before .before .before .before .args in
-    (subst (λ k. Puts (wantedOf k (a .d) (a .m) (a .numbers .now) (a .target .now)) (a .out .now) (a .at) (p .put-nearest2 .last .0) (p .put-nearest2 .result)) (sym (p .before .before .enum-told2 .given .1)) (p .put-nearest2 .ensures .0), omega (arith, p .put-nearest2 .ensures .1))
+    (subst (λ k. Told (wantedOf k (a .d) (a .m) (a .numbers .now) (a .target .now)) (a .out .now) (a .at) (p .put-nearest2 .last .0) (p .put-nearest2 .result)) (sym (p .before .before .enum-told2 .given .1)) (p .put-nearest2 .ensures .0), omega (arith, p .put-nearest2 .ensures .1))
 
 same-length-3 : tie.Need-same-length-3
 same-length-3 c = search needs
@@ -50,7 +51,7 @@ returns-3 : tie.Need-returns-3
 returns-3 c =
     let p = c .before .before in
     let a = c .before .before .before .before .before .before .before .args in
-    (subst (λ k. Puts (wantedOf k (a .d) (a .m) (a .numbers .now) (a .target .now)) (a .out .now) (a .at) (p .put-member .last .0) (p .put-member .result)) (sym (p .before .before .enum-told3 .given .1)) (p .put-member .ensures .0), omega (arith, p .put-member .ensures .1))
+    (subst (λ k. Told (wantedOf k (a .d) (a .m) (a .numbers .now) (a .target .now)) (a .out .now) (a .at) (p .put-member .last .0) (p .put-member .result)) (sym (p .before .before .enum-told3 .given .1)) (told-always (p .put-member .ensures .0)), omega (arith, p .put-member .ensures .1))
 
 pub put-wanted-spec : {M : Type 1} → statement M
 put-wanted-spec =

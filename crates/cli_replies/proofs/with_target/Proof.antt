@@ -6,9 +6,10 @@ use native.Mathlib.Omega.{arith}
 use lib.ListN.{length, take, drop}
 use lib.Seq.{length-take-le}
 use borrow.Author.Tests.{not-true, not-false}
-use Rattle.text_output.specs.Puts.{Puts}
 use Rattle.text_parts.specs.Parts.{isEnd, takenAt, partOf, filled}
 use Rattle.cli_replies.specs.Cases.{behind, numbers-of, first-of, second-of}
+use Rattle.cli_replies.specs.Reply.{Told, always}
+use Rattle.cli_replies.specs.Told.{told-always}
 use Rattle.cli_replies.specs.Replies.{mistakeText, wantedOf, mostListed}
 use Rattle.cli_replies.proofs.with_target.Statement.{statement}
 use Rattle.cli_replies.proofs.with_target.Tie as tie
@@ -46,8 +47,8 @@ returns c =
     let r = c .before .before .before .before .before .before .before in
     let a = c .before .before .before .before .before .before .before .before .before .before .before .args in
     let q = takenAt mostListed (a .s .now) in
-    let text = ap (λ x. mistakeText (a .line) (x .stop)) (part r) ∙ second-of (wantedOf (a .wanted) (a .d) (a .m) (a .numbers .now) (q .numbers)) (mistakeText (a .line) (q .stop)) (sym (stops (c .before .before .before .before .before)) ∙ not-true _ (c .before .before .before .before .if1 .taken)) in
-    (subst (λ t. Puts t (a .out .now) (a .at) (p .put-mistake .last .0) (p .put-mistake .result)) text (p .put-mistake .ensures .0), omega (arith, p .put-mistake .ensures .1))
+    let text = ap (λ x. always (mistakeText (a .line) (x .stop))) (part r) ∙ second-of (wantedOf (a .wanted) (a .d) (a .m) (a .numbers .now) (q .numbers)) (always (mistakeText (a .line) (q .stop))) (sym (stops (c .before .before .before .before .before)) ∙ not-true _ (c .before .before .before .before .if1 .taken)) in
+    (subst (λ t. Told t (a .out .now) (a .at) (p .put-mistake .last .0) (p .put-mistake .result)) text (told-always (p .put-mistake .ensures .0)), omega (arith, p .put-mistake .ensures .1))
 
 slice-reshare-prefix-put-wanted : tie.Need-slice-reshare-prefix-put-wanted
 slice-reshare-prefix-put-wanted c = search needs
@@ -70,8 +71,8 @@ returns-2 c =
     let r = c .before .before .before .before .before .before .before .before in
     let a = c .before .before .before .before .before .before .before .before .before .before .before .before .args in
     let q = takenAt mostListed (a .s .now) in
-    let text = ap (wantedOf (a .wanted) (a .d) (a .m) (a .numbers .now)) (cut r) ∙ first-of (wantedOf (a .wanted) (a .d) (a .m) (a .numbers .now) (q .numbers)) (mistakeText (a .line) (q .stop)) (sym (stops (c .before .before .before .before .before .before)) ∙ not-false _ (c .before .before .before .before .before .if1 .left)) in
-    (subst (λ t. Puts t (a .out .now) (a .at) (p .put-wanted .last .0) (p .put-wanted .result)) text (p .put-wanted .ensures .0), p .put-wanted .ensures .1)
+    let text = ap (wantedOf (a .wanted) (a .d) (a .m) (a .numbers .now)) (cut r) ∙ first-of (wantedOf (a .wanted) (a .d) (a .m) (a .numbers .now) (q .numbers)) (always (mistakeText (a .line) (q .stop))) (sym (stops (c .before .before .before .before .before .before)) ∙ not-false _ (c .before .before .before .before .before .if1 .left)) in
+    (subst (λ t. Told t (a .out .now) (a .at) (p .put-wanted .last .0) (p .put-wanted .result)) text (p .put-wanted .ensures .0), p .put-wanted .ensures .1)
 
 pub with-target-spec : {M : Type 1} → statement M
 with-target-spec =

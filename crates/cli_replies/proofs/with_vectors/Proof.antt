@@ -6,9 +6,10 @@ use native.Mathlib.Omega.{arith}
 use lib.ListN.{length, take, drop}
 use lib.Seq.{length-take-le}
 use borrow.Author.Tests.{not-true, not-false}
-use Rattle.text_output.specs.Puts.{Puts}
 use Rattle.text_parts.specs.Parts.{isSemicolon, takenAt, partOf, filled}
 use Rattle.cli_replies.specs.Cases.{behind, numbers-of, first-of, second-of}
+use Rattle.cli_replies.specs.Reply.{Told, always}
+use Rattle.cli_replies.specs.Told.{told-always}
 use Rattle.cli_replies.specs.Replies.{mistakeText, withTarget, mostListed}
 use Rattle.cli_replies.proofs.with_vectors.Statement.{statement}
 use Rattle.cli_replies.proofs.with_vectors.Tie as tie
@@ -46,8 +47,8 @@ returns c =
     let r = c .before .before .before .before .before .before .before in
     let a = c .before .before .before .before .before .before .before .before .before .before .before .args in
     let q = takenAt mostListed (a .s .now) in
-    let text = ap (λ x. mistakeText (a .line) (x .stop)) (part r) ∙ second-of (withTarget (a .wanted) (a .line) (a .d) (a .m) (q .numbers) (drop (q .length) (a .s .now))) (mistakeText (a .line) (q .stop)) (sym (stops (c .before .before .before .before .before)) ∙ not-true _ (c .before .before .before .before .if1 .taken)) in
-    (subst (λ t. Puts t (a .out .now) (a .at) (p .put-mistake .last .0) (p .put-mistake .result)) text (p .put-mistake .ensures .0), omega (arith, p .put-mistake .ensures .1))
+    let text = ap (λ x. always (mistakeText (a .line) (x .stop))) (part r) ∙ second-of (withTarget (a .wanted) (a .line) (a .d) (a .m) (q .numbers) (drop (q .length) (a .s .now))) (always (mistakeText (a .line) (q .stop))) (sym (stops (c .before .before .before .before .before)) ∙ not-true _ (c .before .before .before .before .if1 .taken)) in
+    (subst (λ t. Told t (a .out .now) (a .at) (p .put-mistake .last .0) (p .put-mistake .result)) text (told-always (p .put-mistake .ensures .0)), omega (arith, p .put-mistake .ensures .1))
 
 slice-reshare-prefix-with-target : tie.Need-slice-reshare-prefix-with-target
 slice-reshare-prefix-with-target c = search needs
@@ -85,8 +86,8 @@ returns-2 c =
     let q = takenAt mostListed s in
     let whole = withTarget (a .wanted) (a .line) (a .d) (a .m) in
     let text = (λ j. whole (cut r j) (behind (r .read-part .result .length) s j)) ∙ ap (λ x. whole (q .numbers) (drop (x .length) s)) (part r)
-    ∙ first-of (whole (q .numbers) (drop (q .length) s)) (mistakeText (a .line) (q .stop)) (sym (stops (c .before .before .before .before .before .before .before .before .before)) ∙ not-false _ (c .before .before .before .before .before .before .before .before .if1 .left)) in
-    (subst (λ t. Puts t (a .out .now) (a .at) (p .with-target .last .0) (p .with-target .result)) text (p .with-target .ensures .0), p .with-target .ensures .1)
+    ∙ first-of (whole (q .numbers) (drop (q .length) s)) (always (mistakeText (a .line) (q .stop))) (sym (stops (c .before .before .before .before .before .before .before .before .before)) ∙ not-false _ (c .before .before .before .before .before .before .before .before .if1 .left)) in
+    (subst (λ t. Told t (a .out .now) (a .at) (p .with-target .last .0) (p .with-target .result)) text (p .with-target .ensures .0), p .with-target .ensures .1)
 
 pub with-vectors-spec : {M : Type 1} → statement M
 with-vectors-spec =

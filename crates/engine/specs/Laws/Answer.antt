@@ -33,7 +33,7 @@ use Rattle.gram_matrix.specs.Formed.{products, formed, formed-is}
 use Rattle.gram_matrix.specs.Tied.{whole, Tied, tied-diagonal, tied-length-gram, tied-square}
 use Rattle.gram_matrix.specs.Passed.{tied-entry}
 use Rattle.gram_matrix.specs.Lose.{row-wide}
-use Rattle.nearest_of_three.specs.Formed.{GramOf}
+use Rattle.nearest_steps.specs.Formed.{GramOf}
 use Rattle.gram_matrix.specs.Work as Work
 use Rattle.gram_matrix.specs.Work.{vectorsIn, tableIn, diagonalOf}
 use Rattle.engine.specs.declared.Reduction.{Reduction}

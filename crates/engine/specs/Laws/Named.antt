@@ -27,26 +27,30 @@ use Rattle.greedy_reduction.specs.Exactness.{comb-full}
 use Rattle.greedy_reduction.specs.Padding.{padded-N, comb-padded, padded-minus, nearest-padded}
 use Rattle.greedy_reduction.specs.Accepted.{targeted}
 use Rattle.greedy_reduction.specs.Demand.{accepted-nearest, first-passed}
-use Rattle.nearest_of_four.specs.Near.{Near}
+use Rattle.solutions.specs.Solution.{PaddedTenths, TenthsFor}
+use Rattle.nearest_search.specs.Near.{Near}
 use Rattle.engine.specs.declared.NearestVector.{NearestVector}
 use Rattle.engine.specs.Packed.{packedNearest}
 use Rattle.greedy_steps.specs.Fine.{fine-greedy}
 use Rattle.greedy_steps.specs.Room.{short-rows}
+use Rattle.engine.specs.Laws.Tenths.{tenths-padded}
 use Rattle.engine.specs.Laws.Begin.{first-fine}
 use Rattle.engine.specs.Laws.Finish.{R, accept, some, outs-count, outs-full, outs-rows, last-vectors, last-reduced}
 
--- the answer from the coefficients and what is left of the target
-unfoldable pub named : Vec → List ℤ → Vec → NearestVector
-named t x rest = record { refusal = 0; place = 0; vector = t ⊖ pos 1 ⊙ rest; coefficients = x; square = dot rest rest }
+-- the answer from the coefficients, the tenths and what is left of the target
+unfoldable pub named : Vec → List ℤ → List ℤ → Vec → NearestVector
+named t x s rest = record { refusal = 0; place = 0; vector = t ⊖ pos 1 ⊙ rest; coefficients = x; tenths = s; square = dot rest rest }
 
 -- an answer from the nearest vector of the first d vectors
 pub record Answered (d : ℕ) (b : List Vec) (t : Vec) (r : NearestVector) : Type 0 where
   pub list : List ℤ
+  pub parts : List ℤ
   pub rest : Vec
-  pub is : r ≡ named t list rest
+  pub is : r ≡ named t list parts rest
   pub places : length rest ≡ mostCoordinates
   pub coefficients : list ≡ padded 4 (nearest (take d b) t)
   pub left : rest ≈ t ⊖ comb (nearest (take d b) t) (take d b)
+  pub solution : PaddedTenths (take d b) t parts
 
 -- what is left of t when what a vector leaves of it is taken away: that vector
 left-of-left : (t c r : Vec) → r ≈ t ⊖ c → t ⊖ pos 1 ⊙ r ≈ c
@@ -102,7 +106,7 @@ module _ (i : Input) (e : firstOf vectorChecks i ≡ 0) (f : firstOf targetCheck
   unfolding x
   nearest-is = ap (λ l. nearest l target) (outs-rows i e) ∙ nearest-padded mostCoordinates (i .m) (accept i e .few) bs (outs-full i e) (i .target) t-count
 
-  module _ (y rest : List ℤ) (places : length rest ≡ mostCoordinates) (list : y ≡ padded 4 (nearest (take (i .d) array) target))
+  module _ (y s rest : List ℤ) (places : length rest ≡ mostCoordinates) (list : y ≡ padded 4 (nearest (take (i .d) array) target))
       (left : rest ≈ target ⊖ comb (nearest (take (i .d) array) target) (take (i .d) array)) where
     left-is : rest ≈ target ⊖ comb x (map (padded mostCoordinates) bs)
     left-is = subst (λ z. rest ≈ target ⊖ comb z (map (padded mostCoordinates) bs)) nearest-is (subst (λ l. rest ≈ target ⊖ comb (nearest (take (i .d) array) target) l) (outs-rows i e) left)
@@ -120,22 +124,37 @@ module _ (i : Input) (e : firstOf vectorChecks i ≡ 0) (f : firstOf targetCheck
     square-is : dot rest rest ≡ distance (i .target) (comb x bs)
     square-is = ≈-N left-is ∙ ap N (sym (padded-minus mostCoordinates (i .m) (accept i e .few) (i .target) t-few x bs (outs-full i e))) ∙ padded-N mostCoordinates (i .target ⊖ comb x bs) (omega (arith, length-⊕ (i .target) (negsuc 0 ⊙ comb x bs), length-⊙ (negsuc 0) (comb x bs), t-few, combination-few))
 
-    given-answer : named target y rest ≡ packedNearest (nearestGiven bs (i .target))
+    given-answer : named target y s rest ≡ packedNearest (nearestGiven bs (i .target)) s
     unfolding named x
-    given-answer = λ k. record { refusal = 0; place = 0; vector = vector-is k; coefficients = (list ∙ ap (padded 4) nearest-is) k; square = square-is k }
+    given-answer = λ k. record { refusal = 0; place = 0; vector = vector-is k; coefficients = (list ∙ ap (padded 4) nearest-is) k; tenths = s; square = square-is k }
 
     -- the engine's answer for an accepted target with its vectors
-    pub nearest-answer : named target y rest ≡ packedNearest (nearestOf i)
-    nearest-answer = given-answer ∙ ap packedNearest (sym (accepted-nearest i (first-passed vectorChecks targetChecks i (omega arith) e ∙ f)))
+    pub nearest-answer : named target y s rest ≡ packedNearest (nearestOf i) s
+    nearest-answer = given-answer ∙ ap (λ a. packedNearest a s) (sym (accepted-nearest i (first-passed vectorChecks targetChecks i (omega arith) e ∙ f)))
+
+  -- its tenths
+  pub nearest-tenths : {s : List ℤ} → PaddedTenths (take (i .d) array) target s → TenthsFor i s
+  nearest-tenths {s} p = record {
+    given = λ n. tenths-padded mostCoordinates (i .m) (accept i e .few) bs (outs-full i e) (i .target) t-count (subst (λ l. PaddedTenths l target s) (outs-rows i e) p);
+    refused = λ h. absurd (h (first-passed vectorChecks targetChecks i (omega arith) e ∙ f));
+  }
 
 -- the answer for a refused input
-refused-answer : (i : Input) (n : ℕ) → firstOf (vectorChecks ++ targetChecks) i ≡ suc n → packedNearest (noNearest (suc n)) ≡ packedNearest (nearestOf i)
+refused-answer : (i : Input) (n : ℕ) (s : List ℤ) → firstOf (vectorChecks ++ targetChecks) i ≡ suc n → packedNearest (noNearest (suc n)) s ≡ packedNearest (nearestOf i) s
 unfolding nearestOf
-refused-answer i n e = ap packedNearest (sym (ap (λ (k : ℕ). elim k as (λ k. Definition.Nearest) [ zero ↦ nearestGiven (vectors (reduction (basis i) .rows)) (i .target) | suc j ↦ noNearest (suc j) ]) e))
+refused-answer i n s e = ap (λ a. packedNearest a s) (sym (ap (λ (k : ℕ). elim k as (λ k. Definition.Nearest) [ zero ↦ nearestGiven (vectors (reduction (basis i) .rows)) (i .target) | suc j ↦ noNearest (suc j) ]) e))
 
-pub refused-nearest-with : (i : Input) (n : ℕ) → n ≡ firstOf (vectorChecks ++ targetChecks) i → n ≢ 0 → packedNearest (noNearest n) ≡ packedNearest (nearestOf i)
-refused-nearest-with i zero e h = absurd (h refl)
-refused-nearest-with i (suc n) e h = refused-answer i n (sym e)
+refused-equal : (i : Input) (n : ℕ) (s : List ℤ) → n ≡ firstOf (vectorChecks ++ targetChecks) i → n ≢ 0 → packedNearest (noNearest n) s ≡ packedNearest (nearestOf i) s
+refused-equal i zero s e h = absurd (h refl)
+refused-equal i (suc n) s e h = refused-answer i n s (sym e)
+
+-- what the contract of `nearest` says of an answer, where that is known with its tenths
+pub told : {i : Input} {r : NearestVector} (s : List ℤ) → r ≡ packedNearest (nearestOf i) s → TenthsFor i s → (r ≡ packedNearest (nearestOf i) (r .tenths)) × TenthsFor i (r .tenths)
+told {i} {r} s e p = let f = ap (λ (q : NearestVector). q .tenths) e in (e ∙ ap (packedNearest (nearestOf i)) (sym f), subst (TenthsFor i) (sym f) p)
+
+pub refused-nearest-with : (i : Input) (n : ℕ) {r : NearestVector} → n ≡ firstOf (vectorChecks ++ targetChecks) i → n ≢ 0 → r ≡ packedNearest (noNearest n) (padded mostVectors [])
+    → (r ≡ packedNearest (nearestOf i) (r .tenths)) × TenthsFor i (r .tenths)
+refused-nearest-with i n e h f = told (padded mostVectors []) (f ∙ refused-equal i n (padded mostVectors []) e h) (record { given = λ g. absurd (h (e ∙ g)); refused = λ g. refl })
 
 -- the number in a reduction's answer is that of the checks
 pub refusal-is : (i : Input) → reductionOf i .refusal ≡ firstOf vectorChecks i

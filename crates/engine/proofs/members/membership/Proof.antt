@@ -36,26 +36,26 @@ number c = ap (λ r. r .refusal) (c .reduce .ensures) ∙ refusal-is (untargeted
 first : (c : tie.Else1) → firstOf vectorChecks (input (c .before .before .before)) ≡ 0
 first c = sym (number (c .before .before)) ∙ c .if1 .left
 
-second : (c : tie.Else2) → firstOf targetChecks (input (c .before .before .before .before .before)) ≡ 0
-second c = sym (c .before .target-refusal .ensures) ∙ c .if2 .left
+second : (c : tie.Else2) → firstOf targetChecks (input (c .before .before .before .before .before .before)) ≡ 0
+second c = sym (c .before .target-refusal .ensures .0) ∙ c .if2 .left
 
 -- what is tested
-abbrev start : tie.After-vector → tie.Start
+abbrev start : tie.After-vectors-of → tie.Start
 start c = c .before .before .before .before .before .before .before .before .before
 
-one : (c : tie.After-vector) → firstOf vectorChecks (input (start c)) ≡ 0
+one : (c : tie.After-vectors-of) → firstOf vectorChecks (input (start c)) ≡ 0
 one c = first (c .before .before .before .before .before .before)
 
-two : (c : tie.After-vector) → firstOf targetChecks (input (start c)) ≡ 0
-two c = second (c .before .before .before .before)
+two : (c : tie.After-vectors-of) → firstOf targetChecks (input (start c)) ≡ 0
+two c = second (c .before .before .before)
 
-vectors-are : (c : tie.After-vector) → c .before .vectors-of .result ≡ reductionOf (input (start c)) .basis
+vectors-are : (c : tie.After-vectors-of) → c .vectors-of .result ≡ reductionOf (input (start c)) .basis
 vectors-are c =
-    c .before .vectors-of .ensures ∙ ap (λ r. map (λ row. row .at) (r .vectors)) (c .before .before .before .before .before .before .before .before .reduce .ensures)
+    c .vectors-of .ensures ∙ ap (λ r. map (λ row. row .at) (r .vectors)) (c .before .before .before .before .before .before .before .before .reduce .ensures)
     ∙ vectors-back _ ∙ ap (λ a. a .basis) (accepted-reduction (untargeted (start c)) (one c) ∙ sym (accepted-reduction (input (start c)) (one c)))
 
-target-is : (c : tie.After-vector) → c .vector .result ≡ padded mostCoordinates (now (start c .args .target))
-target-is c = c .vector .ensures ∙ target-padded (input (start c)) (one c) (two c)
+target-is : (c : tie.After-vectors-of) → c .before .before .before .before .target-refusal .last .1 .1 .0 ≡ padded mostCoordinates (now (start c .args .target))
+target-is c = let e = c .before .before .before in e .before .target-refusal .ensures .1 (e .if2 .left) ∙ target-padded (input (start c)) (one c) (two c)
 
 reduce-requires : tie.Need-reduce-requires
 reduce-requires c κs = search needs
@@ -71,7 +71,7 @@ returns c =
     c .no-member .ensures ∙ refused-member i _ (n ∙ sym (first-refused vectorChecks targetChecks i (λ h. c .before .if1 .taken (n ∙ h)))) (c .before .if1 .taken)
 
 target-refusal-requires : tie.Need-target-refusal-requires
-target-refusal-requires c κs = accepted (input (c .before .before .before)) (first c) .few
+target-refusal-requires c κs = let e = c .before in accepted (input (e .before .before .before)) (first e) .few
 
 no-member-requires-2 : tie.Need-no-member-requires-2
 no-member-requires-2 c κs = search needs
@@ -79,17 +79,11 @@ no-member-requires-2 c κs = search needs
 returns-2 : tie.Need-returns-2
 returns-2 c =
     let t = c .before .before in
-    let i = input (t .before .before .before .before) in
-    c .no-member2 .ensures ∙ refused-member i _ (t .target-refusal .ensures ∙ sym (first-passed vectorChecks targetChecks i (omega arith) (first (t .before)))) (c .before .if2 .taken)
+    let i = input (t .before .before .before .before .before) in
+    c .no-member2 .ensures ∙ refused-member i _ (t .target-refusal .ensures .0 ∙ sym (first-passed vectorChecks targetChecks i (omega arith) (first (t .before .before)))) (c .before .if2 .taken)
 
 vectors-of-requires : tie.Need-vectors-of-requires
 vectors-of-requires c κs = search needs
-
-vector-requires : tie.Need-vector-requires
-vector-requires c κs =
-    let e = c .before .before .before in
-    let s = e .before .before .before .before .before in
-    (accepted (input s) (first (e .before .before)) .few, omega (arith, targeted (input s) (second e) .count))
 
 lattice-of-requires : tie.Need-lattice-of-requires
 lattice-of-requires c κs = let s = start c in subst (ReducedBasis (s .args .d)) (sym (vectors-are c)) (accepted-basis (input s) (one c))
@@ -104,7 +98,7 @@ returns-3 c =
     let l = c .before in
     let v = l .before in
     let s = start v in
-    ap memberGiven (c .member .ensures ∙ ap₂ isMember (vectors-left (l .lattice-of .result) (v .before .vectors-of .result) (l .lattice-of .ensures .1) ∙ ap (take (s .args .d)) (vectors-are v)) (target-is v))
+    ap memberGiven (c .member .ensures ∙ ap₂ isMember (vectors-left (l .lattice-of .result) (v .vectors-of .result) (l .lattice-of .ensures .1) ∙ ap (take (s .args .d)) (vectors-are v)) (target-is v))
     ∙ member-answer (input s) (one v) (two v)
 
 pub membership-spec : {M : Type 1} → statement M
@@ -118,7 +112,6 @@ membership-spec =
     no-member-requires-2
     returns-2
     vectors-of-requires
-    vector-requires
     lattice-of-requires
     member-requires
     returns-3)
