@@ -18,9 +18,9 @@ extern "C" {
 #endif
 
 #define RAGHYMTOS_VERSION_MAJOR 0
-#define RAGHYMTOS_VERSION_MINOR 6
+#define RAGHYMTOS_VERSION_MINOR 7
 #define RAGHYMTOS_VERSION_PATCH 0
-#define RAGHYMTOS_VERSION "0.6.0"
+#define RAGHYMTOS_VERSION "0.7.0"
 
 /* A name that ends in _AT is an index into an answer, one that ends in _COUNT a number of numbers,
  * one that begins with MOST a limit. */
@@ -32,7 +32,7 @@ extern "C" {
 #define RAGHYMTOS_MOST_SQUARE 400000000        /* a squared length */
 #define RAGHYMTOS_MOST_ENTRIES 256             /* entries of a catalogue */
 #define RAGHYMTOS_MOST_NUMBER 1048575          /* an entry's number; the least is 1 */
-#define RAGHYMTOS_MOST_CATALOGUE_BYTES 34820   /* an output that is never too short for one */
+#define RAGHYMTOS_MOST_CATALOGUE_BYTES 35844   /* an output that is never too short for one */
 #define RAGHYMTOS_MOST_LISTING_BYTES 70000     /* an output that is never too short for a listing */
 
 /* Where all answers begin. */
@@ -82,8 +82,8 @@ enum raghymtos_separation {
 };
 
 /* The refusals. The first that applies is given. A reduction gives 1 to 5, a nearest vector and
- * a membership 1 to 7, a catalogue 1, 2, 4, 5 and 8 to 15; a writing gives 16 besides, a lookup and
- * a separation 17. Later versions may have more: whatever is not 0 is a refusal. */
+ * a membership 1 to 7, a catalogue 1, 2, 4, 5, 8 to 15 and 18; a writing gives 16 besides, a lookup
+ * and a separation 17. Later versions may have more: whatever is not 0 is a refusal. */
 enum raghymtos_refusal {
     RAGHYMTOS_ACCEPTED = 0,
     RAGHYMTOS_BAD_D = 1,         /* place: the head */
@@ -102,7 +102,8 @@ enum raghymtos_refusal {
     RAGHYMTOS_BEHIND = 14,       /* place: the first word behind the end word */
     RAGHYMTOS_TOO_MANY = 15,     /* place: the head of the 257th entry */
     RAGHYMTOS_OUTPUT_SHORT = 16,
-    RAGHYMTOS_NO_ENTRY = 17
+    RAGHYMTOS_NO_ENTRY = 17,
+    RAGHYMTOS_DRAFT_LOAD = 18    /* place: the mark */
 };
 
 /* What a refusal says, without its place; never null. */
@@ -117,7 +118,7 @@ static inline const char *raghymtos_refusal_text(int64_t refusal) {
     case RAGHYMTOS_TARGET_NOT_M: return "the target has not m numbers";
     case RAGHYMTOS_TARGET_LONG: return "a coordinate of the target beyond 20000 or its squared length over 400000000";
     case RAGHYMTOS_NOT_WORDS: return "the number of bytes is not a multiple of 4";
-    case RAGHYMTOS_TOO_LARGE: return "more than 34820 bytes";
+    case RAGHYMTOS_TOO_LARGE: return "more than 35844 bytes";
     case RAGHYMTOS_UNEXPECTED: return "a word that cannot stand here, or none where one must come";
     case RAGHYMTOS_BAD_NUMBER: return "the entry's number is 0 or used before";
     case RAGHYMTOS_LOST: return "the see word names no entry";
@@ -126,6 +127,7 @@ static inline const char *raghymtos_refusal_text(int64_t refusal) {
     case RAGHYMTOS_TOO_MANY: return "more than 256 entries";
     case RAGHYMTOS_OUTPUT_SHORT: return "the output is shorter than what is to be written";
     case RAGHYMTOS_NO_ENTRY: return "no entry has the number";
+    case RAGHYMTOS_DRAFT_LOAD: return "a draft mark whose load is not 1";
     default: return "a refusal that this header does not know";
     }
 }
@@ -171,7 +173,7 @@ bool raghymtos_nearest(const int64_t *numbers, size_t count, size_t d, size_t m,
 bool raghymtos_member(const int64_t *numbers, size_t count, size_t d, size_t m,
                       const int64_t *target, size_t target_count, int64_t *out, size_t room);
 
-/* Reads a catalogue and writes its entries to out, unfolded.
+/* Reads a catalogue and writes its entries to out, unfolded, drafts with their marks.
  *
  * bytes, count          the catalogue: 32-bit words, lowest byte first; any bytes, any count
  * out, room             where the catalogue goes, and how many bytes are lent there
@@ -185,9 +187,10 @@ bool raghymtos_member(const int64_t *numbers, size_t count, size_t d, size_t m,
 bool raghymtos_write_out(const uint8_t *bytes, size_t count, uint8_t *out, size_t room,
                          int64_t *answer, size_t answer_room);
 
-/* Writes the folded catalogue to out: of entries with the same m and the same lattice the first
- * stands, with its number, its reduced vectors, and the first see word of theirs, in the order of the
- * file, that leads to another standing entry. Otherwise as raghymtos_write_out. */
+/* Writes the folded catalogue to out: of entries with the same m and the same lattice the first that
+ * is no draft stands, or the first of all where every one is a draft. It has its number, its reduced
+ * vectors, its mark if it is a draft, and a see word that leads to another standing entry: its own,
+ * or else the first of theirs in the order of the file. Otherwise as raghymtos_write_out. */
 bool raghymtos_fold(const uint8_t *bytes, size_t count, uint8_t *out, size_t room,
                     int64_t *answer, size_t answer_room);
 
@@ -199,7 +202,7 @@ bool raghymtos_list(const uint8_t *bytes, size_t count, uint8_t *out, size_t roo
                     int64_t *answer, size_t answer_room);
 
 /* Finds the number of the standing entry of the entry with this number: the first entry with the
- * same m and the same lattice.
+ * same m and the same lattice that is no draft, or the first of all where every one is a draft.
  *
  * bytes, count          the catalogue, as for raghymtos_write_out
  * number                any number

@@ -1,5 +1,5 @@
-/* The header used from C: reductions, nearest vectors, memberships, a catalogue, what separates two entries, refusals with their texts, lent
- * numbers that are too few, and the version. */
+/* The header used from C: reductions, nearest vectors, memberships, a catalogue, drafts, what separates two entries, refusals with their
+ * texts, lent numbers that are too few, and the version. */
 #include <stdio.h>
 #include <string.h>
 
@@ -99,9 +99,14 @@ static const uint32_t words[] = {
     0x10000722, 0x20004E21, 0x20004E20, 0x20004E24, 0x20004E21, 0x10000922, 0x20004E22, 0x20004E20, 0x20004E20,
     0x20004E23, 0x3000000C, 0x10000C22, 0x20004E20, 0x20004E21, 0x20004E21, 0x20004E20, 0x30000009, 0x40000003};
 
+/* words as bytes, the lowest first */
+static void put(const uint32_t *from, size_t count, uint8_t *bytes) {
+    for (size_t i = 0; i < 4 * count; i++)
+        bytes[i] = (uint8_t)(from[i / 4] >> 8 * (i % 4));
+}
+
 static void fill(uint8_t bytes[sizeof words]) {
-    for (size_t i = 0; i < sizeof words; i++)
-        bytes[i] = (uint8_t)(words[i / 4] >> 8 * (i % 4));
+    put(words, sizeof words / 4, bytes);
 }
 
 static void listing(void) {
@@ -140,6 +145,44 @@ static void catalogue(void) {
     expect(!raghymtos_lookup(bytes, 72, 12, answer, 2), "2 lent numbers are too few");
 }
 
+/* entry 1: (2), a draft, see 3; 2: (-2), see 4; 3: (3), a draft; 4: (5) */
+static const uint32_t drafts[] = {
+    0x10000111, 0x20004E22, 0x50000001, 0x30000003, 0x10000211, 0x20004E1E, 0x30000004,
+    0x10000311, 0x20004E23, 0x50000001, 0x10000411, 0x20004E25, 0x40000004};
+
+/* whether these words, with the one at this index exchanged, are refused with this number there */
+static bool refused_at(size_t i, uint32_t word, int64_t refusal) {
+    uint32_t changed[sizeof drafts / 4];
+    uint8_t bytes[sizeof drafts], out[sizeof drafts];
+    int64_t answer[RAGHYMTOS_CATALOGUE_COUNT];
+    memcpy(changed, drafts, sizeof drafts);
+    changed[i] = word;
+    put(changed, sizeof drafts / 4, bytes);
+    raghymtos_write_out(bytes, sizeof bytes, out, sizeof out, answer, 3);
+    return answer[RAGHYMTOS_REFUSAL_AT] == refusal && answer[RAGHYMTOS_PLACE_AT] == (int64_t)i && answer[RAGHYMTOS_WRITTEN_AT] == 0;
+}
+
+static void draft_entries(void) {
+    static const char text[] = "4 3\n1 2 3 0\n2 2 4 0\nv -2\n3 3 0 0\nv 3\n4 4 0 0\nv 5\n";
+    const size_t n = sizeof text - 1;
+    uint8_t bytes[sizeof drafts], out[RAGHYMTOS_MOST_LISTING_BYTES];
+    int64_t answer[RAGHYMTOS_CATALOGUE_COUNT];
+    put(drafts, sizeof drafts / 4, bytes);
+    raghymtos_write_out(bytes, sizeof bytes, out, sizeof out, answer, 3);
+    expect(answer[RAGHYMTOS_WRITTEN_AT] == sizeof bytes && memcmp(out, bytes, sizeof bytes) == 0, "drafts are written with their marks");
+    raghymtos_lookup(bytes, sizeof bytes, 1, answer, 3);
+    expect(answer[RAGHYMTOS_REFUSAL_AT] == 0 && answer[RAGHYMTOS_STANDING_AT] == 2, "entry 2 stands for the draft before it");
+    raghymtos_lookup(bytes, sizeof bytes, 3, answer, 3);
+    expect(answer[RAGHYMTOS_STANDING_AT] == 3, "a draft without another entry of its lattice stands");
+    raghymtos_fold(bytes, sizeof bytes, out, sizeof out, answer, 3);
+    expect(answer[RAGHYMTOS_WRITTEN_AT] == 36 && memcmp(out, bytes + 16, 32) == 0, "the fold has the last three entries as they are");
+    raghymtos_list(bytes, sizeof bytes, out, sizeof out, answer, 3);
+    expect(answer[RAGHYMTOS_WRITTEN_AT] == (int64_t)n && memcmp(out, text, n) == 0, "the listing of drafts");
+    expect(refused_at(2, 0x50000000, RAGHYMTOS_DRAFT_LOAD) && refused_at(9, 0x50000002, RAGHYMTOS_DRAFT_LOAD), "other loads than 1");
+    expect(refused_at(3, 0x50000001, RAGHYMTOS_UNEXPECTED) && refused_at(3, 0x50000002, RAGHYMTOS_UNEXPECTED), "a second mark");
+    expect(refused_at(0, 0x50000001, RAGHYMTOS_UNEXPECTED) && refused_at(1, 0x50000002, RAGHYMTOS_UNEXPECTED), "marks before coordinates");
+}
+
 /* entry 1: (4,0),(0,4); 2: (3,3),(0,4); 3: (4,0),(0,8); 4: (4,0); 5: (4) */
 static const uint32_t five[] = {
     0x10000122, 0x20004E24, 0x20004E20, 0x20004E20, 0x20004E24, 0x10000222, 0x20004E23, 0x20004E23, 0x20004E20,
@@ -150,8 +193,7 @@ static const uint32_t five[] = {
 static bool separates(uint32_t first, uint32_t second, int64_t refusal, int64_t what, int64_t position, int64_t distance) {
     uint8_t bytes[sizeof five];
     int64_t answer[RAGHYMTOS_SEPARATION_COUNT + 1];
-    for (size_t i = 0; i < sizeof five; i++)
-        bytes[i] = (uint8_t)(five[i / 4] >> 8 * (i % 4));
+    put(five, sizeof five / 4, bytes);
     memset(answer, 0x55, sizeof answer);
     const int64_t mark = answer[0];
     if (raghymtos_separate(bytes, sizeof five, first, second, answer, RAGHYMTOS_SEPARATION_COUNT - 1) || answer[0] != mark)
@@ -182,11 +224,11 @@ static void separation(void) {
 
 /* every refusal has a text of its own, and a number that is none has one too */
 static void texts(void) {
-    for (int64_t i = RAGHYMTOS_ACCEPTED; i <= RAGHYMTOS_NO_ENTRY + 1; i++)
+    for (int64_t i = RAGHYMTOS_ACCEPTED; i <= RAGHYMTOS_DRAFT_LOAD + 1; i++)
         for (int64_t j = RAGHYMTOS_ACCEPTED; j < i; j++)
             expect(strcmp(raghymtos_refusal_text(i), raghymtos_refusal_text(j)) != 0, raghymtos_refusal_text(i));
     expect(strcmp(raghymtos_refusal_text(RAGHYMTOS_DEPENDENT), "the vectors are dependent") == 0, "5 says dependent");
-    expect(strcmp(raghymtos_refusal_text(-1), raghymtos_refusal_text(RAGHYMTOS_NO_ENTRY + 1)) == 0, "-1 is no refusal");
+    expect(strcmp(raghymtos_refusal_text(-1), raghymtos_refusal_text(RAGHYMTOS_DRAFT_LOAD + 1)) == 0, "-1 is no refusal");
 }
 
 static void version(void) {
@@ -205,6 +247,7 @@ int main(void) {
     member();
     catalogue();
     listing();
+    draft_entries();
     separation();
     return wrong;
 }

@@ -1,7 +1,7 @@
 /* Catalogues in C with the checks of docs/RULES.md: reading, the fold and lookup. One lattice is told by the
    Hermite normal form, one for each entry. */
 #define OWN_ENTRIES 256
-#define OWN_BYTES 34820
+#define OWN_BYTES 35844
 
 /* A catalogue that the code of four coordinates refuses with 2 goes to that of eight. */
 #if OWN_WIDTH == 4
@@ -14,7 +14,7 @@ uint32_t own8_lookup(const uint8_t *bytes, size_t n, uint32_t number);
 
 typedef struct {
     uint32_t number, see;
-    int d, m, place, sees, see_place;
+    int d, m, place, draft, sees, see_place;
     i64 b[4][OWN_WIDTH];
 } own_entry;
 
@@ -53,7 +53,7 @@ static int own_read_entry(const uint8_t *bytes, int words, int i, own_catalogue 
     e->d = load >> 4 & 15;
     e->m = load & 15;
     e->place = i;
-    e->sees = 0;
+    e->draft = e->sees = 0;
     if (e->d < 1 || e->d > 4)
         return own_refuse(c, 1, i), -1;
     if (e->m < 1 || e->m > OWN_WIDTH)
@@ -81,6 +81,12 @@ static int own_read_entry(const uint8_t *bytes, int words, int i, own_catalogue 
             return own_refuse(c, 4, i), -1;
     }
     i++;
+    if (i < words && own_word(bytes, i) >> 28 == 5) {
+        if ((own_word(bytes, i) & 0xFFFFFFF) != 1)
+            return own_refuse(c, 18, i), -1;
+        e->draft = 1;
+        i++;
+    }
     if (i < words && own_word(bytes, i) >> 28 == 3) {
         e->sees = 1;
         e->see = own_word(bytes, i) & 0xFFFFFFF;
@@ -173,7 +179,7 @@ static int own_same(const own_entry *e, const own_entry *f, i64 g[4][OWN_WIDTH],
 }
 
 /* For each entry the first of its lattice. */
-static void own_standing(const own_catalogue *c, int *standing) {
+static void own_firsts(const own_catalogue *c, int *firsts) {
     static i64 forms[OWN_ENTRIES][4][OWN_WIDTH];
     for (int i = 0; i < c->count; i++) {
         const own_entry *e = &c->entries[i];
@@ -182,26 +188,39 @@ static void own_standing(const own_catalogue *c, int *standing) {
         memcpy(forms[i], a.b, sizeof forms[i]);
         own_hermite(e->d, e->m, forms[i]);
         int s = 0;
-        while (s < i && (standing[s] != s || !own_same(e, &c->entries[s], forms[i], forms[s])))
+        while (s < i && (firsts[s] != s || !own_same(e, &c->entries[s], forms[i], forms[s])))
             s++;
-        standing[i] = s;
+        firsts[i] = s;
     }
 }
 
-/* For each standing entry the number in the see word that it carries, 0 for none: where the word of the first entry of its lattice leads
+/* For each entry the first of its lattice that is no draft, or the first of all where every one is a draft. */
+static void own_standing(const own_catalogue *c, int *standing) {
+    int firsts[OWN_ENTRIES], stands[OWN_ENTRIES];
+    own_firsts(c, firsts);
+    for (int i = 0; i < c->count; i++) {
+        int f = firsts[i];
+        if (f == i || (c->entries[stands[f]].draft && !c->entries[i].draft))
+            stands[f] = i;
+    }
+    for (int i = 0; i < c->count; i++)
+        standing[i] = stands[firsts[i]];
+}
+
+/* For each standing entry the number in the see word that it carries, 0 for none: where its own leads, or else the first of its lattice
    that leads to another standing entry. */
 static void own_carried(const own_catalogue *c, const int *standing, uint32_t *carried) {
-    for (int i = 0; i < c->count; i++)
-        carried[i] = 0;
-    for (int i = 0; i < c->count; i++) {
-        const own_entry *e = &c->entries[i];
-        int s = standing[i];
-        if (!e->sees || carried[s])
-            continue;
-        int there = standing[own_find(c, e->see)];
-        if (there != s)
-            carried[s] = c->entries[there].number;
-    }
+    memset(carried, 0, OWN_ENTRIES * sizeof *carried);
+    for (int own = 1; own >= 0; own--)
+        for (int i = 0; i < c->count; i++) {
+            const own_entry *e = &c->entries[i];
+            int s = standing[i];
+            if (!e->sees || carried[s] || (s == i) != own)
+                continue;
+            int there = standing[own_find(c, e->see)];
+            if (there != s)
+                carried[s] = c->entries[there].number;
+        }
 }
 
 static uint8_t *own_put(uint8_t *out, uint32_t w) {
@@ -231,6 +250,8 @@ OWN_API size_t OWN(fold)(const uint8_t *bytes, size_t n, uint8_t *out) {
         for (int v = 0; v < e->d; v++)
             for (int k = 0; k < e->m; k++)
                 at = own_put(at, 2u << 28 | (uint32_t)(a.b[v][k] + 20000));
+        if (e->draft)
+            at = own_put(at, 5u << 28 | 1);
         if (carried[i])
             at = own_put(at, 3u << 28 | carried[i]);
     }
@@ -252,15 +273,21 @@ OWN_API uint32_t OWN(lookup)(const uint8_t *bytes, size_t n, uint32_t number) {
     OWN(reduce)(e->d, e->m, e->b, &a);
     memcpy(form, a.b, sizeof form);
     own_hermite(e->d, e->m, form);
-    for (int i = 0; i < k; i++) {
+    int first = -1;
+    for (int i = 0; i < c.count; i++) {
         own_entry *f = &c.entries[i];
-        if (f->m != e->m || f->d != e->d)
+        if (f->m != e->m || f->d != e->d || (f->draft && first >= 0))
             continue;
-        OWN(reduce)(f->d, f->m, f->b, &a);
-        memcpy(other, a.b, sizeof other);
-        own_hermite(f->d, f->m, other);
-        if (own_same(e, f, form, other))
+        if (i != k) {
+            OWN(reduce)(f->d, f->m, f->b, &a);
+            memcpy(other, a.b, sizeof other);
+            own_hermite(f->d, f->m, other);
+            if (!own_same(e, f, form, other))
+                continue;
+        }
+        if (!f->draft)
             return f->number;
+        first = i;
     }
-    return number;
+    return c.entries[first].number;
 }

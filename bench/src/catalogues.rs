@@ -16,30 +16,37 @@ use crate::{median, narrow, wide, Set};
 
 const ENTRIES: usize = 256;
 
-pub const NAMES: [&str; 10] = [
-    "typical", "equal", "worst", "passes", "index", "planes", "typical8", "worst8", "last8", "passes8",
+pub const NAMES: [&str; 12] = [
+    "typical", "equal", "worst", "passes", "index", "planes", "typical8", "worst8", "last8", "passes8", "drafts", "drafts8",
 ];
 
 /// The entries of a catalogue, with see words to the entry before.
 fn entries(name: &str) -> Vec<Entry> {
     let mut random = Random::new(1);
     let bases = match name {
-        "typical" => twice(narrow, &mut random),
+        "typical" | "drafts" => twice(narrow, &mut random),
         "typical8" => twice(wide, &mut random),
         "equal" => equal(&mut random),
         "worst" => worst(&mut random),
-        "worst8" => worst_of_eight(&mut random),
+        "worst8" | "drafts8" => worst_of_eight(&mut random),
         "last8" => behind_zeros(worst(&mut random)),
         "passes8" => behind_zeros(passes()),
         "passes" => passes(),
         "index" => index(&mut random),
         _ => planes(),
     };
+    // in the first of both bases of each lattice, or in all
+    let drafts = match name {
+        "drafts" => ENTRIES as u32 / 2,
+        "drafts8" => ENTRIES as u32,
+        _ => 0,
+    };
     let numbered = bases.into_iter().zip(1..);
     numbered
         .map(|(vectors, number)| Entry {
             number,
             vectors,
+            draft: number <= drafts,
             see: Some(1.max(number - 1)),
         })
         .collect()

@@ -5,11 +5,12 @@
 //! use raghymtos::catalogue::{entries, fold, from_entries, list, lookup, Entry};
 //!
 //! // 7 and 12 are bases of one lattice; 9 refers to 12
-//! let bytes = from_entries(&[
+//! let mut cells = [
 //!     Entry::new(7, [[1, 0], [4, 1]]),
 //!     Entry::new(9, [[2, 0], [0, 3]]).seeing(12),
 //!     Entry::new(12, [[0, 1], [1, 0]]),
-//! ])?;
+//! ];
+//! let bytes = from_entries(&cells)?;
 //! assert_eq!(lookup(&bytes, 12)?, 7);
 //! assert_eq!(list(&bytes)?, "3 2\n7 7 0 1\nv 1 0\nv 0 1\n9 9 7 1\nv 2 0\nv 0 3\n12 7 0 1\n");
 //! assert_eq!(
@@ -19,6 +20,10 @@
 //!         Entry::new(9, [[2, 0], [0, 3]]).seeing(7),
 //!     ]
 //! );
+//!
+//! // a draft stands only where its lattice has no other entry
+//! cells[0].draft = true;
+//! assert_eq!(lookup(&from_entries(&cells)?, 7)?, 12);
 //! # Ok::<(), Box<dyn std::error::Error>>(())
 //! ```
 //!
@@ -46,7 +51,7 @@ pub const MOST_ENTRIES: usize = 256;
 pub const MOST_NUMBER: u32 = 1_048_575;
 
 /// The most bytes that a catalogue can have, so the length of an output that is always long enough.
-pub const MOST_BYTES: usize = 34_820;
+pub const MOST_BYTES: usize = 35_844;
 
 /// The most bytes that a listing can have.
 pub const MOST_LISTING_BYTES: usize = 70_000;
@@ -91,8 +96,9 @@ pub fn check(bytes: &[u8]) -> Result<(), CatalogueRefusal> {
     write_out_to(bytes, &mut [0; MOST_BYTES]).map(|_| ())
 }
 
-/// The folded catalogue: one entry for each lattice, the first that has it, with its reduced vectors and the first see word, in the order
-/// of the file, of the entries with that lattice that leads to another entry that is there.
+/// The folded catalogue: one entry for each lattice, the first that has it and is no draft, or the first of all where every one is a draft,
+/// which stays one. It has its reduced vectors and a see word that leads to another entry that is there: its own, or else the first, in the
+/// order of the file, of the entries with that lattice.
 pub fn fold(bytes: &[u8]) -> Result<Vec<u8>, CatalogueRefusal> {
     let mut out = vec![0; MOST_BYTES];
     let n = fold_to(bytes, &mut out)?;
@@ -110,7 +116,8 @@ pub fn list(bytes: &[u8]) -> Result<String, CatalogueRefusal> {
     Ok(String::from_utf8(out).expect("a listing is ASCII"))
 }
 
-/// The number of the standing entry: the first with the lattice of the entry that has this number.
+/// The number of the standing entry: the first with the lattice of the entry that has this number that is no draft, or the first of all
+/// where every one is a draft.
 pub fn lookup(bytes: &[u8], number: u32) -> Result<u32, CatalogueRefusal> {
     last(|answer| raw::lookup(bytes, number, answer)).map(|n| n as u32)
 }

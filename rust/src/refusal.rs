@@ -22,7 +22,7 @@ pub enum Refusal {
     TargetTooLong,
     /// 8: the number of bytes is not a multiple of 4.
     NotWords,
-    /// 9: there are more than 34,820 bytes.
+    /// 9: there are more than 35,844 bytes.
     TooLarge,
     /// 10: a word of a kind that cannot stand there, or no word where one must come.
     Unexpected,
@@ -40,12 +40,14 @@ pub enum Refusal {
     OutputShort,
     /// 17: no entry has the number.
     NoEntry,
+    /// 18: a draft mark whose load is not 1.
+    DraftLoad,
     /// A number that this version does not know: the archive is newer than the crate.
     Unknown(i64),
 }
 
 /// The refusals in the order of their numbers, with what they say.
-const KNOWN: [(Refusal, &str); 17] = [
+const KNOWN: [(Refusal, &str); 18] = [
     (Refusal::Vectors, "d is not 1 to 4"),
     (Refusal::Coordinates, "m is not 1 to 8"),
     (Refusal::Count, "there are not d times m numbers"),
@@ -63,7 +65,7 @@ const KNOWN: [(Refusal, &str); 17] = [
         Refusal::NotWords,
         "the number of bytes is not a multiple of 4",
     ),
-    (Refusal::TooLarge, "more than 34820 bytes"),
+    (Refusal::TooLarge, "more than 35844 bytes"),
     (
         Refusal::Unexpected,
         "a word that cannot stand here, or none where one must come",
@@ -81,6 +83,7 @@ const KNOWN: [(Refusal, &str); 17] = [
         "the output is shorter than what is to be written",
     ),
     (Refusal::NoEntry, "no entry has the number"),
+    (Refusal::DraftLoad, "a draft mark whose load is not 1"),
 ];
 
 impl Refusal {
@@ -96,7 +99,7 @@ impl Refusal {
     pub(crate) fn check(number: i64) -> Result<(), Refusal> {
         match number {
             0 => Ok(()),
-            1..=17 => Err(KNOWN[number as usize - 1].0),
+            1..=18 => Err(KNOWN[number as usize - 1].0),
             _ => Err(Refusal::Unknown(number)),
         }
     }
@@ -127,7 +130,7 @@ mod tests {
                 Err(refusal) => assert_eq!(refusal.number(), number),
             }
         }
-        assert_eq!(Refusal::check(18), Err(Refusal::Unknown(18)));
+        assert_eq!(Refusal::check(19), Err(Refusal::Unknown(19)));
         assert_eq!(Refusal::check(-1), Err(Refusal::Unknown(-1)));
     }
 

@@ -44,14 +44,18 @@ fn the_largest_catalogue() {
         [0, 0, 0, 0, 0, 0, 0, 20_000],
     ];
     let all: Vec<Entry> = (0..MOST_ENTRIES as u32)
-        .map(|i| Entry::new(MOST_NUMBER - i, unit).seeing(MOST_NUMBER))
+        .map(|i| {
+            Entry::new(MOST_NUMBER - i, unit)
+                .drafted()
+                .seeing(MOST_NUMBER)
+        })
         .collect();
     let made = from_entries(&all).unwrap();
     assert_eq!(made.len(), MOST_BYTES);
     assert_eq!(entries(&made), Ok(all));
     assert_eq!(
         entries(&fold(&made).unwrap()),
-        Ok(vec![Entry::new(MOST_NUMBER, unit)])
+        Ok(vec![Entry::new(MOST_NUMBER, unit).drafted()])
     );
     // one word more
     let more = [&made[..], &[0; 4]].concat();
@@ -141,6 +145,69 @@ fn a_folded_reference() {
     let seven = Entry::new(7, [[1, 0], [0, 1]]).seeing(9);
     let nine = Entry::new(9, [[2, 0], [0, 3]]).seeing(7);
     assert_eq!(folded, Ok(vec![seven, nine]));
+}
+
+/// The words of a draft with a see word and of the entry that it names.
+const DRAFT: [u32; 13] = [
+    0x10000722, 0x20004E21, 0x20004E20, 0x20004E24, 0x20004E21, 0x50000001, 0x3000000C, 0x10000C22,
+    0x20004E20, 0x20004E21, 0x20004E21, 0x20004E20, 0x40000002,
+];
+
+#[test]
+fn a_draft() {
+    let seven = Entry::new(7, [[1, 0], [4, 1]]).drafted().seeing(12);
+    let twelve = Entry::new(12, [[0, 1], [1, 0]]);
+    let all = vec![seven.clone(), twelve.clone()];
+    assert_eq!(from_entries(&all), Ok(bytes(&DRAFT)));
+    assert_eq!(entries(&bytes(&DRAFT)), Ok(all));
+    // 12 stands, the word of 7 leads to it
+    assert_eq!([7, 12].map(|n| lookup(&bytes(&DRAFT), n)), [Ok(12); 2]);
+    assert_eq!(
+        list(&bytes(&DRAFT)).as_deref(),
+        Ok("2 1\n7 12 0 1\n12 12 0 1\nv 0 1\nv 1 0\n")
+    );
+    let folded = |all: &[Entry]| entries(&fold(&from_entries(all).unwrap()).unwrap());
+    assert_eq!(folded(&[seven.clone(), twelve.clone()]), Ok(vec![twelve]));
+    // two drafts: the first stands and stays one
+    let both = [seven, Entry::new(12, [[0, 1], [1, 0]]).drafted()];
+    let first = Entry::new(7, [[1, 0], [0, 1]]).drafted();
+    assert_eq!(folded(&both), Ok(vec![first]));
+}
+
+/// The own see word of a standing entry comes before that of a draft before it, and that of a draft where it has none.
+#[test]
+fn see_words_of_drafts() {
+    let folded = |two: Entry| {
+        let one = Entry::new(1, [[2]]).drafted().seeing(3);
+        let all = [one, two, Entry::new(3, [[3]]), Entry::new(4, [[5]])];
+        let mut folded = entries(&fold(&from_entries(&all).unwrap()).unwrap()).unwrap();
+        assert_eq!(folded.len(), 3);
+        folded.swap_remove(0)
+    };
+    let two = Entry::new(2, [[-2]]);
+    assert_eq!(folded(two.clone()), two.clone().seeing(3));
+    assert_eq!(folded(two.clone().seeing(4)), two.clone().seeing(4));
+    assert_eq!(folded(two.clone().seeing(1)), two.seeing(3));
+}
+
+#[test]
+fn marks_that_are_refused() {
+    let refused = |at: usize, word: u32| {
+        let mut words = DRAFT;
+        words[at] = word;
+        check(&bytes(&words)).map_err(|r| (r.refusal, r.word()))
+    };
+    let load = |load: u32| 0x5000_0000 | load;
+    assert_eq!(refused(5, load(1)), Ok(()));
+    for wrong in [0, 2, 3, 0xFFF_FFFF] {
+        let said = refused(5, load(wrong));
+        assert_eq!(said, Err((Refusal::DraftLoad, Some(5))));
+    }
+    // where none can stand, whatever the load
+    for (at, wrong) in [(0, 1), (1, 2), (3, 0), (6, 1), (6, 2), (7, 1)] {
+        let said = refused(at, load(wrong));
+        assert_eq!(said, Err((Refusal::Unexpected, Some(at))));
+    }
 }
 
 #[test]

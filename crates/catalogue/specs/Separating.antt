@@ -19,7 +19,7 @@ use Rattle.catalogue_records.specs.Catalogues.{catalogueOf}
 use Rattle.catalogue_records.specs.EntriesIn.{entriesIn}
 use Rattle.catalogue_records.specs.Again.{read-as}
 use Rattle.catalogue_standing.specs.Places.{First}
-use Rattle.catalogue_standing.specs.Standing.{Numbers}
+use Rattle.catalogue_standing.specs.Numbers.{Numbers}
 use Rattle.catalogue_standing.specs.Looking.{number-there, number-nowhere}
 
 -- a catalogue that was refused

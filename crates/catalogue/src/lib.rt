@@ -83,7 +83,7 @@ pub fn fold(bytes: &[u8], out: &mut [u8]) -> catalogue_records::Written
         };
     }
     let list = catalogue_standing::entry_lattices::lattices_of(c);
-    let standing = catalogue_standing::standing_places::closed(list, c.count);
+    let standing = catalogue_standing::standing_places::closed(c, list);
     let f = catalogue_fold::folded(c, list, &standing);
     catalogue_writer::write_entries(f, out)
 }

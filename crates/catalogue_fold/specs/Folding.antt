@@ -30,7 +30,7 @@ use Rattle.catalogue_fold.specs.declared.printing.Way.{Way}
 use Rattle.catalogue_standing.specs.ReducedEntry.{reducedEntry}
 use Rattle.catalogue_fold.specs.Spread.{kept-vectors}
 use Rattle.catalogue_fold.specs.Printing.{wayOf, printedAs}
-use Rattle.catalogue_standing.specs.Standing.{Held, stands-place}
+use Rattle.catalogue_standing.specs.Standing.{StandingPlaces, stands-place}
 
 -- the entries that the fold prints, in the array
 abbrev pub foldedOf : Catalogue → Catalogue
@@ -67,7 +67,7 @@ module _ (es : List definition.Entry) where
   pub prints-all : (k : ℕ) → length es ≤ k → prints k ≡ printedIn ss
   prints-all k h = ap (λ l. map (printed ss) (standingIn (map (stoodOf es) l))) (take-all k es h)
 
-  module _ (o : definition.Entry) (w : WellFormed es) {list : List Left} {places : List ℕ} (held : Held es o list places) (k : ℕ) (here : k < length es) where
+  module _ (o : definition.Entry) (w : WellFormed es) {places : List ℕ} (stood : StandingPlaces es o places) (k : ℕ) (here : k < length es) where
     abbrev s : Stood
     s = stoodOf es (getD es k o)
 
@@ -75,7 +75,7 @@ module _ (es : List definition.Entry) where
     prints-more =
         ap (λ l. map (printed ss) (standingIn (map (stoodOf es) l))) (ap (λ n. take n es) (add-one k) ∙ take-suc es k o here)
         ∙ ap (λ l. map (printed ss) (standingIn l)) (sym (map-snoc (stoodOf es) (take k es) (getD es k o)))
-        ∙ ap (map (printed ss)) (standing-snoc (map (stoodOf es) (take k es)) s ∙ ap (λ b. standingIn (map (stoodOf es) (take k es)) ++ only b s) (stands-place es o w held k here))
+        ∙ ap (map (printed ss)) (standing-snoc (map (stoodOf es) (take k es)) s ∙ ap (λ b. standingIn (map (stoodOf es) (take k es)) ++ only b s) (stands-place es o w stood k here))
         ∙ map-append (printed ss) (standingIn (map (stoodOf es) (take k es))) (only (eqb (getD places k 0) k) s)
 
     pub prints-yes : getD places k 0 ≡ k → prints (k + 1) ≡ prints k ++ (printed ss s ∷ [])
@@ -95,17 +95,17 @@ pub record Folds (es : List definition.Entry) (k n : ℕ) (entries : List Entry)
 pub folds-none : (es : List definition.Entry) → Folds es 0 0 (replicate mostEntries noEntry)
 folds-none es = record { few = omega arith; count = refl; array = refl }
 
-module _ (es : List definition.Entry) (o : definition.Entry) (w : WellFormed es) {list : List Left} {places : List ℕ} (held : Held es o list places) {k n : ℕ} {entries : List Entry}
+module _ (es : List definition.Entry) (o : definition.Entry) (w : WellFormed es) {places : List ℕ} (stood : StandingPlaces es o places) {k n : ℕ} {entries : List Entry}
     (p : Folds es k n entries) (here : k < length es) where
   pub folds-no : getD places k 0 ≢ k → Folds es (k + 1) n entries
   folds-no h =
-      let e = sym (prints-no es o w held k here h) in
+      let e = sym (prints-no es o w stood k here h) in
       record { few = omega (arith, p .few); count = p .count ∙ ap length e; array = p .array ∙ ap stored e }
 
   pub folds-yes : getD places k 0 ≡ k → {q : Entry} → q ≡ entryOf (printed (closedList es) (stoodOf es (getD es k o))) → Folds es (k + 1) (n + 1) (set entries n q)
   folds-yes h {q} is =
       let f = printed (closedList es) (stoodOf es (getD es k o)) in
-      let more = sym (prints-yes es o w held k here h) in
+      let more = sym (prints-yes es o w stood k here h) in
       let ps = prints es k in
       let long : n ≡ length (map entryOf ps) = p .count ∙ sym (length-map ps entryOf) in
       let room : length (map entryOf ps) < mostEntries = omega (arith, long, p .few, here, w .entered .few) in
@@ -119,7 +119,7 @@ module _ (es : List definition.Entry) (o : definition.Entry) (w : WellFormed es)
 -- ---- an entry as the code prints it
 module _ (es : List definition.Entry) (e : Entry) (s : Sound (entryIn e)) where
   made : List ℤ → Option See → Entry
-  made l o = record { number = e .number; d = e .d; m = e .m; place = e .place; sees = sees o; see = seeNumber o; at = seePlace o; coordinates = filled (pos 0) mostNumbers l }
+  made l o = record { number = e .number; d = e .d; m = e .m; place = e .place; draft = e .draft; sees = sees o; see = seeNumber o; at = seePlace o; coordinates = filled (pos 0) mostNumbers l }
 
   pub printed-is : {k : Left} {w : Way} → k ≡ reducedEntry (entryIn e) → w ≡ wayOf (carried (closedList es) (stoodOf es (entryIn e)))
       → printedAs e k w ≡ entryOf (printed (closedList es) (stoodOf es (entryIn e)))

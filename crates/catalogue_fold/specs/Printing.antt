@@ -21,7 +21,8 @@ use Rattle.lattice_membership.specs.Known.{Left}
 use Rattle.catalogue_fold.specs.declared.printing.Way.{Way}
 use Rattle.catalogue_standing.specs.ReducedEntry.{basisIn}
 use Rattle.catalogue_standing.specs.Places.{First}
-use Rattle.catalogue_standing.specs.Standing.{StandingPlaces, Numbers}
+use Rattle.catalogue_standing.specs.Standing.{StandingPlaces}
+use Rattle.catalogue_standing.specs.Numbers.{Numbers}
 use Rattle.catalogue_standing.specs.Looking.{lookup-found, lookup-lost}
 
 -- a see word or none in the struct
@@ -35,6 +36,7 @@ printedAs e k w = record {
   d = e .d;
   m = e .m;
   place = e .place;
+  draft = e .draft;
   sees = w .sees;
   see = w .number;
   at = w .at;

@@ -17,16 +17,15 @@ use Rattle.catalogue_records.specs.Entries.{beyond, entryAt, at-place, entry-ha
 use Rattle.lattice_membership.specs.declared.Lattice.{Lattice}
 use Rattle.lattice_membership.specs.Known.{leftIn}
 use Rattle.catalogue_fold.specs.declared.printing.Way.{Way}
-use Rattle.catalogue_standing.specs.SameLattice.{noLattice, leftsIn}
+use Rattle.catalogue_standing.specs.SameLattice.{noLattice}
 use Rattle.catalogue_fold.specs.Spread.{Full, kept-full}
-use Rattle.catalogue_standing.specs.Places.{Closed}
-use Rattle.catalogue_standing.specs.Standing.{Held}
-use Rattle.catalogue_standing.specs.ReducedEntries.{WasRead, HoldReduced, ready-length, keeps-held}
+use Rattle.catalogue_standing.specs.Standing.{StandingPlaces}
+use Rattle.catalogue_standing.specs.ReducedEntries.{WasRead, HoldReduced, ready-length}
 use Rattle.catalogue_fold.specs.Printing.{wayOf, printedAs}
 use Rattle.catalogue_fold.specs.Carrying.{noWay, CarriedWays}
 use Rattle.catalogue_fold.specs.Folding.{foldedOf, prints-all, Folds, folds-no, folds-yes, printed-is}
 
-module _ (c : Catalogue) (r : WasRead c) {list : List Lattice} {places : List ℕ} (kept : HoldReduced c (c .count) list) (closed : Closed (leftsIn list) (c .count) places) (k : ℕ) where
+module _ (c : Catalogue) (r : WasRead c) {list : List Lattice} {places : List ℕ} (kept : HoldReduced c (c .count) list) (stood : StandingPlaces (entriesIn c) (entryIn beyond) places) (k : ℕ) where
   abbrev es : List definition.Entry
   es = entriesIn c
 
@@ -35,9 +34,6 @@ module _ (c : Catalogue) (r : WasRead c) {list : List Lattice} {places : List �
 
   abbrev e : Entry
   e = entryAt c k
-
-  held : Held es o (leftsIn list) places
-  held = keeps-held c r kept closed
 
   module _ (here : k < c .count) where
     inside : k < length es
@@ -55,16 +51,16 @@ module _ (c : Catalogue) (r : WasRead c) {list : List Lattice} {places : List �
     module _ {n m : ℕ} {before after : List Entry} (p : Folds es k n before) where
       pub passed-over : getD places k 0 ≢ k → after ≡ before → m ≡ n → Folds es (k + 1) m after
       passed-over q a b =
-          subst (λ m. Folds es (k + 1) m after) (sym b) (subst (Folds es (k + 1) n) (sym a) (folds-no es o (r .formed) held p inside q))
+          subst (λ m. Folds es (k + 1) m after) (sym b) (subst (Folds es (k + 1) n) (sym a) (folds-no es o (r .formed) stood p inside q))
 
-      pub printed-next : getD places k 0 ≡ k → {ways : List Way} → CarriedWays es o ways → {q : Entry} → q ≡ printedAs e (leftIn (getD list k noLattice)) (getD ways k noWay)
+      pub printed-next : getD places k 0 ≡ k → {ways : List Way} → CarriedWays es o places ways → {q : Entry} → q ≡ printedAs e (leftIn (getD list k noLattice)) (getD ways k noWay)
           → after ≡ set before n q → m ≡ n + 1 → Folds es (k + 1) m after
       printed-next s {ways} carried-ways {q} is a b =
           let ss = closedList es in
           let way : getD ways k noWay ≡ wayOf (carried ss (stoodOf es (entryIn e))) =
-          carried-ways .at k inside ∙ ap (λ f. wayOf (carried ss (stoodOf es f))) found in
+          carried-ways .at k inside s ∙ ap (λ f. wayOf (carried ss (stoodOf es f))) found in
           let shown = printed-is es e sound (kept .at k here .left) way ∙ ap (λ f. entryOf (printed ss (stoodOf es f))) (sym found) in
-          subst (λ m. Folds es (k + 1) m after) (sym b) (subst (Folds es (k + 1) (n + 1)) (sym a) (folds-yes es o (r .formed) held p inside s (is ∙ shown)))
+          subst (λ m. Folds es (k + 1) m after) (sym b) (subst (Folds es (k + 1) (n + 1)) (sym a) (folds-yes es o (r .formed) stood p inside s (is ∙ shown)))
 
 -- after the last entry
 pub all-printed : (c : Catalogue) → WasRead c → {k n : ℕ} {entries : List Entry} → Folds (entriesIn c) k n entries → c .count ≤ k → holding n entries ≡ foldedOf c

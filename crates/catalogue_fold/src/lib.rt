@@ -1,7 +1,10 @@
 // The folded catalogue: the standing entries in file order, each as it is printed.
 ghost use mathlib.Core.Path.{_≡_};
-ghost use Rattle.catalogue_standing.specs.Places.{Closed};
-ghost use Rattle.catalogue_standing.specs.SameLattice.{leftsIn};
+ghost use Prim.Native.Nat.{_≤_};
+ghost use lib.ListN.{length};
+ghost use Rattle.catalogue_records.specs.EntriesIn.{entryIn, entriesIn};
+ghost use Rattle.catalogue_records.specs.Entries.{beyond};
+ghost use Rattle.catalogue_standing.specs.Standing.{StandingPlaces};
 ghost use Rattle.catalogue_standing.specs.ReducedEntries.{WasRead, HoldReduced};
 ghost use Rattle.catalogue_fold.specs.Folding.{foldedOf};
 use carrying::carried_ways;
@@ -19,7 +22,8 @@ pub fn folded(
 ) -> catalogue_records::Catalogue
     requires { ⌜ WasRead c ⌝ }
     requires { ⌜ HoldReduced c (c .count) list ⌝ }
-    requires { ⌜ Closed (leftsIn list) (c .count) (now standing) ⌝ }
+    requires { ⌜ c .count ≤ length (now standing) ⌝ }
+    requires { ⌜ StandingPlaces (entriesIn c) (entryIn beyond) (now standing) ⌝ }
     ensures { λ r. ⌜ r ≡ foldedOf c ⌝ }
 {
     let numbers = catalogue_records::numbers(c);

@@ -93,7 +93,7 @@ pub fn way_of(
     }
 }
 
-// A standing entry as it is printed.
+// A standing entry as it is printed: a draft keeps its mark.
 pub fn printed(e: catalogue_records::Entry, l: Lattice, w: Way) -> catalogue_records::Entry
     requires { ⌜ Full (leftIn l) ⌝ }
     ensures { λ r. ⌜ r ≡ printedAs e (leftIn l) w ⌝ }
@@ -103,6 +103,7 @@ pub fn printed(e: catalogue_records::Entry, l: Lattice, w: Way) -> catalogue_rec
         d: e.d,
         m: e.m,
         place: e.place,
+        draft: e.draft,
         sees: w.sees,
         see: w.number,
         at: w.at,

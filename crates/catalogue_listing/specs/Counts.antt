@@ -16,12 +16,8 @@ use Rattle.text_layout.specs.Fields.{line}
 use Rattle.catalogue_records.specs.declared.Catalogue.{Catalogue}
 use Rattle.catalogue_records.specs.EntriesIn.{entryIn, entriesIn}
 use Rattle.catalogue_records.specs.Entries.{beyond}
-use Rattle.lattice_membership.specs.declared.Lattice.{Lattice}
-use Rattle.lattice_membership.specs.Known.{Left}
-use Rattle.catalogue_standing.specs.SameLattice.{leftsIn}
-use Rattle.catalogue_standing.specs.Places.{Closed}
-use Rattle.catalogue_standing.specs.Standing.{Held}
-use Rattle.catalogue_standing.specs.ReducedEntries.{WasRead, HoldReduced, ready-length, keeps-held}
+use Rattle.catalogue_standing.specs.Standing.{StandingPlaces}
+use Rattle.catalogue_standing.specs.ReducedEntries.{WasRead, ready-length}
 use Rattle.catalogue_fold.specs.Folding.{prints, prints-all, prints-yes, prints-no}
 
 abbrev pub oneIfOwn : ℕ → ℕ → ℕ
@@ -40,7 +36,7 @@ pub own-most : (places : List ℕ) (k : ℕ) → ownPlaces places k ≤ k
 own-most places zero = omega arith
 own-most places (suc k) = omega (arith, own-most places k, one-most (eqb (getD places k 0) k))
 
-module _ (es : List definition.Entry) (o : definition.Entry) (w : WellFormed es) {list : List Left} {places : List ℕ} (held : Held es o list places) where
+module _ (es : List definition.Entry) (o : definition.Entry) (w : WellFormed es) {places : List ℕ} (stood : StandingPlaces es o places) where
   counted : (k : ℕ) → k ≤ length es → ownPlaces places k ≡ length (prints es k)
   counted zero h = refl
   counted (suc k) h = go (ℕ-discrete (getD places k 0) k) (counted k (omega arith))
@@ -52,10 +48,10 @@ module _ (es : List definition.Entry) (o : definition.Entry) (w : WellFormed es)
       go (yes e) ih =
           let p = printed (closedList es) (stoodOf es (getD es k o)) in
           let more : length (prints es (suc k)) ≡ length (prints es k) + 1 =
-          ap (λ n. length (prints es n)) here ∙ ap length (prints-yes es o w held k h e) ∙ length-append (prints es k) (p ∷ []) in
+          ap (λ n. length (prints es n)) here ∙ ap length (prints-yes es o w stood k h e) ∙ length-append (prints es k) (p ∷ []) in
           ap (λ b. ownPlaces places k + cond b 1 0) (eq-eqb _ _ e) ∙ omega (arith, ih, more)
       go (no n) ih =
-          let same : length (prints es (suc k)) ≡ length (prints es k) = ap (λ n. length (prints es n)) here ∙ ap length (prints-no es o w held k h n) in
+          let same : length (prints es (suc k)) ≡ length (prints es k) = ap (λ n. length (prints es n)) here ∙ ap length (prints-no es o w stood k h n) in
           ap (λ b. ownPlaces places k + cond b 1 0) (ne-eqb _ _ n) ∙ omega (arith, ih, same)
 
   pub standing-count : ownPlaces places (length es) ≡ length (standingIn (closedList es))
@@ -66,9 +62,9 @@ module _ (es : List definition.Entry) (o : definition.Entry) (w : WellFormed es)
 abbrev pub countsLine : ℕ → ℕ → List ℕ
 countsLine entries standing = line (decimal entries) (decimal standing ∷ [])
 
-pub counts-text : (c : Catalogue) (r : WasRead c) {list : List Lattice} {places : List ℕ} → HoldReduced c (c .count) list → Closed (leftsIn list) (c .count) places → {n : ℕ} → n ≡ ownPlaces places (c .count)
+pub counts-text : (c : Catalogue) (r : WasRead c) {places : List ℕ} → StandingPlaces (entriesIn c) (entryIn beyond) places → {n : ℕ} → n ≡ ownPlaces places (c .count)
     → countsLine (c .count) n ≡ countsLine (length (closedList (entriesIn c))) (length (standingIn (closedList (entriesIn c))))
-counts-text c r {places = places} kept closed is =
+counts-text c r {places} stood is =
     let es = entriesIn c in
     ap₂ countsLine (sym (length-map es (stoodOf es) ∙ ready-length c r))
-    (is ∙ ap (ownPlaces places) (sym (ready-length c r)) ∙ standing-count es (entryIn beyond) (r .formed) (keeps-held c r kept closed))
+    (is ∙ ap (ownPlaces places) (sym (ready-length c r)) ∙ standing-count es (entryIn beyond) (r .formed) stood)

@@ -26,10 +26,9 @@ use Rattle.catalogue_records.specs.Entries.{beyond, entryAt, at-place, entry-ha
 use Rattle.lattice_membership.specs.declared.Lattice.{Lattice}
 use Rattle.lattice_membership.specs.Known.{Left, leftIn}
 use Rattle.catalogue_standing.specs.ReducedEntry.{basisIn}
-use Rattle.catalogue_standing.specs.SameLattice.{noLattice, leftsIn}
-use Rattle.catalogue_standing.specs.Places.{Closed}
+use Rattle.catalogue_standing.specs.SameLattice.{noLattice}
 use Rattle.catalogue_standing.specs.Standing.{StandingPlaces}
-use Rattle.catalogue_standing.specs.ReducedEntries.{WasRead, HoldReduced, ready-length, ready-numbers, keeps-standing}
+use Rattle.catalogue_standing.specs.ReducedEntries.{WasRead, HoldReduced, ready-length, ready-numbers}
 use Rattle.catalogue_fold.specs.declared.printing.Way.{Way}
 use Rattle.catalogue_fold.specs.Spread.{Full, kept-full, kept-vectors}
 use Rattle.catalogue_fold.specs.Printing.{Led}
@@ -68,7 +67,7 @@ entries-joined ss (s ∷ more) =
     append-assoc (entryLine ss s) (vectorsShown s) (joined (shown ss) more) ∙ ap (λ t. entryLine ss s ++ (vectorsShown s ++ t)) (entries-joined ss more)
 
 -- ---- the entry at place k
-module _ (c : Catalogue) (r : WasRead c) {list : List Lattice} {places numbers : List ℕ} (kept : HoldReduced c (c .count) list) (closed : Closed (leftsIn list) (c .count) places)
+module _ (c : Catalogue) (r : WasRead c) {list : List Lattice} {places numbers : List ℕ} (kept : HoldReduced c (c .count) list) (stood : StandingPlaces (entriesIn c) (entryIn beyond) places)
     (named : numbers ≡ map (λ e. e .number) (c .entries)) (k : ℕ) (here : k < c .count) where
   abbrev es : List definition.Entry
   es = entriesIn c
@@ -78,9 +77,6 @@ module _ (c : Catalogue) (r : WasRead c) {list : List Lattice} {places numbers :
 
   abbrev e : Entry
   e = entryAt c k
-
-  stood : StandingPlaces es o places
-  stood = keeps-standing c r kept closed
 
   inside : k < length es
   inside = omega (arith, ready-length c r)

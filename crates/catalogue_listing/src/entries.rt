@@ -4,10 +4,10 @@ ghost use Prim.Native.Nat.{_+_, _≤_};
 ghost use lib.ListN.{length};
 ghost use Rattle.fold_rules.specs.Fold.{closedList};
 ghost use Rattle.fold_rules.specs.Listing.{vectorLines, entryLines, catalogueLines};
-ghost use Rattle.catalogue_records.specs.EntriesIn.{entriesIn};
+ghost use Rattle.catalogue_records.specs.EntriesIn.{entryIn, entriesIn};
+ghost use Rattle.catalogue_records.specs.Entries.{beyond};
 ghost use Rattle.lattice_membership.specs.Known.{leftIn};
-ghost use Rattle.catalogue_standing.specs.SameLattice.{leftsIn};
-ghost use Rattle.catalogue_standing.specs.Places.{Closed};
+ghost use Rattle.catalogue_standing.specs.Standing.{StandingPlaces};
 ghost use Rattle.catalogue_standing.specs.ReducedEntries.{WasRead, HoldReduced};
 ghost use Rattle.catalogue_fold.specs.Spread.{Full};
 ghost use Rattle.text_output.specs.Puts.{Puts};
@@ -63,7 +63,8 @@ fn put_entries(
 ) -> usize
     requires { ⌜ WasRead c ⌝ }
     requires { ⌜ HoldReduced c (c .count) list ⌝ }
-    requires { ⌜ Closed (leftsIn list) (c .count) (now standing) ⌝ }
+    requires { ⌜ c .count ≤ length (now standing) ⌝ }
+    requires { ⌜ StandingPlaces (entriesIn c) (entryIn beyond) (now standing) ⌝ }
     requires { ⌜ at + length (entryLines (closedList (entriesIn c)) (closedList (entriesIn c))) ≤ length (now out) ⌝ }
     ensures { λ r. ⌜ Puts (entryLines (closedList (entriesIn c)) (closedList (entriesIn c))) (now (out .entry)) at (now (out .exit)) r ⌝ }
 {
@@ -109,7 +110,7 @@ pub(crate) fn put_catalogue(out: &mut [u8], c: Catalogue) -> usize
     ensures { λ r. ⌜ Puts (catalogueLines (closedList (entriesIn c))) (now (out .entry)) 0 (now (out .exit)) r ⌝ }
 {
     let list = catalogue_standing::entry_lattices::lattices_of(c);
-    let standing = catalogue_standing::standing_places::closed(list, c.count);
+    let standing = catalogue_standing::standing_places::closed(c, list);
     let own = count_standing(&standing, c.count);
     let n = lines::put_counts(out, 0, c.count as u64, own as u64);
     put_entries(out, n, c, list, &standing)

@@ -10,11 +10,11 @@ use lib.IntN.{ℤ}
 use lib.ListN.{length, set, take, length-set, length-append}
 use lib.Seq.{take-suc-set}
 use Rattle.lattices.specs.Vector.{Vec}
-use Rattle.catalogue_rules.specs.Word.{Word, head, coordinate, see, end, other}
+use Rattle.catalogue_rules.specs.Word.{Word, head, coordinate, see, end, draft, other}
 use Rattle.catalogue_rules.specs.Catalogue as definition
 use Rattle.catalogue_rules.specs.Catalogue.{Head, coordinates, mostNumbers}
 use Rattle.catalogue_rules.specs.Read.{State, outside, inside, after, closed, coordinateOf, withVector, withCoordinate}
-use Rattle.catalogue_rules.specs.Laws.Moves.{Moves, by-head, by-coordinate, by-see, by-end}
+use Rattle.catalogue_rules.specs.Laws.Moves.{Moves, by-head, by-coordinate, by-draft, by-see, by-end}
 use Rattle.catalogue_rules.specs.Laws.RoundTrip.{coordinates-snoc}
 use Rattle.catalogue_reader.specs.States.{Fine}
 
@@ -24,6 +24,7 @@ placed l n (head number d m) = l
 placed l n (coordinate load) = set l n (coordinateOf load)
 placed l n (see number) = l
 placed l n (end count) = l
+placed l n (draft load) = l
 placed l n (other k load) = l
 
 -- there is room for a coordinate, and its load is within the limit
@@ -32,13 +33,14 @@ Place n (head number d m) = Unit {0}
 Place n (coordinate load) = n < mostNumbers
 Place n (see number) = Unit {0}
 Place n (end count) = Unit {0}
+Place n (draft load) = Unit {0}
 Place n (other k load) = Unit {0}
 
 -- the coordinates of the entry being read
 abbrev pub cellsOf : State → List ℤ
 cellsOf (outside es) = []
 cellsOf (inside es h vs v) = coordinates vs ++ v
-cellsOf (after es h vs) = coordinates vs ++ []
+cellsOf (after es h vs marked) = coordinates vs ++ []
 cellsOf (closed es) = []
 
 -- they stand in the first places of the array
@@ -53,7 +55,7 @@ module _ (es : List definition.Entry) (h : Head) (vs : List Vec) (u : Vec) where
   vector-cells : cellsOf (withVector es h (vs ++ (u ∷ []))) ≡ coordinates vs ++ u
   vector-cells = go (eqb (length (vs ++ (u ∷ []))) (h .d))
     where
-      go : (t : Bool) → cellsOf (elim t [ true ↦ after es h (vs ++ (u ∷ [])) | false ↦ inside es h (vs ++ (u ∷ [])) [] ]) ≡ coordinates vs ++ u
+      go : (t : Bool) → cellsOf (elim t [ true ↦ after es h (vs ++ (u ∷ [])) false | false ↦ inside es h (vs ++ (u ∷ [])) [] ]) ≡ coordinates vs ++ u
       go true = append-nil (coordinates (vs ++ (u ∷ []))) ∙ coordinates-snoc vs u
       go false = append-nil (coordinates (vs ++ (u ∷ []))) ∙ coordinates-snoc vs u
 
@@ -79,5 +81,6 @@ cells-moves {l = l} (by-coordinate es h vs v load p) fine c =
           ∙ take-suc-set l (length k) x (omega (arith, c .long, fine .1))
           ∙ ap (λ z. z ++ (x ∷ [])) (c .first) ∙ sym now;
     }
-cells-moves (by-see es h vs s) fine c = record { long = c .long; first = refl }
+cells-moves (by-draft es h vs) fine c = record { long = c .long; first = c .first }
+cells-moves (by-see es h vs marked s) fine c = record { long = c .long; first = refl }
 cells-moves (by-end b) fine c = record { long = c .long; first = refl }

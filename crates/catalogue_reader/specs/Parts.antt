@@ -1,17 +1,17 @@
 -- An entry while it is read, as the code stores it: what each operation does to the stored fields.
-use mathlib.Core.Bool.{Bool}
+use mathlib.Core.Bool.{Bool, true, false}
 use mathlib.Core.List.{List}
 use mathlib.Core.Option.{Option, none, some}
 use Prim.Native.Nat.{ℕ, _+_}
 use lib.IntN.{ℤ, pos, _+ℤ_, _*ℤ_}
-use Rattle.catalogue_rules.specs.Word.{Word, head, coordinate, see, end, other}
+use Rattle.catalogue_rules.specs.Word.{Word, head, coordinate, see, end, draft, other}
 use Rattle.catalogue_rules.specs.Catalogue.{See, seeNumber}
 use Rattle.catalogue_records.specs.declared.Entry.{Entry}
 use Rattle.catalogue_records.specs.Stored.{sees, seePlace}
 use Rattle.catalogue_reader.specs.declared.parts.Part.{Part}
 
 abbrev pub started : ℕ → ℕ → ℕ → ℕ → Part
-started number d m place = record { number = number; d = d; m = m; place = place; row = 0; column = 0; square = pos 0; filled = 0 }
+started number d m place = record { number = number; d = d; m = m; place = place; row = 0; column = 0; square = pos 0; filled = 0; draft = false }
 
 abbrev pub noPart : Part
 noPart = started 0 0 0 0
@@ -26,6 +26,7 @@ putCoordinate p x = record {
   column = p .column + 1;
   square = p .square +ℤ x *ℤ x;
   filled = p .filled + 1;
+  draft = p .draft;
 }
 
 abbrev pub putVector : Part → Part
@@ -38,6 +39,20 @@ putVector p = record {
   column = 0;
   square = pos 0;
   filled = p .filled;
+  draft = p .draft;
+}
+
+abbrev pub putMark : Part → Part
+putMark p = record {
+  number = p .number;
+  d = p .d;
+  m = p .m;
+  place = p .place;
+  row = p .row;
+  column = p .column;
+  square = p .square;
+  filled = p .filled;
+  draft = true;
 }
 
 -- with its coordinates; whether it has a see word, its number and where it stands
@@ -47,6 +62,7 @@ whole p cs t n i = record {
   d = p .d;
   m = p .m;
   place = p .place;
+  draft = p .draft;
   sees = t;
   see = n;
   at = i;
@@ -59,6 +75,7 @@ seeAt i (head number d m) = none
 seeAt i (coordinate l) = none
 seeAt i (see number) = some (record { number = number; place = i })
 seeAt i (end count) = none
+seeAt i (draft l) = none
 seeAt i (other k l) = none
 
 -- the entry that it makes whole

@@ -14,7 +14,7 @@ use Rattle.catalogue_rules.specs.Word.{Word, decode}
 use Rattle.catalogue_rules.specs.Laws.Word.{InRange, decode-range}
 use Rattle.catalogue_rules.specs.Catalogue.{Outcome, refused, mostEntries, mostNumbers}
 use Rattle.catalogue_rules.specs.Read.{State, outside, inside, after, closed, Step, next, stop, step, atLast, readWords}
-use Rattle.catalogue_rules.specs.Laws.Moves.{Moves, by-head, by-coordinate, by-see, by-end, Going, moved}
+use Rattle.catalogue_rules.specs.Laws.Moves.{Moves, by-head, by-coordinate, by-draft, by-see, by-end, Going, moved}
 use Rattle.catalogue_rules.specs.Laws.WellFormed.{Known, known-moves, nothing-read}
 use Rattle.catalogue_records.specs.declared.Entry.{Entry}
 use Rattle.catalogue_reader.specs.declared.reading.Reading.{Reading}
@@ -57,39 +57,41 @@ at-start words coordinates long = record {
 goes-on : (s : State) → readingOf s .refusal ≡ 0
 goes-on (outside es) = refl
 goes-on (inside es h vs v) = refl
-goes-on (after es h vs) = refl
+goes-on (after es h vs marked) = refl
 goes-on (closed es) = refl
 
 whole-count : (s : State) → readingOf s .count ≡ length (wholeIn s)
 whole-count (outside es) = refl
 whole-count (inside es h vs v) = refl
-whole-count (after es h vs) = refl
+whole-count (after es h vs marked) = refl
 whole-count (closed es) = refl
 
 filled-count : (s : State) → readingOf s .part .filled ≡ length (cellsOf s)
 filled-count (outside es) = refl
 filled-count (inside es h vs v) = refl
-filled-count (after es h vs) = refl
+filled-count (after es h vs marked) = refl
 filled-count (closed es) = refl
 
 few : (s : State) → Known s → length (wholeIn s) ≤ mostEntries
 few (outside es) k = k .few
 few (inside es h vs v) k = k .0 .entered .few
-few (after es h vs) k = k .0 .entered .few
+few (after es h vs marked) k = k .0 .entered .few
 few (closed es) k = k .few
 
 -- a head has room for its number
 head-few : {s t : State} {i : ℕ} {w : Word} → Moves s i w t → Known t → Space (length (wholeIn t)) w
 head-few (by-head h b p) k = k .0 .few
 head-few (by-coordinate es h vs v l p) k = tt
-head-few (by-see es h vs s) k = tt
+head-few (by-draft es h vs) k = tt
+head-few (by-see es h vs marked s) k = tt
 head-few (by-end b) k = tt
 
 -- a coordinate has room
 cell-few : {s t : State} {i : ℕ} {w : Word} → Moves s i w t → Fine s → Place (length (cellsOf s)) w
 cell-few (by-head h b p) k = tt
 cell-few (by-coordinate es h vs v l p) k = k .1
-cell-few (by-see es h vs s) k = tt
+cell-few (by-draft es h vs) k = tt
+cell-few (by-see es h vs marked s) k = tt
 cell-few (by-end b) k = tt
 
 -- the outcome after a step
@@ -203,7 +205,7 @@ module _ (words : List ℕ) (i : ℕ) {entries : List Entry} {numbers : List ℕ
       go : (x : State) → isClosed (readingOf x .phase) ≡ false → noCatalogue 10 i ≡ catalogueOf (atLast x i)
       go (outside es) h = refl
       go (inside es h vs v) e = refl
-      go (after es h vs) e = refl
+      go (after es h vs marked) e = refl
       go (closed es) h = absurd (true≢false h)
 
   pub complete : isClosed (s .phase) ≡ true → holding (s .count) entries ≡ catalogueOf (readWords (outside []) 0 words)
@@ -215,5 +217,5 @@ module _ (words : List ℕ) (i : ℕ) {entries : List Entry} {numbers : List ℕ
       go : (x : State) → isClosed (readingOf x .phase) ≡ true → holding (readingOf x .count) (stored (wholeIn x)) ≡ catalogueOf (atLast x i)
       go (outside es) h = absurd (true≢false (sym h))
       go (inside es h vs v) e = absurd (true≢false (sym e))
-      go (after es h vs) e = absurd (true≢false (sym e))
+      go (after es h vs marked) e = absurd (true≢false (sym e))
       go (closed es) h = refl

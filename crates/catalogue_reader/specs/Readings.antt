@@ -9,13 +9,13 @@ use lib.Signed.{ltZ}
 use Rattle.integers.specs.Every.{any}
 use Rattle.integers.specs.Size.{Within}
 use Rattle.lattices.specs.Refusal.{oneTo, mostSquare, mostVectors, mostCoordinates}
-use Rattle.catalogue_rules.specs.Word.{Word, head, coordinate, see, end, other}
-use Rattle.catalogue_rules.specs.Read.{checked, coordinateOf}
+use Rattle.catalogue_rules.specs.Word.{Word, head, coordinate, see, end, draft, other}
+use Rattle.catalogue_rules.specs.Read.{checked, coordinateOf, draftRows}
 use Rattle.catalogue_reader.specs.declared.reading.Phase.{Phase}
 use Rattle.catalogue_reader.specs.declared.reading.Phase.the-variants.{Outside, Inside, After, Closed}
 use Rattle.catalogue_reader.specs.declared.parts.Part.{Part}
 use Rattle.catalogue_reader.specs.declared.reading.Reading.{Reading}
-use Rattle.catalogue_reader.specs.Parts.{noPart, started, putCoordinate, putVector}
+use Rattle.catalogue_reader.specs.Parts.{noPart, started, putCoordinate, putVector, putMark}
 use Rattle.catalogue_rules.specs.Catalogue.{mostEntries, mostNumbers}
 
 abbrev pub isNumber : ℕ → ℕ → Bool
@@ -57,6 +57,9 @@ coordinateRead s l =
     let p = putCoordinate (s .part) (coordinateOf l) in
     checked stopped ((ltb 40000 l, 4) ∷ []) (columnRead (eqb (p .column) (p .m)) s p)
 
+abbrev pub draftRead : Reading → ℕ → Reading
+draftRead s l = checked stopped (draftRows (s .part .draft) l) (going After (s .count) (putMark (s .part)))
+
 abbrev pub entryRead : Reading → Reading
 entryRead s = going Outside (s .count + 1) noPart
 
@@ -68,6 +71,7 @@ outsideRead numbers s i (head number d m) = headRead numbers s number d m i
 outsideRead numbers s i (coordinate l) = stopped 10
 outsideRead numbers s i (see number) = stopped 10
 outsideRead numbers s i (end count) = endRead s count
+outsideRead numbers s i (draft l) = stopped 10
 outsideRead numbers s i (other k l) = stopped 10
 
 abbrev pub insideRead : Reading → Word → Reading
@@ -75,6 +79,7 @@ insideRead s (head number d m) = stopped 10
 insideRead s (coordinate l) = coordinateRead s l
 insideRead s (see number) = stopped 10
 insideRead s (end count) = stopped 10
+insideRead s (draft l) = stopped 10
 insideRead s (other k l) = stopped 10
 
 abbrev pub afterRead : List ℕ → Reading → ℕ → Word → Reading
@@ -82,6 +87,7 @@ afterRead numbers s i (head number d m) = headRead numbers (entryRead s) number 
 afterRead numbers s i (coordinate l) = stopped 10
 afterRead numbers s i (see number) = entryRead s
 afterRead numbers s i (end count) = endRead (entryRead s) count
+afterRead numbers s i (draft l) = draftRead s l
 afterRead numbers s i (other k l) = stopped 10
 
 -- the word at index i, by what may come next

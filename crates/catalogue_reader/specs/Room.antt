@@ -16,7 +16,7 @@ use Rattle.catalogue_rules.specs.Word.{Word}
 use Rattle.catalogue_rules.specs.Catalogue as definition
 use Rattle.catalogue_rules.specs.Catalogue.{Head, coordinates, mostEntries, mostNumbers}
 use Rattle.catalogue_rules.specs.Read.{State, outside, inside, after, closed, coordinateOf, withVector, withCoordinate}
-use Rattle.catalogue_rules.specs.Laws.Moves.{Moves, by-head, by-coordinate, by-see, by-end}
+use Rattle.catalogue_rules.specs.Laws.Moves.{Moves, by-head, by-coordinate, by-draft, by-see, by-end}
 use Rattle.catalogue_rules.specs.Laws.WellFormed.{Known}
 use Rattle.catalogue_rules.specs.Laws.EntriesAccepted.{length-coordinates}
 use Rattle.integers.specs.Filled.{filled}
@@ -31,7 +31,7 @@ use Rattle.lattices.specs.Refusal.{mostVectors, mostCoordinates}
 abbrev pub Due : State → Type 0
 Due (outside es) = Unit {0}
 Due (inside es h vs v) = (length vs < h .d) × (length v < h .m)
-Due (after es h vs) = Unit {0}
+Due (after es h vs marked) = Unit {0}
 Due (closed es) = Unit {0}
 
 -- ---- what is due is kept
@@ -40,7 +40,7 @@ module _ (es : List definition.Entry) (h : Head) (vs : List Vec) (u : Vec) (some
   due-vector : Due (withVector es h (vs ++ (u ∷ [])))
   due-vector = go (eqb (length (vs ++ (u ∷ []))) (h .d)) refl
     where
-      go : (t : Bool) → eqb (length (vs ++ (u ∷ []))) (h .d) ≡ t → Due (elim t [ true ↦ after es h (vs ++ (u ∷ [])) | false ↦ inside es h (vs ++ (u ∷ [])) [] ])
+      go : (t : Bool) → eqb (length (vs ++ (u ∷ []))) (h .d) ≡ t → Due (elim t [ true ↦ after es h (vs ++ (u ∷ [])) false | false ↦ inside es h (vs ++ (u ∷ [])) [] ])
       go true e = tt
       go false e =
           let n : length (vs ++ (u ∷ [])) ≢ h .d = eqb-false _ _ e in
@@ -59,7 +59,8 @@ pub due-moves : {s t : State} {i : ℕ} {w : Word} → Moves s i w t → Known s
 due-moves (by-head h b p) k d = (one-to mostVectors (h .d) (not-false _ (p .1 .0)) .0, one-to mostCoordinates (h .m) (not-false _ (p .1 .1 .0)) .0)
 due-moves (by-coordinate es h vs v l p) k d =
     due-coordinate es h vs (v ++ (coordinateOf l ∷ [])) (one-to mostCoordinates (h .m) (k .0 .head .m) .0) (d .0) (omega (arith, length-append v (coordinateOf l ∷ []), d .1))
-due-moves (by-see es h vs s) k d = tt
+due-moves (by-draft es h vs) k d = tt
+due-moves (by-see es h vs marked s) k d = tt
 due-moves (by-end b) k d = tt
 
 -- ---- so there is room
@@ -74,11 +75,11 @@ places es h vs v k d =
 pub fine : (s : State) → Known s → Due s → Fine s
 fine (outside es) k d = k .few
 fine (inside es h vs v) k d = (omega (arith, d .1, one-to mostCoordinates (h .m) (k .0 .head .m) .1), places es h vs v k d, k .2)
-fine (after es h vs) k d = k .0 .few
+fine (after es h vs marked) k d = k .0 .few
 fine (closed es) k d = k .few
 
 pub ready : (s : State) → Known s → Due s → ReadyFor (filled 0 mostEntries (numbersOf s)) (readingOf s)
 ready (outside es) k d = record { room = omega (arith, length-filled 0 mostEntries (numbersOf (outside es)), k .few) }
 ready (inside es h vs v) k d = record { room = (omega (arith, d .0, one-to mostVectors (h .d) (k .0 .head .d) .1), (omega (arith, d .1, one-to mostCoordinates (h .m) (k .0 .head .m) .1), (places es h vs v k d, within-le (omega (arith, d .1, one-to mostCoordinates (h .m) (k .0 .head .m) .1)) (square-within v (k .2))))) }
-ready (after es h vs) k d = record { room = (k .0 .few, omega (arith, length-filled 0 mostEntries (numbersOf (after es h vs)), k .0 .few)) }
+ready (after es h vs marked) k d = record { room = (k .0 .few, omega (arith, length-filled 0 mostEntries (numbersOf (after es h vs marked)), k .0 .few)) }
 ready (closed es) k d = record { room = tt }

@@ -1,6 +1,6 @@
 -- A part of a definition's entry as the code stores it, and that the code's operations are those of the definition.
 use mathlib.Core.Path.{_≡_, refl, sym, ap, ap₂, _∙_}
-use mathlib.Core.Bool.{false}
+use mathlib.Core.Bool.{Bool, false}
 use mathlib.Core.List.{List, [], _∷_, _++_, append-nil, append-assoc}
 use mathlib.Core.Option.{Option}
 use Prim.Native.Nat.{ℕ, _+_, _*_}
@@ -21,9 +21,9 @@ use Rattle.integers.specs.Filled.{filled}
 use Rattle.catalogue_records.specs.Stored.{sees, seePlace, entryOf}
 use Rattle.catalogue_reader.specs.Parts.{putCoordinate, putVector, whole}
 
--- an entry's head, its whole vectors and the vector being read
-abbrev pub partOf : Head → List Vec → Vec → Part
-partOf h vs v = record {
+-- an entry's head, its whole vectors and the vector being read, and whether its mark was read
+abbrev pub partOf : Head → List Vec → Vec → Bool → Part
+partOf h vs v marked = record {
   number = h .number;
   d = h .d;
   m = h .m;
@@ -32,6 +32,7 @@ partOf h vs v = record {
   column = length v;
   square = N v;
   filled = length (coordinates vs ++ v);
+  draft = marked;
 }
 
 -- ---- the squared length of the vector being read
@@ -55,22 +56,22 @@ square-within (x ∷ v) h =
 length-snoc : {A : Type 0} (l : List A) (x : A) → length l + 1 ≡ length (l ++ (x ∷ []))
 length-snoc l x = sym (length-append l (x ∷ []))
 
-module _ (h : Head) (vs : List Vec) (v : Vec) where
+module _ (h : Head) (vs : List Vec) (v : Vec) (marked : Bool) where
   -- the fields that an operation changes
   made : ℕ → ℕ → ℤ → ℕ → Part
-  made row column square full = record { number = h .number; d = h .d; m = h .m; place = h .place; row = row; column = column; square = square; filled = full }
+  made row column square full = record { number = h .number; d = h .d; m = h .m; place = h .place; row = row; column = column; square = square; filled = full; draft = marked }
 
-  pub part-coordinate : (x : ℤ) → putCoordinate (partOf h vs v) x ≡ partOf h vs (v ++ (x ∷ []))
+  pub part-coordinate : (x : ℤ) → putCoordinate (partOf h vs v marked) x ≡ partOf h vs (v ++ (x ∷ [])) marked
   unfolding made
   part-coordinate x =
       let l = coordinates vs ++ v in
       ap₂ (λ c s. made (length vs) c s (length l + 1)) (length-snoc v x) (square-more v x)
       ∙ ap (λ n. made (length vs) (length (v ++ (x ∷ []))) (N (v ++ (x ∷ []))) n) (length-snoc l x ∙ ap length (append-assoc (coordinates vs) v (x ∷ [])))
 
-  pub part-vector : putVector (partOf h vs v) ≡ partOf h (vs ++ (v ∷ [])) []
+  pub part-vector : putVector (partOf h vs v marked) ≡ partOf h (vs ++ (v ∷ [])) [] marked
   unfolding made dot
   part-vector = ap₂ (λ r n. made r 0 (pos 0) n) (length-snoc vs v) (ap length (sym (append-nil (coordinates (vs ++ (v ∷ []))) ∙ coordinates-snoc vs v)))
 
 -- the entry is whole
-pub whole-entry : (h : Head) (vs : List Vec) (s : Option See) → whole (partOf h vs []) (filled (pos 0) mostNumbers (coordinates vs)) (sees s) (seeNumber s) (seePlace s) ≡ entryOf (record { head = h; vectors = vs; see = s })
-whole-entry h vs s = refl
+pub whole-entry : (h : Head) (vs : List Vec) (marked : Bool) (s : Option See) → whole (partOf h vs [] marked) (filled (pos 0) mostNumbers (coordinates vs)) (sees s) (seeNumber s) (seePlace s) ≡ entryOf (record { head = h; vectors = vs; draft = marked; see = s })
+whole-entry h vs marked s = refl

@@ -12,10 +12,10 @@ use lib.Signed.{ltZ}
 use Rattle.lattices.specs.Vector.{Vec, N, dot}
 use Rattle.integers.specs.Every.{any}
 use Rattle.lattices.specs.Refusal.{oneTo, mostSize, mostSquare, mostVectors, mostCoordinates}
-use Rattle.catalogue_rules.specs.Word.{Word, head, coordinate, see, end, other}
+use Rattle.catalogue_rules.specs.Word.{Word, head, coordinate, see, end, draft, other}
 use Rattle.catalogue_rules.specs.Catalogue as definition
 use Rattle.catalogue_rules.specs.Catalogue.{Head, See, coordinates, mostEntries, mostNumbers}
-use Rattle.catalogue_rules.specs.Read.{State, outside, inside, after, closed, Step, next, stop, checked, isNumbered, withEntry, headRows, atHead, coordinateOf, withVector, atCoordinate, atEnd, step}
+use Rattle.catalogue_rules.specs.Read.{State, outside, inside, after, closed, Step, next, stop, checked, isNumbered, withEntry, headRows, atHead, coordinateOf, withVector, atCoordinate, draftRows, atDraft, atEnd, step}
 use Rattle.catalogue_reader.specs.declared.reading.Phase.{Phase}
 use Rattle.catalogue_reader.specs.declared.reading.Phase.the-variants.{Outside, Inside, After, Closed}
 use Rattle.catalogue_reader.specs.declared.parts.Part.{Part}
@@ -24,15 +24,15 @@ use Rattle.integers.specs.Filled.{filled}
 use Rattle.integers.specs.FilledLaws.{take-filled, map-snoc, any-map}
 use Rattle.catalogue_reader.specs.Parts.{noPart, started}
 use Rattle.catalogue_reader.specs.Shown.{partOf, part-coordinate, part-vector}
-use Rattle.catalogue_reader.specs.Readings.{isNumber, going, stopped, headRead, vectorPhase, vectorRead, columnRead, coordinateRead, endRead, stepRead}
+use Rattle.catalogue_reader.specs.Readings.{isNumber, going, stopped, headRead, vectorPhase, vectorRead, columnRead, coordinateRead, draftRead, endRead, stepRead}
 
 abbrev pub reading : Phase → List definition.Entry → Part → Reading
 reading phase es p = going phase (length es) p
 
 abbrev pub readingOf : State → Reading
 readingOf (outside es) = reading Outside es noPart
-readingOf (inside es h vs v) = reading Inside es (partOf h vs v)
-readingOf (after es h vs) = reading After es (partOf h vs [])
+readingOf (inside es h vs v) = reading Inside es (partOf h vs v false)
+readingOf (after es h vs marked) = reading After es (partOf h vs [] marked)
 readingOf (closed es) = reading Closed es noPart
 
 abbrev pub stepOf : Step → Reading
@@ -46,14 +46,14 @@ numbers es = map (λ e. e .head .number) es
 abbrev pub numbersOf : State → List ℕ
 numbersOf (outside es) = numbers es
 numbersOf (inside es h vs v) = numbers es ++ (h .number ∷ [])
-numbersOf (after es h vs) = numbers es ++ (h .number ∷ [])
+numbersOf (after es h vs marked) = numbers es ++ (h .number ∷ [])
 numbersOf (closed es) = numbers es
 
 -- what a step relies on
 abbrev pub Fine : State → Type 0
 Fine (outside es) = length es ≤ mostEntries
 Fine (inside es h vs v) = (length v < mostCoordinates) × (length (coordinates vs ++ v) < mostNumbers) × (any (λ x. ltb mostSize (natAbs x)) v ≡ false)
-Fine (after es h vs) = length es < mostEntries
+Fine (after es h vs marked) = length es < mostEntries
 Fine (closed es) = length es ≤ mostEntries
 
 -- ---- rows
@@ -94,34 +94,39 @@ end-step es f p count = step-rows ((not (eqb count (length es)), 13) ∷ []) (cl
 
 -- ---- a whole entry
 
-entry-step : (es : List definition.Entry) (h : Head) (vs : List Vec) (s : Option See) → going Outside (length es + 1) noPart ≡ readingOf (outside (withEntry es h vs s))
-entry-step es h vs s = ap (λ n. going Outside n noPart) (sym (length-append es (record { head = h; vectors = vs; see = s } ∷ [])))
+entry-step : (es : List definition.Entry) (h : Head) (vs : List Vec) (marked : Bool) (s : Option See) → going Outside (length es + 1) noPart ≡ readingOf (outside (withEntry es h vs marked s))
+entry-step es h vs marked s = ap (λ n. going Outside n noPart) (sym (length-append es (record { head = h; vectors = vs; draft = marked; see = s } ∷ [])))
 
 -- ---- a coordinate
 
 module _ (es : List definition.Entry) (h : Head) (vs : List Vec) where
-  vector-step : (u : Vec) → vectorRead (reading Inside es (partOf h vs u)) (partOf h vs u) ≡ stepOf (checked stop ((ltZ (pos mostSquare) (N u), 4) ∷ []) (next (withVector es h (vs ++ (u ∷ [])))))
+  vector-step : (u : Vec) → vectorRead (reading Inside es (partOf h vs u false)) (partOf h vs u false) ≡ stepOf (checked stop ((ltZ (pos mostSquare) (N u), 4) ∷ []) (next (withVector es h (vs ++ (u ∷ [])))))
   vector-step u =
-      ap (λ p. checked stopped ((ltZ (pos mostSquare) (N u), 4) ∷ []) (going (vectorPhase (eqb (p .row) (p .d))) (length es) p)) (part-vector h vs u)
+      ap (λ p. checked stopped ((ltZ (pos mostSquare) (N u), 4) ∷ []) (going (vectorPhase (eqb (p .row) (p .d))) (length es) p)) (part-vector h vs u false)
       ∙ ap (λ s. checked stopped ((ltZ (pos mostSquare) (N u), 4) ∷ []) s) (go (eqb (length (vs ++ (u ∷ []))) (h .d)))
       ∙ step-rows ((ltZ (pos mostSquare) (N u), 4) ∷ []) (withVector es h (vs ++ (u ∷ [])))
     where
-      go : (t : Bool) → going (vectorPhase t) (length es) (partOf h (vs ++ (u ∷ [])) []) ≡ readingOf (elim t [ true ↦ after es h (vs ++ (u ∷ [])) | false ↦ inside es h (vs ++ (u ∷ [])) [] ])
+      go : (t : Bool) → going (vectorPhase t) (length es) (partOf h (vs ++ (u ∷ [])) [] false) ≡ readingOf (elim t [ true ↦ after es h (vs ++ (u ∷ [])) false | false ↦ inside es h (vs ++ (u ∷ [])) [] ])
       go true = refl
       go false = refl
 
   coordinate-step : (v : Vec) (l : ℕ) → coordinateRead (readingOf (inside es h vs v)) l ≡ stepOf (atCoordinate es h vs v l)
   coordinate-step v l =
       let u = v ++ (coordinateOf l ∷ []) in
-      ap (λ p. checked stopped ((ltb 40000 l, 4) ∷ []) (columnRead (eqb (p .column) (p .m)) (readingOf (inside es h vs v)) p)) (part-coordinate h vs v (coordinateOf l))
+      ap (λ p. checked stopped ((ltb 40000 l, 4) ∷ []) (columnRead (eqb (p .column) (p .m)) (readingOf (inside es h vs v)) p)) (part-coordinate h vs v false (coordinateOf l))
       ∙ go (ltb 40000 l) (eqb (length u) (h .m))
     where
       go : (a b : Bool)
-          → checked stopped ((a, 4) ∷ []) (columnRead b (readingOf (inside es h vs v)) (partOf h vs (v ++ (coordinateOf l ∷ []))))
+          → checked stopped ((a, 4) ∷ []) (columnRead b (readingOf (inside es h vs v)) (partOf h vs (v ++ (coordinateOf l ∷ [])) false))
           ≡ stepOf (checked stop ((a || (b && ltZ (pos mostSquare) (N (v ++ (coordinateOf l ∷ [])))), 4) ∷ []) (next (elim b [ true ↦ withVector es h (vs ++ ((v ++ (coordinateOf l ∷ [])) ∷ [])) | false ↦ inside es h vs (v ++ (coordinateOf l ∷ [])) ])))
       go true b = refl
       go false true = vector-step (v ++ (coordinateOf l ∷ []))
       go false false = refl
+
+-- ---- the mark of a draft
+
+draft-step : (es : List definition.Entry) (h : Head) (vs : List Vec) (marked : Bool) (l : ℕ) → draftRead (readingOf (after es h vs marked)) l ≡ stepOf (atDraft es h vs marked l)
+draft-step es h vs marked l = step-rows (draftRows marked l) (after es h vs true)
 
 -- ---- every step
 
@@ -131,18 +136,21 @@ step-shown (outside es) i (head number d m) fine = head-step es Outside noPart n
 step-shown (outside es) i (coordinate l) fine = refl
 step-shown (outside es) i (see number) fine = refl
 step-shown (outside es) i (end count) fine = end-step es Outside noPart count
+step-shown (outside es) i (draft l) fine = refl
 step-shown (outside es) i (other k l) fine = refl
 step-shown (inside es h vs v) i (head number d m) fine = refl
 step-shown (inside es h vs v) i (coordinate l) fine = coordinate-step es h vs v l
 step-shown (inside es h vs v) i (see number) fine = refl
 step-shown (inside es h vs v) i (end count) fine = refl
+step-shown (inside es h vs v) i (draft l) fine = refl
 step-shown (inside es h vs v) i (other k l) fine = refl
-step-shown (after es h vs) i (head number d m) fine =
-    let e : definition.Entry = record { head = h; vectors = vs; see = none } in
-    ap₂ (λ ns s. headRead (filled 0 mostEntries ns) s number d m i) (map-snoc (λ e. e .head .number) es e) (entry-step es h vs none)
-    ∙ head-step (withEntry es h vs none) Outside noPart number d m i (omega (arith, length-append es (e ∷ []), fine))
-step-shown (after es h vs) i (coordinate l) fine = refl
-step-shown (after es h vs) i (see number) fine = entry-step es h vs (some (record { number = number; place = i }))
-step-shown (after es h vs) i (end count) fine = ap (λ s. endRead s count) (entry-step es h vs none) ∙ end-step (withEntry es h vs none) Outside noPart count
-step-shown (after es h vs) i (other k l) fine = refl
+step-shown (after es h vs marked) i (head number d m) fine =
+    let e : definition.Entry = record { head = h; vectors = vs; draft = marked; see = none } in
+    ap₂ (λ ns s. headRead (filled 0 mostEntries ns) s number d m i) (map-snoc (λ e. e .head .number) es e) (entry-step es h vs marked none)
+    ∙ head-step (withEntry es h vs marked none) Outside noPart number d m i (omega (arith, length-append es (e ∷ []), fine))
+step-shown (after es h vs marked) i (coordinate l) fine = refl
+step-shown (after es h vs marked) i (see number) fine = entry-step es h vs marked (some (record { number = number; place = i }))
+step-shown (after es h vs marked) i (end count) fine = ap (λ s. endRead s count) (entry-step es h vs marked none) ∙ end-step (withEntry es h vs marked none) Outside noPart count
+step-shown (after es h vs marked) i (draft l) fine = draft-step es h vs marked l
+step-shown (after es h vs marked) i (other k l) fine = refl
 step-shown (closed es) i w fine = refl

@@ -10,11 +10,11 @@ use lib.IntN.{ℤ, pos}
 use lib.ListN.{length, set, take, length-append, length-map}
 use borrow.Author.Tests.{lt-ltb, le-ltb, leb-false}
 use Rattle.lattices.specs.Vector.{Vec}
-use Rattle.catalogue_rules.specs.Word.{Word, head, coordinate, see, end, other}
+use Rattle.catalogue_rules.specs.Word.{Word, head, coordinate, see, end, draft, other}
 use Rattle.catalogue_rules.specs.Catalogue as definition
 use Rattle.catalogue_rules.specs.Catalogue.{Head, See, coordinates, seeNumber, mostEntries, mostNumbers}
 use Rattle.catalogue_rules.specs.Read.{State, outside, inside, after, closed, coordinateOf, withVector, withCoordinate}
-use Rattle.catalogue_rules.specs.Laws.Moves.{Moves, by-head, by-coordinate, by-see, by-end, Between, between, unreferred}
+use Rattle.catalogue_rules.specs.Laws.Moves.{Moves, by-head, by-coordinate, by-draft, by-see, by-end, Between, between, unreferred}
 use Rattle.catalogue_records.specs.declared.Entry.{Entry}
 use Rattle.catalogue_reader.specs.declared.reading.Reading.{Reading}
 use Rattle.integers.specs.Filled.{filled}
@@ -30,7 +30,7 @@ use Rattle.catalogue_reader.specs.Cells.{Cells}
 abbrev pub wholeIn : State → List definition.Entry
 wholeIn (outside es) = es
 wholeIn (inside es h vs v) = es
-wholeIn (after es h vs) = es
+wholeIn (after es h vs marked) = es
 wholeIn (closed es) = es
 
 -- what a step stores: the entry that its word at index i made whole, if it did; l holds its coordinates
@@ -41,15 +41,15 @@ put es s t l i w = cond (ltb (s .count) (t .count)) (set es (s .count) (wholeAt 
 same : (es : List definition.Entry) (x : Entry) → cond (ltb (length es) (length es)) (set (stored es) (length es) x) (stored es) ≡ stored es
 same es x = ap (λ t. cond t (set (stored es) (length es) x) (stored es)) (le-ltb (length es) (length es) (omega arith))
 
-module _ (es : List definition.Entry) (h : Head) (vs : List Vec) (s : Option See) (l : List ℤ) (c : Cells (after es h vs) l) (few : length es < mostEntries) where
+module _ (es : List definition.Entry) (h : Head) (vs : List Vec) (marked : Bool) (s : Option See) (l : List ℤ) (c : Cells (after es h vs marked) l) (few : length es < mostEntries) where
   abbrev new : definition.Entry
-  new = record { head = h; vectors = vs; see = s }
+  new = record { head = h; vectors = vs; draft = marked; see = s }
 
-  entry-is : whole (partOf h vs []) (filled (pos 0) mostNumbers (take (length (coordinates vs ++ [])) l)) (sees s) (seeNumber s) (seePlace s) ≡ entryOf new
-  entry-is = ap (λ k. whole (partOf h vs []) (filled (pos 0) mostNumbers k) (sees s) (seeNumber s) (seePlace s)) (c .first ∙ append-nil (coordinates vs)) ∙ whole-entry h vs s
+  entry-is : whole (partOf h vs [] marked) (filled (pos 0) mostNumbers (take (length (coordinates vs ++ [])) l)) (sees s) (seeNumber s) (seePlace s) ≡ entryOf new
+  entry-is = ap (λ k. whole (partOf h vs [] marked) (filled (pos 0) mostNumbers k) (sees s) (seeNumber s) (seePlace s)) (c .first ∙ append-nil (coordinates vs)) ∙ whole-entry h vs marked s
 
   more : cond (ltb (length es) (length (es ++ (new ∷ []))))
-      (set (stored es) (length es) (whole (partOf h vs []) (filled (pos 0) mostNumbers (take (length (coordinates vs ++ [])) l)) (sees s) (seeNumber s) (seePlace s))) (stored es)
+      (set (stored es) (length es) (whole (partOf h vs [] marked) (filled (pos 0) mostNumbers (take (length (coordinates vs ++ [])) l)) (sees s) (seeNumber s) (seePlace s))) (stored es)
       ≡ stored (es ++ (new ∷ []))
   more =
       ap₂ (λ t x. cond t (set (stored es) (length es) x) (stored es)) (lt-ltb (length es) (length (es ++ (new ∷ []))) (omega (arith, length-append es (new ∷ [])))) entry-is
@@ -61,8 +61,8 @@ module _ (es : List definition.Entry) (h : Head) (vs : List Vec) (v u : Vec) (l 
   within-vector : put (stored es) (readingOf (inside es h vs v)) (readingOf (withVector es h (vs ++ (u ∷ [])))) l i w ≡ stored (wholeIn (withVector es h (vs ++ (u ∷ []))))
   within-vector = go (eqb (length (vs ++ (u ∷ []))) (h .d))
     where
-      go : (t : Bool) → put (stored es) (readingOf (inside es h vs v)) (readingOf (elim t [ true ↦ after es h (vs ++ (u ∷ [])) | false ↦ inside es h (vs ++ (u ∷ [])) [] ])) l i w
-          ≡ stored (wholeIn (elim t [ true ↦ after es h (vs ++ (u ∷ [])) | false ↦ inside es h (vs ++ (u ∷ [])) [] ]))
+      go : (t : Bool) → put (stored es) (readingOf (inside es h vs v)) (readingOf (elim t [ true ↦ after es h (vs ++ (u ∷ [])) false | false ↦ inside es h (vs ++ (u ∷ [])) [] ])) l i w
+          ≡ stored (wholeIn (elim t [ true ↦ after es h (vs ++ (u ∷ [])) false | false ↦ inside es h (vs ++ (u ∷ [])) [] ]))
       go true = same es _
       go false = same es _
 
@@ -78,11 +78,12 @@ module _ (es : List definition.Entry) (h : Head) (vs : List Vec) (v u : Vec) (l 
 -- every step
 pub store-moves : {s t : State} {i : ℕ} {w : Word} {l : List ℤ} → Moves s i w t → Fine s → Cells s l → put (stored (wholeIn s)) (readingOf s) (readingOf t) l i w ≡ stored (wholeIn t)
 store-moves (by-head h (between es) p) k c = same es _
-store-moves {l = l} (by-head h (unreferred es g vs) p) k c = more es g vs none l c k
+store-moves {l = l} (by-head h (unreferred es g vs marked) p) k c = more es g vs marked none l c k
 store-moves {i = i} {l = l} (by-coordinate es h vs v n p) k c = within-entry es h vs v (v ++ (coordinateOf n ∷ [])) l i (coordinate n)
-store-moves {l = l} (by-see es h vs s) k c = more es h vs (some s) l c k
+store-moves (by-draft es h vs) k c = same es _
+store-moves {l = l} (by-see es h vs marked s) k c = more es h vs marked (some s) l c k
 store-moves (by-end (between es)) k c = same es _
-store-moves {l = l} (by-end (unreferred es g vs)) k c = more es g vs none l c k
+store-moves {l = l} (by-end (unreferred es g vs marked)) k c = more es g vs marked none l c k
 
 -- ---- the numbers of heads: a head adds its own
 
@@ -91,6 +92,7 @@ noted l n (head number d m) = set l n number
 noted l n (coordinate load) = l
 noted l n (see number) = l
 noted l n (end count) = l
+noted l n (draft load) = l
 noted l n (other k load) = l
 
 -- there is room for the number of a head
@@ -99,6 +101,7 @@ Space n (head number d m) = n < mostEntries
 Space n (coordinate load) = Unit {0}
 Space n (see number) = Unit {0}
 Space n (end count) = Unit {0}
+Space n (draft load) = Unit {0}
 Space n (other k load) = Unit {0}
 
 new-number : (es : List definition.Entry) (n : ℕ) → length es < mostEntries → set (filled 0 mostEntries (numbers es)) (length es) n ≡ filled 0 mostEntries (numbers es ++ (n ∷ []))
@@ -108,10 +111,10 @@ new-number es n h =
 
 between-numbers : {s : State} {es : List definition.Entry} → Between s es → numbersOf s ≡ numbers es
 between-numbers (between es) = refl
-between-numbers (unreferred es h vs) = map-snoc (λ e. e .head .number) es (record { head = h; vectors = vs; see = none })
+between-numbers (unreferred es h vs marked) = map-snoc (λ e. e .head .number) es (record { head = h; vectors = vs; draft = marked; see = none })
 
 coordinate-numbers : (es : List definition.Entry) (h : Head) (vs : List Vec) (u : Vec) (a b : Bool)
-    → numbers es ++ (h .number ∷ []) ≡ numbersOf (elim a [ true ↦ elim b [ true ↦ after es h (vs ++ (u ∷ [])) | false ↦ inside es h (vs ++ (u ∷ [])) [] ] | false ↦ inside es h vs u ])
+    → numbers es ++ (h .number ∷ []) ≡ numbersOf (elim a [ true ↦ elim b [ true ↦ after es h (vs ++ (u ∷ [])) false | false ↦ inside es h (vs ++ (u ∷ [])) [] ] | false ↦ inside es h vs u ])
 coordinate-numbers es h vs u true true = refl
 coordinate-numbers es h vs u true false = refl
 coordinate-numbers es h vs u false b = refl
@@ -122,5 +125,6 @@ numbers-moves (by-head {es} h b p) =
 numbers-moves (by-coordinate es h vs v l p) =
     let u = v ++ (coordinateOf l ∷ []) in
     ap (filled 0 mostEntries) (coordinate-numbers es h vs u (eqb (length u) (h .m)) (eqb (length (vs ++ (u ∷ []))) (h .d)))
-numbers-moves (by-see es h vs s) = ap (filled 0 mostEntries) (map-snoc (λ e. e .head .number) es (record { head = h; vectors = vs; see = some s }))
+numbers-moves (by-draft es h vs) = refl
+numbers-moves (by-see es h vs marked s) = ap (filled 0 mostEntries) (map-snoc (λ e. e .head .number) es (record { head = h; vectors = vs; draft = marked; see = some s }))
 numbers-moves (by-end b) = ap (filled 0 mostEntries) (between-numbers b)

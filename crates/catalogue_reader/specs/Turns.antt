@@ -21,8 +21,8 @@ use Rattle.catalogue_reader.specs.declared.reading.Phase.{Phase}
 use Rattle.catalogue_reader.specs.declared.reading.Phase.the-variants.{Inside, After}
 use Rattle.catalogue_reader.specs.declared.parts.Part.{Part}
 use Rattle.catalogue_reader.specs.declared.reading.Reading.{Reading}
-use Rattle.catalogue_reader.specs.Parts.{started, putCoordinate, putVector}
-use Rattle.catalogue_reader.specs.Readings.{isNumber, going, stopped, headRead, vectorPhase, vectorRead, columnRead, coordinateRead}
+use Rattle.catalogue_reader.specs.Parts.{started, putCoordinate, putVector, putMark}
+use Rattle.catalogue_reader.specs.Readings.{isNumber, going, stopped, headRead, vectorPhase, vectorRead, columnRead, coordinateRead, draftRead}
 use Rattle.catalogue_rules.specs.Catalogue.{mostEntries}
 
 -- a row applies, or it does not
@@ -100,6 +100,26 @@ module _ (s : Reading) (l : ℕ) (p : Part) (is : p ≡ putCoordinate (s .part) 
 
   pub more-coordinates : (p .column ≡ p .m → ⊥) → going Inside (s .count) p ≡ coordinateRead s l
   more-coordinates e = sym (ap (λ t. columnRead t s p) (ne-eqb _ _ e)) ∙ by-column
+
+-- the mark of a draft: its place is tested, then its load
+module _ (s : Reading) (l : ℕ) where
+  by-load : Reading
+  by-load = checked stopped ((not (eqb l 1), 18) ∷ []) (going After (s .count) (putMark (s .part)))
+
+  first-mark : s .part .draft ≡ false → by-load ≡ draftRead s l
+  unfolding by-load
+  first-mark e = skips 10 ((not (eqb l 1), 18) ∷ []) (going After (s .count) (putMark (s .part))) e
+
+  pub second-mark : s .part .draft ≡ true → stopped 10 ≡ draftRead s l
+  second-mark e = applies 10 ((not (eqb l 1), 18) ∷ []) (going After (s .count) (putMark (s .part))) e
+
+  pub other-load : s .part .draft ≡ false → (l ≡ 1 → ⊥) → stopped 18 ≡ draftRead s l
+  unfolding by-load
+  other-load e f = applies 18 [] (going After (s .count) (putMark (s .part))) (ap not (ne-eqb l 1 f)) ∙ first-mark e
+
+  pub marks : {p : Part} → p ≡ putMark (s .part) → s .part .draft ≡ false → l ≡ 1 → going After (s .count) p ≡ draftRead s l
+  unfolding by-load
+  marks is e f = ap (going After (s .count)) is ∙ skips 18 [] (going After (s .count) (putMark (s .part))) (ap not (eq-eqb l 1 f)) ∙ first-mark e
 
 -- ---- a load less 20,000, as code computes it
 

@@ -8,17 +8,18 @@ use borrow.Author.Tests.{ne-eqb}
 use Rattle.catalogue_rules.specs.Word as words
 use Rattle.catalogue_rules.specs.Word.{wordsOf}
 use Rattle.catalogue_reader.specs.declared.words.Word.{Word}
-use Rattle.catalogue_reader.specs.declared.words.Word.the-variants.{Head, Coordinate, See, End, Other}
+use Rattle.catalogue_reader.specs.declared.words.Word.the-variants.{Head, Coordinate, See, End, Draft, Other}
 
 abbrev pub wordIn : Word → words.Word
 wordIn (Head number d m) = words.head number d m
 wordIn (Coordinate l) = words.coordinate l
 wordIn (See number) = words.see number
 wordIn (End count) = words.end count
+wordIn (Draft l) = words.draft l
 wordIn (Other k l) = words.other k l
 
-pub other-word : (k l : ℕ) → (k ≡ 1 → ⊥) → (k ≡ 2 → ⊥) → (k ≡ 3 → ⊥) → (k ≡ 4 → ⊥) → words.other k l ≡ words.wordOf k l
-other-word k l p q r s = rw (words.wordOf, ne-eqb k 1 p, ne-eqb k 2 q, ne-eqb k 3 r, ne-eqb k 4 s)
+pub other-word : (k l : ℕ) → (k ≡ 1 → ⊥) → (k ≡ 2 → ⊥) → (k ≡ 3 → ⊥) → (k ≡ 4 → ⊥) → (k ≡ 5 → ⊥) → words.other k l ≡ words.wordOf k l
+other-word k l p q r s t = rw (words.wordOf, ne-eqb k 1 p, ne-eqb k 2 q, ne-eqb k 3 r, ne-eqb k 4 s, ne-eqb k 5 t)
 
 -- the word that four bytes make
 abbrev pub wordFrom : List ℕ → ℕ → ℕ

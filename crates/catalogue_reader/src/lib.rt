@@ -59,6 +59,7 @@ fn note(numbers: &mut [u32; Catalogue::MOST_ENTRIES], count: usize, w: Word)
         Word::Coordinate(_) => {}
         Word::See(_) => {}
         Word::End(_) => {}
+        Word::Draft(_) => {}
         Word::Other { kind: _, load: _ } => {}
     }
 }
@@ -79,6 +80,7 @@ fn store(coordinates: &mut [i64; NUMBERS], n: usize, w: Word)
         }
         Word::See(_) => {}
         Word::End(_) => {}
+        Word::Draft(_) => {}
         Word::Other { kind: _, load: _ } => {}
     }
 }

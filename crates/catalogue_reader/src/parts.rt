@@ -6,15 +6,15 @@ ghost use lib.ListN.{length, take};
 ghost use Rattle.integers.specs.Filled.{filled};
 ghost use Rattle.integers.specs.Size.{Within};
 ghost use Rattle.catalogue_reader.specs.Words.{wordIn};
-ghost use Rattle.catalogue_reader.specs.Parts.{noPart, putCoordinate, putVector, started, whole, wholeAt};
+ghost use Rattle.catalogue_reader.specs.Parts.{noPart, putCoordinate, putVector, putMark, started, whole, wholeAt};
 ghost use Rattle.catalogue_rules.specs.Catalogue.{mostNumbers};
 ghost use Rattle.lattices.specs.Refusal.{mostVectors, mostCoordinates};
 use super::words::Word;
 use catalogue_records::Entry;
 use catalogue_records::NUMBERS;
 
-// What is read of an entry: its head, how many vectors are whole, how many coordinates of the next one and the sum of their squares, and how many
-// coordinates in all. The coordinates themselves stand in an array beside it, so that no step copies them.
+// What is read of an entry: its head, how many vectors are whole, how many coordinates of the next one and the sum of their squares, how many
+// coordinates in all, and whether the mark of a draft was read. The coordinates themselves stand in an array beside it, so that no step copies them.
 pub(crate) struct Part {
     pub number: u32,
     pub d: usize,
@@ -24,6 +24,7 @@ pub(crate) struct Part {
     pub column: usize,
     pub square: i64,
     pub filled: usize,
+    pub draft: bool,
 }
 
 impl Part {
@@ -40,6 +41,7 @@ impl Part {
             column: 0,
             square: 0,
             filled: 0,
+            draft: false,
         }
     }
 
@@ -66,6 +68,7 @@ impl Part {
             column: self.column + 1,
             square: self.square + x * x,
             filled: self.filled + 1,
+            draft: self.draft,
         }
     }
 
@@ -83,6 +86,24 @@ impl Part {
             column: 0,
             square: 0,
             filled: self.filled,
+            draft: self.draft,
+        }
+    }
+
+    // The entry is a draft.
+    pub(crate) fn with_mark(self) -> Part
+        ensures { λ r. ⌜ r ≡ putMark self ⌝ }
+    {
+        Part {
+            number: self.number,
+            d: self.d,
+            m: self.m,
+            place: self.place,
+            row: self.row,
+            column: self.column,
+            square: self.square,
+            filled: self.filled,
+            draft: true,
         }
     }
 
@@ -95,6 +116,7 @@ impl Part {
             d: self.d,
             m: self.m,
             place: self.place,
+            draft: self.draft,
             sees: sees,
             see: see,
             at: at,
@@ -115,6 +137,7 @@ impl Part {
             Word::Coordinate(_) => self.entry(coordinates, false, 0, 0),
             Word::See(number) => self.entry(coordinates, true, number, i),
             Word::End(_) => self.entry(coordinates, false, 0, 0),
+            Word::Draft(_) => self.entry(coordinates, false, 0, 0),
             Word::Other { kind: _, load: _ } => self.entry(coordinates, false, 0, 0),
         }
     }

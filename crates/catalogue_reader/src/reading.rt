@@ -7,14 +7,14 @@ ghost use lib.ListN.{length, take};
 ghost use Rattle.integers.specs.Every.{any};
 ghost use Rattle.integers.specs.Size.{Within};
 ghost use Rattle.catalogue_reader.specs.Words.{wordIn};
-ghost use Rattle.catalogue_reader.specs.Readings.{isNumber, going, stopped, headRead, vectorRead, coordinateRead, entryRead, endRead, outsideRead, insideRead, afterRead, ReadyFor, stepRead};
+ghost use Rattle.catalogue_reader.specs.Readings.{isNumber, going, stopped, headRead, vectorRead, coordinateRead, draftRead, entryRead, endRead, outsideRead, insideRead, afterRead, ReadyFor, stepRead};
 ghost use Rattle.catalogue_rules.specs.Catalogue.{mostEntries, mostNumbers};
 ghost use Rattle.lattices.specs.Refusal.{mostVectors, mostCoordinates};
 use super::parts::Part;
 use super::words::Word;
 use catalogue_records::Catalogue;
 
-// What may come next: a head or the end; a coordinate; a see word, a head or the end; nothing.
+// What may come next: a head or the end; a coordinate; a mark unless it is there, a see word, a head or the end; nothing.
 pub(crate) enum Phase {
     Outside,
     Inside,
@@ -140,6 +140,20 @@ impl Reading {
         self.going(Phase::Inside, p)
     }
 
+    // The mark of a draft: 10 where the entry has it, then 18 for its load.
+    fn at_draft(self, load: u32) -> Reading
+        ensures { λ r. ⌜ r ≡ draftRead self load ⌝ }
+    {
+        let part = self.part;
+        if part.draft {
+            return Reading::stop(10);
+        }
+        match load {
+            1 => self.going(Phase::After, part.with_mark()),
+            _ => Reading::stop(18),
+        }
+    }
+
     // The entry is whole.
     fn with_entry(self) -> Reading
         requires { ⌜ self .count < mostEntries ⌝ }
@@ -173,6 +187,7 @@ impl Reading {
             Word::Coordinate(_) => Reading::stop(10),
             Word::See(_) => Reading::stop(10),
             Word::End(count) => self.at_end(count),
+            Word::Draft(_) => Reading::stop(10),
             Word::Other { kind: _, load: _ } => Reading::stop(10),
         }
     }
@@ -194,11 +209,12 @@ impl Reading {
             Word::Coordinate(load) => self.at_coordinate(load),
             Word::See(_) => Reading::stop(10),
             Word::End(_) => Reading::stop(10),
+            Word::Draft(_) => Reading::stop(10),
             Word::Other { kind: _, load: _ } => Reading::stop(10),
         }
     }
 
-    // A word after an entry's last coordinate: the entry is whole, with or without a see word.
+    // A word after an entry's last coordinate: the entry gets its mark, or it is whole, with or without a see word.
     fn after(self, numbers: &[u32], i: usize, w: Word) -> Reading
         requires { ⌜ self .count < mostEntries ⌝ }
         requires { ⌜ self .count < length (now numbers) ⌝ }
@@ -209,6 +225,7 @@ impl Reading {
             Word::Coordinate(_) => Reading::stop(10),
             Word::See(_) => self.with_entry(),
             Word::End(count) => self.with_entry().at_end(count),
+            Word::Draft(load) => self.at_draft(load),
             Word::Other { kind: _, load: _ } => Reading::stop(10),
         }
     }

@@ -5,12 +5,13 @@ ghost use lib.ListN.{length, getD};
 ghost use Rattle.catalogue_rules.specs.Word.{decode, wordsOf};
 ghost use Rattle.catalogue_reader.specs.Words.{wordIn};
 
-// A word's case with its load: the kinds 1 to 4, and what is refused.
+// A word's case with its load: the kinds 1 to 5, and what is refused.
 pub(crate) enum Word {
     Head { number: u32, d: usize, m: usize },
     Coordinate(u32),
     See(u32),
     End(u32),
+    Draft(u32),
     Other { kind: u32, load: u32 },
 }
 
@@ -49,6 +50,7 @@ pub(crate) fn decode(w: u32) -> Word
         2 => Word::Coordinate(load),
         3 => Word::See(load),
         4 => Word::End(load),
+        5 => Word::Draft(load),
         _ => Word::Other {
             kind: kind,
             load: load,

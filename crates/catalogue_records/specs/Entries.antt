@@ -38,7 +38,7 @@ entry-back e p =
     let same : take (h .d * h .m) (filled (pos 0) mostNumbers cs) ≡ cs =
     ap (λ n. take n (filled (pos 0) mostNumbers cs)) (sym (count-coordinates e p)) ∙ take-filled (pos 0) mostNumbers cs (few-coordinates e p) in
     let vectors : vectorsOf (h .d) (h .m) cs ≡ e .vectors = ap (λ d. vectorsOf d (h .m) cs) (sym (p .count)) ∙ vectors-back (h .m) (e .vectors) (p .vectors) in
-    ap₂ (λ vs s. record { head = h; vectors = vs; see = s }) (ap (vectorsOf (h .d) (h .m)) same ∙ vectors) (see-back (e .see))
+    ap₂ (λ vs s. record { head = h; vectors = vs; draft = e .draft; see = s }) (ap (vectorsOf (h .d) (h .m)) same ∙ vectors) (see-back (e .see))
 
 map-back : (es : List definition.Entry) → All EntryFits es → map entryIn (map entryOf es) ≡ es
 map-back [] p = refl
@@ -57,7 +57,7 @@ all-stored c f p = sym (length-map (c .entries) f) ∙ p
 
 -- what an array of entries gives beyond its end
 abbrev pub beyond : Entry
-beyond = record { number = 0; d = 0; m = 0; place = 0; sees = false; see = 0; at = 0; coordinates = [] }
+beyond = record { number = 0; d = 0; m = 0; place = 0; draft = false; sees = false; see = 0; at = 0; coordinates = [] }
 
 abbrev pub entryAt : Catalogue → ℕ → Entry
 entryAt c k = getD (c .entries) k beyond

@@ -18,6 +18,7 @@ abbrev pub entryIn : Entry → definition.Entry
 entryIn e = record {
   head = record { number = e .number; d = e .d; m = e .m; place = e .place };
   vectors = vectorsOf (e .d) (e .m) (take (e .d * e .m) (e .coordinates));
+  draft = e .draft;
   see = seeIn (e .sees) (e .see) (e .at);
 }
 

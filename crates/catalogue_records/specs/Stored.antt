@@ -10,7 +10,7 @@ use Rattle.catalogue_records.specs.declared.Entry.{Entry}
 use Rattle.integers.specs.Filled.{filled}
 
 abbrev pub noEntry : Entry
-noEntry = record { number = 0; d = 0; m = 0; place = 0; sees = false; see = 0; at = 0; coordinates = replicate mostNumbers (pos 0) }
+noEntry = record { number = 0; d = 0; m = 0; place = 0; draft = false; sees = false; see = 0; at = 0; coordinates = replicate mostNumbers (pos 0) }
 
 -- a see word or none: whether there is one, its number and its place
 abbrev pub sees : Option See → Bool
@@ -27,6 +27,7 @@ entryOf e = record {
   d = e .head .d;
   m = e .head .m;
   place = e .head .place;
+  draft = e .draft;
   sees = sees (e .see);
   see = seeNumber (e .see);
   at = seePlace (e .see);

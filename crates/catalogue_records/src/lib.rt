@@ -7,12 +7,14 @@ ghost use Rattle.catalogue_records.specs.Catalogues.{noCatalogue};
 // How many coordinates an entry may have.
 pub const NUMBERS: usize = 4 * row_operations::WIDTH;
 
-// An entry: its head and the place of the head; whether it has a see word, its number and where it stands; d times m coordinates, then zeros.
+// An entry: its head and the place of the head; whether it is a draft; whether it has a see word, its number and where it stands; d times m
+// coordinates, then zeros.
 pub struct Entry {
     pub number: u32,
     pub d: usize,
     pub m: usize,
     pub place: usize,
+    pub draft: bool,
     pub sees: bool,
     pub see: u32,
     pub at: usize,
@@ -37,8 +39,8 @@ pub struct Written {
 impl Catalogue {
     pub const MOST_ENTRIES: usize = 256;
 
-    // Of the largest entries a head, the coordinates and a see word each, then an end word; a word has four bytes.
-    pub const MOST_BYTES: usize = (Self::MOST_ENTRIES * (NUMBERS + 2) + 1) * 4;
+    // Of the largest entries a head, the coordinates, a mark and a see word each, then an end word; a word has four bytes.
+    pub const MOST_BYTES: usize = (Self::MOST_ENTRIES * (NUMBERS + 3) + 1) * 4;
 
     pub const MOST_LOAD: u32 = 40000;
 
@@ -71,6 +73,7 @@ impl Entry {
             d: 0,
             m: 0,
             place: 0,
+            draft: false,
             sees: false,
             see: 0,
             at: 0,

@@ -30,13 +30,16 @@ fn vectors(coordinates: [i64; catalogue_records::NUMBERS]) {
     cli_output::newline();
 }
 
-// Writes an entry: number, d, m and place, the see word's number and place, the coordinates.
+// Writes an entry: number, d, m and place, whether it is a draft, the see word's number and place, the coordinates.
 fn entry(e: catalogue_records::Entry) {
     io::write_all(STDOUT_FILENO, b"entry");
     field(e.number as u64);
     field(e.d as u64);
     field(e.m as u64);
     field(e.place as u64);
+    if e.draft {
+        io::write_all(STDOUT_FILENO, b" draft");
+    }
     if e.sees {
         io::write_all(STDOUT_FILENO, b" see");
         field(e.see as u64);
@@ -93,8 +96,8 @@ fn copied(bytes: &[u8], room: &mut [u8]) {
 
 // Lends this many bytes.
 fn lend(bytes: &[u8], n: usize) {
-    let mut room = [170u8; 34824];
-    if n <= 34824 {
+    let mut room = [170u8; 35848];
+    if n <= 35848 {
         copied(bytes, &mut room[..n]);
     }
 }
@@ -115,7 +118,7 @@ pub(crate) fn outcome(name: &[u8], bytes: &[u8]) {
     cli_output::newline();
     entries(c);
     let n = bytes.len();
-    if 0 < n && n <= 34820 {
+    if 0 < n && n <= 35844 {
         lend(bytes, n + 4);
         lend(bytes, n);
         lend(bytes, n - 1);

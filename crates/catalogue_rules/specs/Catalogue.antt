@@ -1,4 +1,5 @@
 -- What a catalogue holds (document 01, "The catalogue"): entries, the limits of the form, and the outcome of reading.
+use mathlib.Core.Bool.{Bool}
 use mathlib.Core.List.{List, [], _∷_, _++_}
 use mathlib.Core.Option.{Option, none, some}
 use Prim.Native.Nat.{ℕ, _+_, _*_}
@@ -6,7 +7,7 @@ use lib.IntN.{ℤ}
 use Rattle.lattices.specs.Vector.{Vec}
 use Rattle.lattices.specs.Refusal.{Input, mostVectors, mostCoordinates}
 
--- R2.7: 256 entries, 34,820 bytes; a coordinate's load is at most 40,000
+-- R2.7: 256 entries, 35,844 bytes; a coordinate's load is at most 40,000
 abbrev pub mostEntries : ℕ
 mostEntries = 256
 
@@ -14,11 +15,11 @@ mostEntries = 256
 abbrev pub mostNumbers : ℕ
 mostNumbers = mostVectors * mostCoordinates
 
--- R2.7, R6.8: of the largest entries a head, the coordinates and a see word each, then an end word
+-- R2.7, R6.8: of the largest entries a head, the coordinates, a mark and a see word each, then an end word
 abbrev pub mostWords : ℕ
-mostWords = mostEntries * (mostNumbers + 2) + 1
+mostWords = mostEntries * (mostNumbers + 3) + 1
 
--- R2.7: 34,820
+-- R2.7: 35,844
 abbrev pub mostBytes : ℕ
 mostBytes = mostWords * 4
 
@@ -43,10 +44,12 @@ abbrev pub seeNumber : Option See → ℕ
 seeNumber none = 0
 seeNumber (some w) = w .number
 
--- R6.3, R6.5, R6.8: "An entry is a head, then d times m coordinates vector by vector, then at most one see word."
+-- R6.3, R6.5, R6.8: "An entry is a head, then d times m coordinates vector by vector, then at most one see word"; a mark "after the coordinates and
+-- before any see word, makes an entry a draft"
 pub record Entry : Type 0 where
   pub head : Head
   pub vectors : List Vec
+  pub draft : Bool
   pub see : Option See
 
 -- R6.3, R6.5, R6.8: the coordinates vector by vector

@@ -1,6 +1,7 @@
 -- The catalogue in full of document 01, its sole end word, entries of more than four coordinates, and a small catalogue for each refusal but 9 and
 -- 15: one table, one theorem. 9 beside it.
 use mathlib.Core.Path.{_≡_, refl}
+use mathlib.Core.Bool.{Bool, true, false}
 use mathlib.Core.List.{List, [], _∷_, map}
 use mathlib.Core.Option.{Option, none, some}
 use Prim.Native.Nat.{ℕ}
@@ -28,6 +29,16 @@ abbrev pub entry : (number place : ℕ) → Vec → Vec → Option See → Entry
 entry number place u v see = record {
   head = record { number = number; d = 2; m = 2; place = place };
   vectors = u ∷ v ∷ [];
+  draft = false;
+  see = see;
+}
+
+-- an entry of one vector with one coordinate
+abbrev pub single : (number place x : ℕ) → Bool → Option See → Entry
+single number place x draft see = record {
+  head = record { number = number; d = 1; m = 1; place = place };
+  vectors = (pos x ∷ []) ∷ [];
+  draft = draft;
   see = see;
 }
 
@@ -56,10 +67,24 @@ examples =
     -- a coordinate where a head or the end is due, a see word where a coordinate is, and a kind that no word has
     ∷ gives (bytesOf (0x20004E20 ∷ [])) (refused 10 0)
     ∷ gives (bytesOf (0x10000112 ∷ 0x20004E21 ∷ 0x30000001 ∷ [])) (refused 10 2)
-    ∷ gives (bytesOf (0x10000111 ∷ 0x20004E21 ∷ 0x50000001 ∷ 0x40000001 ∷ [])) (refused 10 2)
+    ∷ gives (bytesOf (0x10000111 ∷ 0x20004E21 ∷ 0x60000001 ∷ 0x40000001 ∷ [])) (refused 10 2)
     -- a second see word, and a coordinate too many
     ∷ gives (bytesOf (0x10000111 ∷ 0x20004E21 ∷ 0x30000001 ∷ 0x30000001 ∷ [])) (refused 10 3)
     ∷ gives (bytesOf (0x10000111 ∷ 0x20004E21 ∷ 0x20004E21 ∷ [])) (refused 10 2)
+    -- drafts, the first with a see word
+    ∷ gives (bytesOf (0x10000111 ∷ 0x20004E22 ∷ 0x50000001 ∷ 0x30000002 ∷ 0x10000211 ∷ 0x20004E23 ∷ 0x50000001 ∷ 0x40000002 ∷ []))
+    (accepted (single 1 0 2 true (refers 2 3) ∷ single 2 4 3 true none ∷ []))
+    -- a mark where a head is due, where a coordinate is, after a see word, once more, and after the end
+    ∷ gives (bytesOf (0x50000001 ∷ [])) (refused 10 0)
+    ∷ gives (bytesOf (0x10000112 ∷ 0x50000001 ∷ [])) (refused 10 1)
+    ∷ gives (bytesOf (0x10000111 ∷ 0x20004E21 ∷ 0x30000001 ∷ 0x50000001 ∷ [])) (refused 10 3)
+    ∷ gives (bytesOf (0x10000111 ∷ 0x20004E21 ∷ 0x50000001 ∷ 0x50000001 ∷ [])) (refused 10 3)
+    ∷ gives (bytesOf (0x40000000 ∷ 0x50000001 ∷ [])) (refused 14 1)
+    -- its load is 0, or 2; where no mark can stand, its load is not looked at
+    ∷ gives (bytesOf (0x10000111 ∷ 0x20004E21 ∷ 0x50000000 ∷ [])) (refused 18 2)
+    ∷ gives (bytesOf (0x10000111 ∷ 0x20004E21 ∷ 0x50000002 ∷ [])) (refused 18 2)
+    ∷ gives (bytesOf (0x10000111 ∷ 0x20004E21 ∷ 0x50000001 ∷ 0x50000002 ∷ [])) (refused 10 3)
+    ∷ gives (bytesOf (0x10000112 ∷ 0x50000002 ∷ [])) (refused 10 1)
     -- no word where a coordinate is due, and none where the end is
     ∷ gives (bytesOf (0x10000112 ∷ 0x20004E21 ∷ [])) (refused 10 2)
     ∷ gives (bytesOf (0x10000111 ∷ 0x20004E21 ∷ 0x30000001 ∷ [])) (refused 10 3)
@@ -73,10 +98,10 @@ examples =
     ∷ gives (bytesOf (0x10000112 ∷ 0x20009C41 ∷ [])) (refused 4 1)
     ∷ gives (bytesOf (0x10000112 ∷ 0x20009C40 ∷ 0x20004E21 ∷ [])) (refused 4 2)
     ∷ gives (bytesOf (0x10000111 ∷ 0x20009C40 ∷ 0x40000001 ∷ []))
-    (accepted (record { head = record { number = 1; d = 1; m = 1; place = 0 }; vectors = (pos 20000 ∷ []) ∷ []; see = none } ∷ []))
+    (accepted (single 1 0 20000 false none ∷ []))
     -- eight coordinates; the last of them makes the vector too long
     ∷ gives (bytesOf (0x10000118 ∷ 0x20004E21 ∷ 0x20004E22 ∷ 0x20004E23 ∷ 0x20004E24 ∷ 0x20004E25 ∷ 0x20004E26 ∷ 0x20004E27 ∷ 0x20004E28 ∷ 0x40000001 ∷ []))
-    (accepted (record { head = record { number = 1; d = 1; m = 8; place = 0 }; vectors = (pos 1 ∷ pos 2 ∷ pos 3 ∷ pos 4 ∷ pos 5 ∷ pos 6 ∷ pos 7 ∷ pos 8 ∷ []) ∷ []; see = none } ∷ []))
+    (accepted (record { head = record { number = 1; d = 1; m = 8; place = 0 }; vectors = (pos 1 ∷ pos 2 ∷ pos 3 ∷ pos 4 ∷ pos 5 ∷ pos 6 ∷ pos 7 ∷ pos 8 ∷ []) ∷ []; draft = false; see = none } ∷ []))
     ∷ gives (bytesOf (0x10000118 ∷ 0x20009C40 ∷ 0x20004E20 ∷ 0x20004E20 ∷ 0x20004E20 ∷ 0x20004E20 ∷ 0x20004E20 ∷ 0x20004E20 ∷ 0x20004E21 ∷ [])) (refused 4 8)
     -- the count differs, before words follow; words follow
     ∷ gives (bytesOf (0x40000001 ∷ 0x40000000 ∷ [])) (refused 13 0)
@@ -92,6 +117,6 @@ unfolding dot squaredVolume isDependent decode step readWords read
 examples-hold = refl
 
 -- a word more than there can be
-pub too-many : read (replicate 34824 0) ≡ refused 9 0
+pub too-many : read (replicate 35848 0) ≡ refused 9 0
 unfolding decode step readWords read
 too-many = refl

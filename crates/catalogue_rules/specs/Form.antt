@@ -1,6 +1,6 @@
 -- What an accepted catalogue holds, said without its bytes: limits, numbers, vectors and see words; and where the words of entries stand.
 use mathlib.Core.Path.{_≡_}
-use mathlib.Core.Bool.{true, false}
+use mathlib.Core.Bool.{Bool, true, false}
 use mathlib.Core.List.{List, [], _∷_}
 use mathlib.Core.Option.{Option, none, some}
 use Prim.Native.Nat.{ℕ, suc, _+_, _≤_}
@@ -60,7 +60,7 @@ pub record WellFormed (es : List Entry) : Type 0 where
   pub independent : All EntryIndependent es
   pub named : All (λ e. Names es (e .see)) es
 
--- ---- places: a head, its coordinates, a see word if there is one
+-- ---- places: a head, its coordinates, a mark if it is a draft, a see word if there is one
 
 -- R8.9
 abbrev pub seeAt : ℕ → Option See → Option See
@@ -77,14 +77,23 @@ abbrev pub pastVectors : ℕ → List Vec → ℕ
 pastVectors i vs = suc i + length (coordinates vs)
 
 -- R8.9
+abbrev pub pastDraft : ℕ → Bool → ℕ
+pastDraft i true = suc i
+pastDraft i false = i
+
+-- R8.9: the index of an entry's see word, or after the entry, its head being at i
+abbrev pub pastMark : ℕ → Entry → ℕ
+pastMark i e = pastDraft (pastVectors i (e .vectors)) (e .draft)
+
+-- R8.9
 abbrev pub headAt : ℕ → Head → Head
 headAt i h = record { number = h .number; d = h .d; m = h .m; place = i }
 
 -- R8.9
 abbrev pub entryAt : ℕ → Entry → Entry
-entryAt i e = record { head = headAt i (e .head); vectors = e .vectors; see = seeAt (pastVectors i (e .vectors)) (e .see) }
+entryAt i e = record { head = headAt i (e .head); vectors = e .vectors; draft = e .draft; see = seeAt (pastMark i e) (e .see) }
 
 -- R8.9: the entries as they stand when the first head is at i
 abbrev pub placed : ℕ → List Entry → List Entry
 placed i [] = []
-placed i (e ∷ es) = entryAt i e ∷ placed (pastSee (pastVectors i (e .vectors)) (e .see)) es
+placed i (e ∷ es) = entryAt i e ∷ placed (pastSee (pastMark i e) (e .see)) es

@@ -13,7 +13,7 @@ use Rattle.lattices.specs.Volume.{isDependent}
 use Rattle.integers.specs.First.{firstGiven}
 use Rattle.integers.specs.Every.{any}
 use Rattle.lattices.specs.Refusal.{oneTo, mostVectors, mostCoordinates, mostSquare, mostSize}
-use Rattle.catalogue_rules.specs.Word.{Word, head, coordinate, see, end, other, decode, wordsOf}
+use Rattle.catalogue_rules.specs.Word.{Word, head, coordinate, see, end, draft, other, decode, wordsOf}
 use Rattle.catalogue_rules.specs.Catalogue.{Head, See, Entry, Outcome, refused, accepted, mostEntries, mostBytes, mostLoad}
 
 -- R6.8, R6.9, R9.10, R9.14: what has been read, by what may come next
@@ -22,8 +22,8 @@ pub data State : Type 0 where
   outside : List Entry → State
   -- a coordinate: the entries before, the entry's head and whole vectors, the vector being read
   inside : List Entry → Head → List Vec → Vec → State
-  -- a see word, a head or the end
-  after : List Entry → Head → List Vec → State
+  -- a mark unless the entry has it, a see word, a head or the end
+  after : List Entry → Head → List Vec → (draft : Bool) → State
   -- nothing
   closed : List Entry → State
 
@@ -39,9 +39,9 @@ checked refuse (r ∷ rows) a = elim (r .0) [ true ↦ refuse (r .1) | false ↦
 abbrev pub isNumbered : ℕ → Entry → Bool
 isNumbered n e = eqb (e .head .number) n
 
--- R6.8, R6.9, R9.10, R9.14: the entries with one more, its see word given or not
-abbrev pub withEntry : List Entry → Head → List Vec → Option See → List Entry
-withEntry es h vs s = es ++ (record { head = h; vectors = vs; see = s } ∷ [])
+-- R6.8, R6.9, R9.10, R9.14: the entries with one more, a draft or not, its see word given or not
+abbrev pub withEntry : List Entry → Head → List Vec → Bool → Option See → List Entry
+withEntry es h vs d s = es ++ (record { head = h; vectors = vs; draft = d; see = s } ∷ [])
 
 -- R8.5, R9.15, R9.1, R9.2, R9.11: row "head"
 abbrev pub headRows : List Entry → Head → List (Bool × ℕ)
@@ -62,7 +62,7 @@ coordinateOf l = pos l -ℤ pos mostSize
 
 -- R6.8, R6.9, R9.10, R9.14: d vectors, then the entry is whole
 abbrev pub withVector : List Entry → Head → List Vec → State
-withVector es h vs = elim (eqb (length vs) (h .d)) [ true ↦ after es h vs | false ↦ inside es h vs [] ]
+withVector es h vs = elim (eqb (length vs) (h .d)) [ true ↦ after es h vs false | false ↦ inside es h vs [] ]
 
 -- R6.8, R6.9, R9.10, R9.14: m coordinates, then the vector is whole
 abbrev pub withCoordinate : List Entry → Head → List Vec → Vec → State
@@ -78,6 +78,14 @@ atCoordinate es h vs v l =
     let u = v ++ (coordinateOf l ∷ []) in
     checked stop (coordinateRows h u l) (next (withCoordinate es h vs u))
 
+-- R6.12, R8.5, R9.10, R9.18: the mark of a draft: the kind "that cannot stand here" first, then a load that is not 1
+abbrev pub draftRows : (marked : Bool) → ℕ → List (Bool × ℕ)
+draftRows marked l = (marked, 10) ∷ (not (eqb l 1), 18) ∷ []
+
+-- R6.12, R8.5, R9.10, R9.18
+abbrev pub atDraft : List Entry → Head → List Vec → (marked : Bool) → ℕ → Step
+atDraft es h vs marked l = checked stop (draftRows marked l) (next (after es h vs true))
+
 -- R8.5, R9.13: row "end", its first condition
 abbrev pub endRows : List Entry → ℕ → List (Bool × ℕ)
 endRows es count = (not (eqb count (length es)), 13) ∷ []
@@ -86,30 +94,33 @@ endRows es count = (not (eqb count (length es)), 13) ∷ []
 abbrev pub atEnd : List Entry → ℕ → Step
 atEnd es count = checked stop (endRows es count) (next (closed es))
 
--- R6.8, R6.9, R9.10, R9.14: the word at index i; 10 for "a kind that cannot stand here", 14 for "words follow"
+-- R6.8, R6.9, R6.12, R9.10, R9.14: the word at index i; 10 for "a kind that cannot stand here", 14 for "words follow"
 unfoldable pub step : State → ℕ → Word → Step
 step (outside es) i (head number d m) = atHead es (record { number = number; d = d; m = m; place = i })
 step (outside es) i (coordinate l) = stop 10
 step (outside es) i (see number) = stop 10
 step (outside es) i (end count) = atEnd es count
+step (outside es) i (draft l) = stop 10
 step (outside es) i (other k l) = stop 10
 step (inside es h vs v) i (head number d m) = stop 10
 step (inside es h vs v) i (coordinate l) = atCoordinate es h vs v l
 step (inside es h vs v) i (see number) = stop 10
 step (inside es h vs v) i (end count) = stop 10
+step (inside es h vs v) i (draft l) = stop 10
 step (inside es h vs v) i (other k l) = stop 10
-step (after es h vs) i (head number d m) = atHead (withEntry es h vs none) (record { number = number; d = d; m = m; place = i })
-step (after es h vs) i (coordinate l) = stop 10
-step (after es h vs) i (see number) = next (outside (withEntry es h vs (some (record { number = number; place = i }))))
-step (after es h vs) i (end count) = atEnd (withEntry es h vs none) count
-step (after es h vs) i (other k l) = stop 10
+step (after es h vs marked) i (head number d m) = atHead (withEntry es h vs marked none) (record { number = number; d = d; m = m; place = i })
+step (after es h vs marked) i (coordinate l) = stop 10
+step (after es h vs marked) i (see number) = next (outside (withEntry es h vs marked (some (record { number = number; place = i }))))
+step (after es h vs marked) i (end count) = atEnd (withEntry es h vs marked none) count
+step (after es h vs marked) i (draft l) = atDraft es h vs marked l
+step (after es h vs marked) i (other k l) = stop 10
 step (closed es) i w = stop 14
 
 -- R8.5, R8.9, R9.10: no word is left: 10 for "no word where one is due", at the number of words
 abbrev pub atLast : State → ℕ → Outcome
 atLast (outside es) i = refused 10 i
 atLast (inside es h vs v) i = refused 10 i
-atLast (after es h vs) i = refused 10 i
+atLast (after es h vs marked) i = refused 10 i
 atLast (closed es) i = accepted es
 
 -- R8.5, R8.9: the words from index i on

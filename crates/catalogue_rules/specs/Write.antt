@@ -1,11 +1,12 @@
 -- Writing entries as words, and words as bytes (document 01, "The catalogue").
+use mathlib.Core.Bool.{Bool, true, false}
 use mathlib.Core.List.{List, [], _∷_, _++_, map}
 use mathlib.Core.Option.{Option, none, some}
 use Prim.Native.Nat.{ℕ}
 use lib.IntN.{ℤ, pos, natAbs, _+ℤ_}
 use lib.ListN.{length}
 use Rattle.lattices.specs.Refusal.{mostSize}
-use Rattle.catalogue_rules.specs.Word.{Word, head, coordinate, see, end, encode, bytesOf}
+use Rattle.catalogue_rules.specs.Word.{Word, head, coordinate, see, end, draft, encode, bytesOf}
 use Rattle.catalogue_rules.specs.Catalogue.{Head, See, Entry, coordinates}
 
 -- R6.3 to R6.5, R6.8
@@ -20,14 +21,19 @@ coordinateWord x = coordinate (natAbs (x +ℤ pos mostSize))
 abbrev pub encodedCoordinates : List ℤ → List ℕ
 encodedCoordinates xs = map encode (map coordinateWord xs)
 
+-- R6.12: "a word of kind 5 with load 1"
+abbrev pub draftWords : Bool → List Word
+draftWords true = draft 1 ∷ []
+draftWords false = []
+
 -- R6.3 to R6.5, R6.8: "at most one see word"
 abbrev pub seeWords : Option See → List Word
 seeWords none = []
 seeWords (some s) = see (s .number) ∷ []
 
--- R6.3 to R6.5, R6.8
+-- R6.3 to R6.5, R6.8, R6.12: the mark stands "after the coordinates and before any see word"
 abbrev pub entryWords : Entry → List Word
-entryWords e = headWord (e .head) ∷ (map coordinateWord (coordinates (e .vectors)) ++ seeWords (e .see))
+entryWords e = headWord (e .head) ∷ (map coordinateWord (coordinates (e .vectors)) ++ (draftWords (e .draft) ++ seeWords (e .see)))
 
 -- R6.3 to R6.5, R6.8
 abbrev pub entriesWords : List Entry → List Word

@@ -2,7 +2,10 @@
 pub mod ReducedEntry
 pub mod Places
 pub mod SameLattice
+pub mod Numbers
+pub mod FirstPlaces
 pub mod Standing
 pub mod OneEntry
 pub mod ReducedEntries
+pub mod Standers
 pub mod Looking

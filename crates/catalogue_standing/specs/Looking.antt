@@ -16,8 +16,8 @@ use Rattle.fold_rules.specs.Fold.{sameLattice, standing, closedList, lookup}
 use Rattle.fold_rules.specs.Laws.Lookup.{lookup-finds, lookup-misses}
 use Rattle.fold_rules.specs.Laws.Searching.{among-at}
 use Rattle.catalogue_standing.specs.Places.{First}
-use Rattle.catalogue_standing.specs.Standing.{StandingPlaces, Numbers}
-use Rattle.catalogue_standing.specs.OneEntry.{first-standing}
+use Rattle.catalogue_standing.specs.Standing.{StandsAt, StandingPlaces}
+use Rattle.catalogue_standing.specs.Numbers.{Numbers}
 
 none-at : {A : Type 0} (f : A → Bool) (l : List A) (d : A) → ((k : ℕ) → k < length l → f (getD l k d) ≡ false) → any f l ≡ false
 none-at f [] d h = refl
@@ -46,8 +46,8 @@ module _ (es : List Entry) (o : Entry) (w : WellFormed es) {numbers : List ℕ} 
   lookup-found h stood = lookup-at h (stood .within k h) (stood .at k h)
 
   -- as it is found for one entry
-  pub lookup-first : (h : k < length es) {r : ℕ} → First (λ j. sameLattice (getD es j o) (getD es k o)) k r → lookup (closedList es) n ≡ some (getD numbers r 0)
-  lookup-first h found = lookup-at h (omega (arith, found .within)) (first-standing es o w k h found)
+  pub lookup-first : (h : k < length es) {r : ℕ} → StandsAt es o k r → lookup (closedList es) n ≡ some (getD numbers r 0)
+  lookup-first h stood = lookup-at h (stood .within) (stood .at)
 
   pub lookup-lost : k ≡ length es → lookup (closedList es) n ≡ none
   lookup-lost e = lookup-misses sameLattice es es n (number-nowhere e)

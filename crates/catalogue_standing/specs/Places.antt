@@ -1,4 +1,4 @@
--- The places of standing entries, as the code finds them.
+-- The places of the first entries of lattices, as the code finds them.
 use mathlib.Core.Path.{_≡_, sym, ap, _∙_, subst}
 use mathlib.Core.Logic.{_≢_}
 use mathlib.Core.Bool.{Bool, true, false, _&&_}
@@ -20,21 +20,21 @@ pub record First (f : ℕ → Bool) (n r : ℕ) : Type 0 where
   pub before : (j : ℕ) → j < r → f j ≡ false
   pub here : r < n → f r ≡ true
 
--- entry j stands, and is of the lattice of entry k
-abbrev pub stander : List Left → List ℕ → ℕ → ℕ → Bool
-stander list places k j = eqb (getD places j 0) j && sameReduced (getD list j noReduced) (getD list k noReduced)
+-- entry j is the first of its lattice, and of the lattice of entry k
+abbrev pub firstAlike : List Left → List ℕ → ℕ → ℕ → Bool
+firstAlike list places k j = eqb (getD places j 0) j && sameReduced (getD list j noReduced) (getD list k noReduced)
 
 module _ (list : List Left) (places : List ℕ) (k j : ℕ) where
-  pub not-standing : getD places j 0 ≢ j → stander list places k j ≡ false
-  not-standing h = ap (λ b. b && sameReduced (getD list j noReduced) (getD list k noReduced)) (ne-eqb _ _ h)
+  pub not-first : getD places j 0 ≢ j → firstAlike list places k j ≡ false
+  not-first h = ap (λ b. b && sameReduced (getD list j noReduced) (getD list k noReduced)) (ne-eqb _ _ h)
 
-  pub standing-here : getD places j 0 ≡ j → stander list places k j ≡ sameReduced (getD list j noReduced) (getD list k noReduced)
-  standing-here e = ap (λ b. b && sameReduced (getD list j noReduced) (getD list k noReduced)) (eq-eqb _ _ e)
+  pub first-alike : getD places j 0 ≡ j → firstAlike list places k j ≡ sameReduced (getD list j noReduced) (getD list k noReduced)
+  first-alike e = ap (λ b. b && sameReduced (getD list j noReduced) (getD list k noReduced)) (eq-eqb _ _ e)
 
--- the place of the standing entry of each of the first n entries
-pub record Closed (list : List Left) (n : ℕ) (places : List ℕ) : Type 0 where
+-- the place of the first entry of its lattice, for each of the first n entries
+pub record Firsts (list : List Left) (n : ℕ) (places : List ℕ) : Type 0 where
   pub long : length places ≡ mostEntries
-  pub first : (k : ℕ) → k < n → First (stander list places k) k (getD places k 0)
+  pub first : (k : ℕ) → k < n → First (firstAlike list places k) k (getD places k 0)
 
 -- ---- found place by place
 
@@ -49,29 +49,29 @@ before-more f j h e i l = go (decLt i j)
     go (yes m) = h i m
     go (no m) = let same : i ≡ j = omega arith in ap f same ∙ e
 
-pub closed-none : (list : List Left) (places : List ℕ) → length places ≡ mostEntries → Closed list 0 places
-closed-none list places long = record { long = long; first = λ k h. absurd (omega arith) }
+pub firsts-none : (list : List Left) (places : List ℕ) → length places ≡ mostEntries → Firsts list 0 places
+firsts-none list places long = record { long = long; first = λ k h. absurd (omega arith) }
 
 -- one entry more
-module _ {list : List Left} {k : ℕ} {places : List ℕ} (c : Closed list k places) (few : k < mostEntries) {r : ℕ} (found : First (stander list places k) k r) where
+module _ {list : List Left} {k : ℕ} {places : List ℕ} (c : Firsts list k places) (few : k < mostEntries) {r : ℕ} (found : First (firstAlike list places k) k r) where
   abbrev after : List ℕ
   after = set places k r
 
   kept : (i : ℕ) → i < k → getD after i 0 ≡ getD places i 0
   kept i h = getD-set-other places k i r 0 (λ e. absurd (omega arith))
 
-  alike : (j i : ℕ) → i < k → stander list places j i ≡ stander list after j i
+  alike : (j i : ℕ) → i < k → firstAlike list places j i ≡ firstAlike list after j i
   alike j i h = ap (λ p. eqb p i && sameReduced (getD list i noReduced) (getD list j noReduced)) (sym (kept i h))
 
-  each : (j : ℕ) → j < k + 1 → First (stander list after j) j (getD after j 0)
+  each : (j : ℕ) → j < k + 1 → First (firstAlike list after j) j (getD after j 0)
   each j h = go (decLt j k)
     where
-      go : Dec (j < k) → First (stander list after j) j (getD after j 0)
-      go (yes l) = subst (First (stander list after j) j) (sym (kept j l)) (first-like (λ i m. alike j i (omega arith)) (c .first j l))
+      go : Dec (j < k) → First (firstAlike list after j) j (getD after j 0)
+      go (yes l) = subst (First (firstAlike list after j) j) (sym (kept j l)) (first-like (λ i m. alike j i (omega arith)) (c .first j l))
       go (no n) =
           let e : j ≡ k = omega arith in
-          subst (λ j. First (stander list after j) j (getD after j 0)) (sym e)
-          (subst (First (stander list after k) k) (sym (getD-set-same places k r 0 (omega (arith, c .long)))) (first-like (λ i m. alike k i m) found))
+          subst (λ j. First (firstAlike list after j) j (getD after j 0)) (sym e)
+          (subst (First (firstAlike list after k) k) (sym (getD-set-same places k r 0 (omega (arith, c .long)))) (first-like (λ i m. alike k i m) found))
 
-  pub closed-more : Closed list (k + 1) after
-  closed-more = record { long = length-set places k r ∙ c .long; first = each }
+  pub firsts-more : Firsts list (k + 1) after
+  firsts-more = record { long = length-set places k r ∙ c .long; first = each }

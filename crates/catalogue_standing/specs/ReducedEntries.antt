@@ -21,8 +21,9 @@ use Rattle.catalogue_records.specs.Entries.{beyond, entryAt, length-entries, at
 use Rattle.lattice_membership.specs.declared.Lattice.{Lattice}
 use Rattle.catalogue_standing.specs.ReducedEntry.{reducedEntry}
 use Rattle.catalogue_standing.specs.SameLattice.{LatticeOf, FairLattice, noLattice, leftsIn, left-at}
-use Rattle.catalogue_standing.specs.Places.{Closed}
-use Rattle.catalogue_standing.specs.Standing.{Held, StandingPlaces, Numbers, standing-places}
+use Rattle.catalogue_standing.specs.Places.{Firsts}
+use Rattle.catalogue_standing.specs.FirstPlaces.{FirstPlaces, first-places}
+use Rattle.catalogue_standing.specs.Numbers.{Numbers}
 
 -- the lattices of the first n entries
 pub record HoldReduced (c : Catalogue) (n : ℕ) (list : List Lattice) : Type 0 where
@@ -67,14 +68,11 @@ module _ (c : Catalogue) (r : WasRead c) where
     pub keeps-fair : (k : ℕ) → k < c .count → FairLattice (getD list k noLattice)
     keeps-fair k h = record { known = kept .at k h .known; fair = record { entry = entryIn (entryAt c k); sound = ready-sound k h; is = kept .at k h .left } }
 
-    pub keeps-held : {places : List ℕ} → Closed (leftsIn list) (c .count) places → Held (entriesIn c) (entryIn beyond) (leftsIn list) places
-    keeps-held {places} p = record {
+    pub keeps-firsts : {places : List ℕ} → Firsts (leftsIn list) (c .count) places → FirstPlaces (entriesIn c) (entryIn beyond) places
+    keeps-firsts {places} p = first-places (entriesIn c) (entryIn beyond) (r .formed) (record {
       kept = λ k h. left-at list k ∙ kept .at k (omega (arith, ready-length)) .left ∙ ap reducedEntry (sym (at-place c (r .long) (r .few) k (omega (arith, ready-length))));
-      closed = subst (λ n. Closed (leftsIn list) n places) (sym ready-length) p;
-    }
-
-    pub keeps-standing : {places : List ℕ} → Closed (leftsIn list) (c .count) places → StandingPlaces (entriesIn c) (entryIn beyond) places
-    keeps-standing p = standing-places (entriesIn c) (entryIn beyond) (r .formed) (keeps-held p)
+      firsts = subst (λ n. Firsts (leftsIn list) n places) (sym ready-length) p;
+    })
 
   pub ready-numbers : {numbers : List ℕ} → numbers ≡ map (λ e. e .number) (c .entries) → Numbers (entriesIn c) (entryIn beyond) numbers
   ready-numbers e = record {

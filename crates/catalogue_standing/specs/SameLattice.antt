@@ -10,7 +10,7 @@ use Rattle.successive_minima.specs.Member.{isMember}
 use Rattle.lattice_membership.specs.declared.Lattice.{Lattice}
 use Rattle.lattice_membership.specs.Known.{Left, leftIn, Known, vectorsIn}
 use Rattle.catalogue_standing.specs.ReducedEntry.{noReduced, basisIn, Fair, heldIn, sameReduced, by-held}
-use Rattle.catalogue_standing.specs.Places.{stander, standing-here}
+use Rattle.catalogue_standing.specs.Places.{firstAlike, first-alike}
 
 -- l is the lattice with what is left of an entry
 pub record LatticeOf (k : Left) (l : Lattice) : Type 0 where
@@ -38,8 +38,8 @@ left-at [] k = refl
 left-at (l ∷ list) zero = refl
 left-at (l ∷ list) (suc k) = left-at list k
 
-pub standing-of : (list : List Lattice) (places : List ℕ) (k j : ℕ) → getD places j 0 ≡ j → stander (leftsIn list) places k j ≡ sameReduced (leftIn (getD list j noLattice)) (leftIn (getD list k noLattice))
-standing-of list places k j e = standing-here (leftsIn list) places k j e ∙ ap₂ sameReduced (left-at list j) (left-at list k)
+pub alike-of : (list : List Lattice) (places : List ℕ) (k j : ℕ) → getD places j 0 ≡ j → firstAlike (leftsIn list) places k j ≡ sameReduced (leftIn (getD list j noLattice)) (leftIn (getD list k noLattice))
+alike-of list places k j e = first-alike (leftsIn list) places k j e ∙ ap₂ sameReduced (left-at list j) (left-at list k)
 
 -- ---- both ways
 

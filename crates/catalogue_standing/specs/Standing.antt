@@ -1,152 +1,98 @@
--- The places that the code finds are those of the standing entries of the definition.
-use mathlib.Core.Path.{_≡_, refl, sym, ap, ap₂, _∙_, subst}
-use mathlib.Core.Bool.{Bool, true, false, _&&_}
-use mathlib.Core.List.{List, [], _∷_, _++_}
-use Prim.Native.Nat.{ℕ, zero, suc, _≤_, _<_}
-use native.Mathlib.Nat.{le-of-lt}
+-- The places that the second step finds are those of the standing entries of the definition: with the places of the first entries known, no lattice
+-- is looked at.
+use mathlib.Core.Path.{_≡_, sym, ap, ap₂, _∙_, subst}
+use mathlib.Core.Bool.{Bool, true, false, not, _&&_}
+use mathlib.Core.List.{List}
+use Prim.Native.Nat.{ℕ, _≤_, _<_}
 use native.Mathlib.Omega.{arith}
-use native.Mathlib.Decide.{decLt}
 use lib.Dec.{eqb}
-use lib.ListN.{length, getD, take, drop, take-append-drop}
-use lib.Seq.{drop-cons, getD-take, length-take-le}
-use borrow.Author.Tests.{eqb-true, eq-eqb}
+use lib.ListN.{length, getD}
 use Rattle.integers.specs.All.{All}
 use Rattle.catalogue_rules.specs.Catalogue.{Entry}
-use Rattle.catalogue_rules.specs.Form.{Distinct, WellFormed}
-use Rattle.integers.specs.AllLaws.{all-at}
-use Rattle.fold_rules.specs.Meaning.{Among}
-use Rattle.fold_rules.specs.Fold.{sameLattice, firstEntry, standing, stoodOf, stands}
+use Rattle.catalogue_rules.specs.Form.{WellFormed}
+use Rattle.fold_rules.specs.Meaning.{Among, OneLattice}
+use Rattle.fold_rules.specs.Fold.{sameLattice, firstBy, standingBy, standing, stoodOf, stands}
 use Rattle.fold_rules.specs.Laws.SameLattice.{Sound, sound-entries, one-lattice}
-use Rattle.fold_rules.specs.Laws.Standing.{not-used}
-use Rattle.fold_rules.specs.Laws.Adding.{standing-kept}
-use Rattle.fold_rules.specs.Laws.Searching.{among-at, first-found, first-none, standing-past}
-use Rattle.lattice_membership.specs.Known.{Left}
-use Rattle.catalogue_standing.specs.ReducedEntry.{noReduced, reducedEntry, sameReduced, same-is}
-use Rattle.catalogue_standing.specs.Places.{First, stander, Closed}
+use Rattle.fold_rules.specs.Laws.Standing.{first-one, standing-same}
+use Rattle.fold_rules.specs.Laws.Adding.{same-firsts}
+use Rattle.fold_rules.specs.Laws.Searching.{among-at, first-found, first-none}
+use Rattle.catalogue_standing.specs.Places.{First}
+use Rattle.catalogue_standing.specs.FirstPlaces.{FirstPlaces}
+use Rattle.catalogue_standing.specs.Numbers.{eqb-turn, number-place}
 
--- no number stands at two places
-pub apart : (es : List Entry) → Distinct es → (o : Entry) (i j : ℕ) → i < length es → j < length es → getD es i o .head .number ≡ getD es j o .head .number → i ≡ j
-apart [] d o i j h k e = absurd (omega arith)
-apart (f ∷ es) d o zero zero h k e = refl
-apart (f ∷ es) d o zero (suc j) h k e = absurd (not-used (f .head .number) es (d .0) (getD es j o) (among-at es o j (omega arith)) (sym e))
-apart (f ∷ es) d o (suc i) zero h k e = absurd (not-used (f .head .number) es (d .0) (getD es i o) (among-at es o i (omega arith)) e)
-apart (f ∷ es) d o (suc i) (suc j) h k e = ap suc (apart es (d .1) o i j (omega arith) (omega arith) e)
-
--- two tests of equality that agree
-eqb-same : (a b c d : ℕ) → (a ≡ b → c ≡ d) → (c ≡ d → a ≡ b) → eqb a b ≡ eqb c d
-eqb-same a b c d f g = go (eqb a b) refl (eqb c d) refl
-  where
-    go : (p : Bool) → eqb a b ≡ p → (q : Bool) → eqb c d ≡ q → p ≡ q
-    go true e true h = refl
-    go false e false h = refl
-    go true e false h = sym (eq-eqb c d (f (eqb-true a b e))) ∙ h
-    go false e true h = sym e ∙ eq-eqb a b (g (eqb-true c d h))
-
--- what is kept of each entry, and the places that were found; o stands beyond the end
-pub record Held (es : List Entry) (o : Entry) (list : List Left) (places : List ℕ) : Type 0 where
-  pub kept : (k : ℕ) → k < length es → getD list k noReduced ≡ reducedEntry (getD es k o)
-  pub closed : Closed list (length es) places
+-- r is the place of the standing entry of the entry at place k, o standing beyond the end
+pub record StandsAt (es : List Entry) (o : Entry) (k r : ℕ) : Type 0 where
+  pub within : r < length es
+  pub at : getD es r o ≡ standing es (getD es k o)
 
 -- the places of the standing entries, o standing beyond the end
 pub record StandingPlaces (es : List Entry) (o : Entry) (places : List ℕ) : Type 0 where
   pub within : (k : ℕ) → k < length es → getD places k 0 < length es
   pub at : (k : ℕ) → k < length es → getD es (getD places k 0) o ≡ standing es (getD es k o)
 
--- the numbers of the entries, o standing beyond the end
-pub record Numbers (es : List Entry) (o : Entry) (numbers : List ℕ) : Type 0 where
-  pub number : (k : ℕ) → k < length es → getD numbers k 0 ≡ getD es k o .head .number
-
-module _ (es : List Entry) (o : Entry) (w : WellFormed es) {list : List Left} {places : List ℕ} (held : Held es o list places) where
-  abbrev at : ℕ → Entry
-  at k = getD es k o
-
-  abbrev place : ℕ → ℕ
-  place k = getD places k 0
+module _ (es : List Entry) (o : Entry) (w : WellFormed es) where
+  abbrev entry : ℕ → Entry
+  entry k = getD es k o
 
   sound : All Sound es
   sound = sound-entries es w
 
-  sound-at : (k : ℕ) → k < length es → Sound (at k)
-  sound-at k h = all-at Sound es o sound k h
+  among : (k : ℕ) → k < length es → Among (entry k) es
+  among k h = among-at es o k h
 
-  pub place-below : (k : ℕ) → k < length es → place k ≤ k
-  place-below k h = held .closed .first k h .within
+  -- an entry stands when its place is its own
+  pub stands-place : {places : List ℕ} → StandingPlaces es o places → (k : ℕ) → k < length es → stands (stoodOf es (entry k)) ≡ eqb (getD places k 0) k
+  stands-place {places} p k h =
+      let s = getD places k 0 in
+      ap (λ g. eqb (entry k .head .number) (g .head .number)) (sym (p .at k h)) ∙ number-place es (w .entered .distinct) o k s h (p .within k h) ∙ eqb-turn k s
 
-  same-at : (j k : ℕ) → j < length es → k < length es → sameReduced (getD list j noReduced) (getD list k noReduced) ≡ sameLattice (at j) (at k)
-  same-at j k h l = ap₂ sameReduced (held .kept j h) (held .kept k l) ∙ same-is (at j) (at k) (sound-at j h) (sound-at k l)
-
-  -- numbers tell places apart
-  own-place : (k : ℕ) → place k < length es → k < length es → eqb (at k .head .number) (at (place k) .head .number) ≡ eqb (place k) k
-  own-place k h l =
-      eqb-same (at k .head .number) (at (place k) .head .number) (place k) k
-      (λ e. apart es (w .entered .distinct) o (place k) k h l (sym e)) (λ e. ap (λ i. at i .head .number) (sym e))
-
-  -- the entries before place k, that entry, and those after it
+  -- the standing place from the first entry that is no draft, or from none
   module _ (k : ℕ) (h : k < length es) where
-    abbrev past : List Entry
-    past = take k es
+    abbrev good : Entry → Bool
+    good f = sameLattice f (entry k) && not (f .draft)
 
-    abbrev rest : List Entry
-    rest = drop (suc k) es
+    pub checked-stands : {r : ℕ} → r < length es → ((j : ℕ) → j < r → good (entry j) ≡ false) → good (entry r) ≡ true → StandsAt es o k r
+    unfolding standingBy
+    checked-stands {r} l n g = record { within = l; at = sym (first-found good (firstBy sameLattice es (entry k)) o es r l n g) }
 
-    split : past ++ (at k ∷ rest) ≡ es
-    split = ap (λ l. past ++ l) (sym (drop-cons es k o h)) ∙ take-append-drop k es
+    pub first-stands : {r : ℕ} → r < length es → ((j : ℕ) → j < length es → good (entry j) ≡ false) → entry r ≡ firstBy sameLattice es (entry k) → StandsAt es o k r
+    unfolding standingBy
+    first-stands {r} l n e = record { within = l; at = e ∙ sym (first-none good (firstBy sameLattice es (entry k)) o es n) }
 
-    past-long : length past ≡ k
-    past-long = length-take-le k es (le-of-lt h)
+  -- ---- with the first places known
+  module _ {firsts : List ℕ} (p : FirstPlaces es o firsts) where
+    abbrev first : ℕ → ℕ
+    first k = getD firsts k 0
 
-    sound-split : All Sound (past ++ (at k ∷ rest))
-    sound-split = subst (All Sound) (sym split) sound
+    first-within : (k : ℕ) → k < length es → first k < length es
+    first-within k h = omega (arith, p .below k h)
 
-    abbrev has : Entry → Bool
-    has f = stands (stoodOf past f) && sameLattice f (at k)
+    -- two entries are of one lattice when their first places are one
+    same-places : (j k : ℕ) → j < length es → k < length es → sameLattice (entry j) (entry k) ≡ eqb (first j) (first k)
+    same-places j k h l =
+        same-firsts one-lattice es sound (w .entered .distinct) (entry j) (entry k) (among j h) (among k l)
+        ∙ ap₂ (λ f g. eqb (f .head .number) (g .head .number)) (sym (p .at j h)) (sym (p .at k l))
+        ∙ number-place es (w .entered .distinct) o (first j) (first k) (first-within j h) (first-within k l)
 
-    standing-first : standing es (at k) ≡ firstEntry has (at k) past
-    standing-first = ap (λ l. standing l (at k)) (sym split) ∙ standing-past one-lattice past (at k) rest sound-split
+    -- entry j is no draft, and the first of its lattice is at place f
+    abbrev pub checkedAt : ℕ → ℕ → Bool
+    checkedAt f j = eqb (first j) f && not (entry j .draft)
 
-    -- an entry before k stands when its place is its own
-    module _ (before : (j : ℕ) → j < k → at (place j) ≡ standing es (at j)) where
-      stands-at : (j : ℕ) → j < k → stands (stoodOf past (getD past j o)) ≡ eqb (place j) j
-      stands-at j l =
-          let f = at j in
-          let below = place-below j (omega arith) in
-          let taken : getD past j o ≡ f = getD-take k es j o l in
-          let kept : standing past f ≡ at (place j) =
-          sym (standing-kept one-lattice past (at k ∷ rest) sound-split f (subst (λ g. Among g past) taken (among-at past o j (omega (arith, past-long)))))
-          ∙ ap (λ l. standing l f) split ∙ sym (before j l) in
-          ap (λ g. stands (stoodOf past g)) taken ∙ ap (λ g. eqb (f .head .number) (g .head .number)) kept ∙ own-place j (omega arith) (omega arith)
+    -- of the lattice whose first entry is at place f
+    module _ (f : ℕ) (h : f < length es) (own : first f ≡ f) where
+      good-at : (j : ℕ) → j < length es → (sameLattice (entry j) (entry f) && not (entry j .draft)) ≡ checkedAt f j
+      good-at j l = ap (λ b. b && not (entry j .draft)) (same-places j f l h ∙ ap (eqb (first j)) own)
 
-      has-at : (j : ℕ) → j < k → has (getD past j o) ≡ stander list places k j
-      has-at j l =
-          let taken : getD past j o ≡ at j = getD-take k es j o l in
-          ap₂ _&&_ (stands-at j l) (ap (λ g. sameLattice g (at k)) taken ∙ sym (same-at j k (omega arith) h))
+      pub stander-checked : {r : ℕ} → First (checkedAt f) (length es) r → r < length es → StandsAt es o f r
+      stander-checked {r} q l = checked-stands f h l (λ j m. good-at j (omega arith) ∙ q .before j m) (good-at r l ∙ q .here l)
 
-      at-place : at (place k) ≡ standing es (at k)
-      at-place = go (decLt (place k) k)
-        where
-          found : First (stander list places k) k (place k)
-          found = held .closed .first k h
+      pub stander-first : {r : ℕ} → First (checkedAt f) (length es) r → length es ≤ r → StandsAt es o f f
+      stander-first q l = first-stands f h h (λ j m. good-at j m ∙ q .before j (omega arith)) (ap entry (sym own) ∙ p .at f h)
 
-          go : Dec (place k < k) → at (place k) ≡ standing es (at k)
-          go (yes l) = sym (standing-first
-              ∙ first-found has (at k) o past (place k) (omega (arith, past-long)) (λ j m. has-at j (omega arith) ∙ found .before j m) (has-at (place k) l ∙ found .here l)
-              ∙ getD-take k es (place k) o l)
-          go (no n) =
-              let e : place k ≡ k = omega (arith, found .within) in
-              ap at e ∙ sym (standing-first ∙ first-none has (at k) o past (λ j m. has-at j (omega (arith, past-long)) ∙ found .before j (omega (arith, past-long))))
-
-  places-to : (n k : ℕ) → k < n → k < length es → at (place k) ≡ standing es (at k)
-  places-to zero k h l = absurd (omega arith)
-  places-to (suc n) k h l = at-place k l (λ j m. places-to n j (omega arith) (omega arith))
-
-  -- at the place found stands the standing entry
-  pub place-standing : (k : ℕ) → k < length es → at (place k) ≡ standing es (at k)
-  place-standing k h = places-to (suc k) k (omega arith) h
-
-  -- so an entry stands when its place is its own
-  pub stands-place : (k : ℕ) → k < length es → stands (stoodOf es (at k)) ≡ eqb (place k) k
-  stands-place k h =
-      ap (λ g. eqb (at k .head .number) (g .head .number)) (sym (place-standing k h)) ∙ own-place k (omega (arith, place-below k h)) h
-
-  pub standing-places : StandingPlaces es o places
-  standing-places = record { within = λ k h. omega (arith, place-below k h); at = place-standing }
+    -- entries of one lattice have one standing entry
+    pub shared : (k r : ℕ) → k < length es → StandsAt es o (first k) r → StandsAt es o k r
+    shared k r h q =
+        let f = first k in
+        let l = first-within k h in
+        let one : OneLattice (entry f) (entry k) = subst (λ g. OneLattice g (entry k)) (sym (p .at k h)) (first-one one-lattice es sound (entry k) (among k h)) in
+        record { within = q .within; at = q .at ∙ standing-same one-lattice es sound (entry f) (entry k) (among f l) (among k h) one }

@@ -8,13 +8,14 @@ ghost use Rattle.lattices.specs.Refusal.{mostCoordinates};
 ghost use Rattle.successive_minima.specs.Member.{isMember};
 ghost use Rattle.lattice_membership.specs.Known.{Known, vectorsIn};
 ghost use Rattle.catalogue_rules.specs.Form.{EntryFits};
-ghost use Rattle.catalogue_records.specs.EntriesIn.{entryIn};
-ghost use Rattle.catalogue_records.specs.Entries.{entryAt};
+ghost use Rattle.catalogue_records.specs.EntriesIn.{entryIn, entriesIn};
+ghost use Rattle.catalogue_records.specs.Entries.{beyond};
 ghost use Rattle.fold_rules.specs.Fold.{sameLattice};
 ghost use Rattle.fold_rules.specs.Laws.SameLattice.{Sound};
 ghost use Rattle.catalogue_standing.specs.ReducedEntry.{reducedEntry};
 ghost use Rattle.catalogue_standing.specs.SameLattice.{LatticeOf};
-ghost use Rattle.catalogue_standing.specs.Places.{First};
+ghost use Rattle.catalogue_standing.specs.Standing.{StandsAt};
+ghost use Rattle.catalogue_standing.specs.OneEntry.{searched};
 ghost use Rattle.catalogue_standing.specs.ReducedEntries.{WasRead};
 use super::entry_lattices::lattice_of;
 use catalogue_records::Catalogue;
@@ -51,18 +52,39 @@ fn same_entry(f: Entry, e: Entry, l: Lattice) -> bool
     holds_lattice(lattice_of(f), l)
 }
 
-// The place of the standing entry of entry k.
+// How many entries are looked at for one that is no draft: of a draft all, else those before it.
+fn searched(draft: bool, k: usize, count: usize) -> usize
+    ensures { λ r. ⌜ r ≡ searched draft k count ⌝ }
+{
+    if draft {
+        return count;
+    }
+    k
+}
+
+// The place of the standing entry of entry k: the first of its lattice that is no draft, else the first draft; no entry is tested twice. Both
+// loops stand here, where the catalogue is: by value each call would copy it.
 pub fn standing_place(c: Catalogue, k: usize) -> usize
     requires { ⌜ WasRead c ⌝ }
     requires { ⌜ k < c .count ⌝ }
-    ensures { λ r. ⌜ First (λ j. sameLattice (entryIn (entryAt c j)) (entryIn (entryAt c k))) k r ⌝ }
+    ensures { λ r. ⌜ StandsAt (entriesIn c) (entryIn beyond) k r ⌝ }
 {
     let e = c.entries[k];
     let l = lattice_of(e);
-    for j in 0..k {
+    let n = searched(e.draft, k, c.count);
+    for j in 0..n {
         let f = c.entries[j];
-        if same_entry(f, e, l) {
+        if !f.draft && same_entry(f, e, l) {
             return j;
+        }
+    }
+    if !e.draft {
+        return k;
+    }
+    for i in 0..k {
+        let f = c.entries[i];
+        if f.draft && same_entry(f, e, l) {
+            return i;
         }
     }
     k

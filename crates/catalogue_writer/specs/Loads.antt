@@ -2,7 +2,7 @@
 use mathlib.Core.Path.{_≡_, sym, ap, _∙_, subst}
 use mathlib.Core.Bool.{false}
 use lib.Dec.{T}
-use mathlib.Core.List.{List, [], _∷_, _++_, map}
+use mathlib.Core.List.{List, [], _∷_, _++_, map, map-append, append-assoc}
 use Prim.Native.Nat.{ℕ, suc, _+_, _*_, _≤_, _<_}
 use native.Mathlib.Numerals.{add-one}
 use native.Mathlib.Omega.{arith}
@@ -18,7 +18,7 @@ use Rattle.integers.specs.Every.{any}
 use Rattle.input_checks.specs.Any.{beyond}
 use Rattle.catalogue_rules.specs.Word.{Word, encode}
 use Rattle.catalogue_rules.specs.Catalogue.{Entry, coordinates, mostNumbers}
-use Rattle.catalogue_rules.specs.Write.{headWord, coordinateWord, seeWords, entryWords, encodedCoordinates}
+use Rattle.catalogue_rules.specs.Write.{headWord, coordinateWord, draftWords, seeWords, entryWords, encodedCoordinates}
 use Rattle.catalogue_rules.specs.Form.{EntryFits}
 use Rattle.catalogue_rules.specs.Laws.EntriesAccepted.{all-near}
 use Rattle.catalogue_records.specs.declared.Entry as stored
@@ -52,12 +52,21 @@ encoded-more cs j h =
 
 -- ---- the words of a stored entry
 
--- its head and coordinates; its see word comes after them
+-- its head and coordinates; its mark and its see word come after them
 abbrev pub basisWords : Entry → List Word
 basisWords e = headWord (e .head) ∷ map coordinateWord (coordinates (e .vectors))
 
-pub basis-and-see : (e : Entry) → length (entryWords e) ≡ length (basisWords e) + length (seeWords (e .see))
-basis-and-see e = length-append (basisWords e) (seeWords (e .see))
+pub length-parts : (e : Entry) → length (entryWords e) ≡ length (basisWords e) + length (draftWords (e .draft)) + length (seeWords (e .see))
+length-parts e = omega (arith, length-append (basisWords e) (draftWords (e .draft) ++ seeWords (e .see)), length-append (draftWords (e .draft)) (seeWords (e .see)))
+
+pub encoded-parts : (e : Entry) → map encode (basisWords e) ++ map encode (draftWords (e .draft)) ++ map encode (seeWords (e .see)) ≡ map encode (entryWords e)
+encoded-parts e =
+    let ws = basisWords e in
+    let ds = draftWords (e .draft) in
+    let ss = seeWords (e .see) in
+    append-assoc (map encode ws) (map encode ds) (map encode ss)
+    ∙ ap (λ l. map encode ws ++ l) (sym (map-append encode ds ss))
+    ∙ sym (map-append encode ws (ds ++ ss))
 
 -- the words as the code writes them, n being d times m
 module _ (e : stored.Entry) (fits : EntryFits (entryIn e)) (long : length (e .coordinates) ≡ mostNumbers) where

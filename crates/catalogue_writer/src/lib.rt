@@ -8,9 +8,9 @@ ghost use lib.ListN.{length};
 ghost use Rattle.integers.specs.All.{All};
 ghost use Rattle.integers.specs.Every.{any};
 ghost use Rattle.input_checks.specs.Any.{beyond};
-ghost use Rattle.catalogue_rules.specs.Word.{head, see, end, encode};
+ghost use Rattle.catalogue_rules.specs.Word.{head, see, end, draft, encode};
 ghost use Rattle.catalogue_writer.specs.Over.{overWords};
-ghost use Rattle.catalogue_rules.specs.Write.{coordinateWord, seeWords, entryWords, entriesWords};
+ghost use Rattle.catalogue_rules.specs.Write.{coordinateWord, draftWords, seeWords, entryWords, entriesWords};
 ghost use Rattle.catalogue_rules.specs.Catalogue.{accepted, mostEntries};
 ghost use Rattle.catalogue_rules.specs.Output.{output};
 ghost use Rattle.catalogue_rules.specs.Form.{EntryFits, WellFormed};
@@ -68,6 +68,13 @@ pub fn end_word(count: usize) -> u32
     1073741824 + count as u32
 }
 
+// Kind 5, with load 1.
+pub fn draft_word() -> u32
+    ensures { λ r. ⌜ r ≡ encode (draft 1) ⌝ }
+{
+    1342177281
+}
+
 // Words of coordinates from index k on.
 fn put_coordinates(out: &mut [u8], k: usize, coordinates: &[i64])
     requires { ⌜ (k + length (now coordinates)) * 4 ≤ length (now out) ⌝ }
@@ -95,6 +102,20 @@ fn put_basis(out: &mut [u8], k: usize, e: Entry) -> usize
     k + 1 + n
 }
 
+// The mark of an entry, if it is a draft, at index k; the index after it.
+fn put_draft(out: &mut [u8], k: usize, e: Entry) -> usize
+    requires { ⌜ (k + length (draftWords (entryIn e .draft))) * 4 ≤ length (now out) ⌝ }
+    ensures { λ r. ⌜ r ≡ k + length (draftWords (entryIn e .draft)) ⌝ }
+    ensures { λ _. ⌜ now (out .exit) ≡ overWords (now (out .entry)) k (map encode (draftWords (entryIn e .draft))) ⌝ }
+{
+    if !e.draft {
+        return k;
+    }
+    let w = draft_word();
+    put_word(out, k, w);
+    k + 1
+}
+
 // The see word of an entry, if it has one, at index k; the index after it.
 fn put_see(out: &mut [u8], k: usize, e: Entry) -> usize
     requires { ⌜ SeeFits (entryIn e .see) ⌝ }
@@ -119,7 +140,8 @@ fn put_entry(out: &mut [u8], k: usize, e: Entry) -> usize
     ensures { λ _. ⌜ now (out .exit) ≡ overWords (now (out .entry)) k (map encode (entryWords (entryIn e))) ⌝ }
 {
     let n = put_basis(out, k, e);
-    put_see(out, n, e)
+    let s = put_draft(out, n, e);
+    put_see(out, s, e)
 }
 
 // How many words an entry takes.
@@ -127,11 +149,7 @@ fn count_entry(e: Entry) -> usize
     requires { ⌜ EntryFits (entryIn e) ⌝ }
     ensures { λ r. ⌜ r ≡ length (entryWords (entryIn e)) ⌝ }
 {
-    let n = 1 + e.d * e.m;
-    if e.sees {
-        return n + 1;
-    }
-    n
+    1 + e.d * e.m + e.draft as usize + e.sees as usize
 }
 
 // How many words the entries take.

@@ -16,6 +16,9 @@ enum Wanted {
 // Room for a word more than a catalogue can have, so that too many words are seen.
 const MOST_TOLD: usize = Catalogue::MOST_BYTES + 4;
 
+// Room for a byte more than the longest text, so that a longer one is seen.
+const MOST_READ: usize = text_encoding::MOST_TEXT + 1;
+
 // Says the refusal of a catalogue.
 fn refused(number: u64, place: usize) {
     cli_answers::refusals::say_refused(number, place as u64);
@@ -181,18 +184,23 @@ fn say_told(text: &[u8], number: u64, place: usize) {
     cli_answers::refusals::say_refused_line(number, place as u64, line as u64);
 }
 
+// The bytes that a text is read into.
+fn text_buffer() -> [u8; MOST_READ] {
+    [0; MOST_READ]
+}
+
 // Writes the catalogue that a text tells, unless something in it is wrong.
 pub fn encode(fd: i32) {
-    let mut text = io::large_buffer();
+    let mut text = text_buffer();
     let f = cli_input::read_all(fd, &mut text);
     if !f.is_open {
         return;
     }
     let n = f.end;
-    if n == 65536 {
+    if n == MOST_READ {
         io::write_all(
             libc::STDERR_FILENO,
-            b"error: a text of more than 65535 bytes\n",
+            b"error: a text of more than 131071 bytes\n",
         );
         return;
     }

@@ -20,7 +20,7 @@ fn report(line: u64, mistake: Mistake) {
         Mistake::Beyond => cli_answers::refusals::say_error(line, b"a coordinate beyond 20000"),
         Mistake::NoSee => cli_answers::refusals::say_error(
             line,
-            b"the last part is not the number of an entry",
+            b"neither draft nor the number of an entry behind the coordinates",
         ),
     }
 }
@@ -34,7 +34,7 @@ fn check(s: &[u8], line: u64) {
 
 // Says what is wrong with each line of a text.
 pub(crate) fn report_all(text: &[u8])
-    requires { ⌜ length (now text) ≤ 65536 ⌝ }
+    requires { ⌜ length (now text) ≤ 131072 ⌝ }
 {
     let mut from = 0usize;
     let mut line = 1u64;

@@ -3,7 +3,7 @@ use libc::STDERR_FILENO;
 
 // Writes the program's name and version.
 pub(crate) fn version() {
-    cli_output::write(b"raghymtos 0.6.0\n");
+    cli_output::write(b"raghymtos 0.7.0\n");
 }
 
 // Says what may be asked for, on standard error.
@@ -69,7 +69,11 @@ fn usage() {
     );
     go = line(
         go,
-        b"                      the standing entries, each with the first see word of its lattice that leads to another",
+        b"                      the standing entries, the first of each lattice that is no draft, or its first where all are drafts,",
+    );
+    go = line(
+        go,
+        b"                      each with its own see word where that leads to another, else with the first of its lattice that does",
     );
     go = line(
         go,
@@ -93,11 +97,11 @@ fn usage() {
     );
     go = line(
         go,
-        b"decode [FILE]         writes the entries as text, one to a line: number d m ; coordinates ; see",
+        b"decode [FILE]         writes the entries as text, one to a line: number d m ; coordinates ; draft ; see",
     );
     go = line(
         go,
-        b"                      the last part only where there is a see word",
+        b"                      draft only where the entry is one, the last part only where there is a see word",
     );
     go = line(
         go,
@@ -159,17 +163,17 @@ fn catalogue_example(command: &[u8]) -> bool {
     if check::same(command, b"encode") || check::same(command, b"decode") {
         let mut go = line(
             true,
-            b"$ printf '7 2 2 ; 1 0 4 1\\n9 2 2 ; 2 0 0 3 ; 7\\n' | raghymtos encode > two.catalogue",
+            b"$ printf '7 2 2 ; 1 0 4 1\\n9 2 2 ; 2 0 0 3 ; draft ; 7\\n' | raghymtos encode > two.catalogue",
         );
         go = line(go, b"$ raghymtos decode two.catalogue");
         go = line(go, b"7 2 2 ; 1 0 4 1");
-        line(go, b"9 2 2 ; 2 0 0 3 ; 7");
+        line(go, b"9 2 2 ; 2 0 0 3 ; draft ; 7");
         return true;
     }
     if check::same(command, b"fold") {
         let mut go = line(true, b"$ raghymtos fold two.catalogue | raghymtos decode");
         go = line(go, b"7 2 2 ; 1 0 0 1");
-        line(go, b"9 2 2 ; 2 0 0 3 ; 7");
+        line(go, b"9 2 2 ; 2 0 0 3 ; draft ; 7");
         return true;
     }
     if check::same(command, b"lookup") {

@@ -1,6 +1,8 @@
 // The catalogue in full of document 01 and others: what folding writes to a lent output, what lookups give, and the listing.
 use libc::STDOUT_FILENO;
 
+mod drafts;
+
 // Writes a blank and n.
 fn field(n: u64) {
     io::write_all(STDOUT_FILENO, b" ");
@@ -207,10 +209,10 @@ fn wide() {
     listed(b);
 }
 
-// The bytes of the largest catalogue, of 256 entries alike with four vectors of eight coordinates and a see word each, and of one with an entry more:
+// The bytes of the largest catalogue, of 256 drafts alike with four vectors of eight coordinates and a see word each, and of one with an entry more:
 // what folding writes, and how long the listing is.
 fn largest(name: &[u8], count: u32) {
-    let mut words = [0u32; 8739];
+    let mut words = [0u32; 8996];
     let n = sample_catalogues::alike(
         &mut words,
         count,
@@ -248,12 +250,13 @@ fn largest(name: &[u8], count: u32) {
             0x20004E20,
             0x20004E20,
             0x20004E21,
+            0x50000001,
             0x30000001,
         ],
     );
-    let mut bytes = [0u8; 34956];
+    let mut bytes = [0u8; 35984];
     let k = sample_catalogues::store(&words[..n], &mut bytes);
-    folded_to(name, &bytes[..k], &mut [170u8; 140]);
+    folded_to(name, &bytes[..k], &mut [170u8; 144]);
     found(&bytes[..k], 256);
     let mut text = [0u8; catalogue_listing::MOST_BYTES];
     let w = catalogue_listing::list(&bytes[..k], &mut text);
@@ -305,6 +308,11 @@ fn main() {
     many();
     short();
     wide();
-    largest(b"34820 bytes", 256);
-    largest(b"34956 bytes", 257);
+    largest(b"35844 bytes", 256);
+    largest(b"35984 bytes", 257);
+    drafts::stands();
+    drafts::two_lattices();
+    drafts::see_words();
+    drafts::two_vectors();
+    drafts::refused();
 }

@@ -19,7 +19,8 @@ use Rattle.fold_rules.specs.Fold.{sameLattice, standing, closedList, loo
 use Rattle.fold_rules.specs.Services.{foldedOutcome, foldOf, lookedUp, lookedIn, lookupOf}
 use Rattle.fold_rules.specs.Meaning.{Among, OneLattice, Stands, Sees, Prints, Folds, Finds, LooksUp}
 use Rattle.fold_rules.specs.Laws.SameLattice.{sound-entries, one-trans, one-lattice}
-use Rattle.fold_rules.specs.Laws.Standing.{all-self, one-number, stands-once, standing-is, standing-among, standing-one, standing-twice}
+use Rattle.fold_rules.specs.Laws.First.{all-self}
+use Rattle.fold_rules.specs.Laws.Standing.{one-number, stands-once, standing-is, standing-among, standing-one, standing-twice}
 use Rattle.fold_rules.specs.Laws.Lookup.{numbered, unused, lookup-finds, lookup-misses}
 use Rattle.fold_rules.specs.Laws.FoldedForm.{folded-accepted}
 use Rattle.fold_rules.specs.Laws.Again.{folded-twice}

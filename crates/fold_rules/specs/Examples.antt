@@ -1,4 +1,4 @@
--- "A catalogue in full" of document 01, folded, looked up and listed; the sole end word; and what is refused in the call alone.
+-- "A catalogue in full" of document 01, folded, looked up and listed; drafts; the sole end word; and what is refused in the call alone.
 use mathlib.Core.Path.{_≡_, refl}
 use mathlib.Core.List.{List, [], _∷_, _++_, map}
 use Prim.Native.Nat.{ℕ}
@@ -13,7 +13,7 @@ use Rattle.catalogue_rules.specs.Read.{step, readWords, read}
 use Rattle.catalogue_rules.specs.Write.{write}
 use Rattle.catalogue_rules.specs.Output.{Output, untouched, filledWith}
 use Rattle.catalogue_rules.specs.Examples.{full}
-use Rattle.fold_rules.specs.Fold.{sameLattice, standingBy, folded}
+use Rattle.fold_rules.specs.Fold.{sameLattice, firstBy, standingBy, folded}
 use Rattle.fold_rules.specs.Services.{Lookup, nowhere, foldOf, lookupOf}
 use Rattle.fold_rules.specs.Listing.{listingOf}
 
@@ -100,6 +100,38 @@ ownFirst = 0x10000111 ∷ 0x20004E22 ∷ 0x30000002 ∷ 0x10000211 ∷ 0x20004E2
 abbrev pub ownFirstFolded : List ℕ
 ownFirstFolded = 0x10000111 ∷ 0x20004E22 ∷ 0x30000002 ∷ 0x10000211 ∷ 0x20004E23 ∷ 0x10000411 ∷ 0x20004E25 ∷ 0x40000003 ∷ []
 
+-- 1 is a draft and 2 is none, so 2 stands; the word of 3 leads to it
+abbrev pub draftFirst : List ℕ
+draftFirst = 0x10000111 ∷ 0x20004E22 ∷ 0x50000001 ∷ 0x10000211 ∷ 0x20004E1E ∷ 0x10000311 ∷ 0x20004E23 ∷ 0x30000001 ∷ 0x40000003 ∷ []
+
+abbrev pub draftFirstFolded : List ℕ
+draftFirstFolded = 0x10000211 ∷ 0x20004E1E ∷ 0x10000311 ∷ 0x20004E23 ∷ 0x30000002 ∷ 0x40000002 ∷ []
+
+-- both entries of the first lattice are drafts: the first stands, with its mark and its see word; the other lattice has no draft
+abbrev pub allDrafts : List ℕ
+allDrafts = 0x10000111 ∷ 0x20004E22 ∷ 0x50000001 ∷ 0x30000003 ∷ 0x10000211 ∷ 0x20004E1E ∷ 0x50000001 ∷ 0x10000311 ∷ 0x20004E23 ∷ 0x30000002 ∷ 0x40000003 ∷ []
+
+abbrev pub allDraftsFolded : List ℕ
+allDraftsFolded = 0x10000111 ∷ 0x20004E22 ∷ 0x50000001 ∷ 0x30000003 ∷ 0x10000311 ∷ 0x20004E23 ∷ 0x30000001 ∷ 0x40000002 ∷ []
+
+-- the draft 1 comes before 2, which stands, but the own word of 2 is considered first: it leads to 4, that of 1 to 3
+abbrev pub ownBefore : List ℕ
+ownBefore =
+    0x10000111 ∷ 0x20004E22 ∷ 0x50000001 ∷ 0x30000003 ∷ 0x10000211 ∷ 0x20004E22 ∷ 0x30000004
+    ∷ 0x10000311 ∷ 0x20004E23 ∷ 0x10000411 ∷ 0x20004E25 ∷ 0x40000004 ∷ []
+
+abbrev pub ownBeforeFolded : List ℕ
+ownBeforeFolded = 0x10000211 ∷ 0x20004E22 ∷ 0x30000004 ∷ 0x10000311 ∷ 0x20004E23 ∷ 0x10000411 ∷ 0x20004E25 ∷ 0x40000003 ∷ []
+
+-- the own word of 2 leads back to it; then the others in file order, the draft 1 among them: 3, not 4
+abbrev pub draftCarried : List ℕ
+draftCarried =
+    0x10000111 ∷ 0x20004E22 ∷ 0x50000001 ∷ 0x30000003 ∷ 0x10000211 ∷ 0x20004E22 ∷ 0x30000001 ∷ 0x10000511 ∷ 0x20004E1E ∷ 0x30000004
+    ∷ 0x10000311 ∷ 0x20004E23 ∷ 0x10000411 ∷ 0x20004E25 ∷ 0x40000005 ∷ []
+
+abbrev pub draftCarriedFolded : List ℕ
+draftCarriedFolded = 0x10000211 ∷ 0x20004E22 ∷ 0x30000003 ∷ 0x10000311 ∷ 0x20004E23 ∷ 0x10000411 ∷ 0x20004E25 ∷ 0x40000003 ∷ []
+
 -- the same vector with a zero coordinate more is in another lattice
 abbrev pub wider : List ℕ
 wider = 0x10000111 ∷ 0x20004E21 ∷ 0x10000212 ∷ 0x20004E21 ∷ 0x20004E20 ∷ 0x40000002 ∷ []
@@ -159,6 +191,11 @@ examples =
     ∷ gives foldedCircle 64 foldedCircleFolded
     ∷ gives withinOne 64 withinOneFolded
     ∷ gives ownFirst 64 ownFirstFolded
+    ∷ gives draftFirst 64 draftFirstFolded
+    ∷ gives allDrafts 64 allDraftsFolded
+    ∷ gives allDraftsFolded 32 allDraftsFolded
+    ∷ gives ownBefore 64 ownBeforeFolded
+    ∷ gives draftCarried 64 draftCarriedFolded
     ∷ gives wider 24 wider
     ∷ gives longBases 44 longBasesFolded
     ∷ gives (0x40000000 ∷ []) 4 (0x40000000 ∷ [])
@@ -166,7 +203,7 @@ examples =
     ∷ []
 
 pub folds-hold : map (λ x. foldOf (x .file) (x .lent)) examples ≡ map (λ x. x .output) examples
-unfolding dot comb _⊕_ _⊙_ squaredVolume isDependent leastBy nearestBy insertBy orderBy credited greedyBy isMember decode encode step readWords read write sameLattice standingBy folded foldOf
+unfolding dot comb _⊕_ _⊙_ squaredVolume isDependent leastBy nearestBy insertBy orderBy credited greedyBy isMember decode encode step readWords read write sameLattice firstBy standingBy folded foldOf
 folds-hold = refl
 
 -- more than four coordinates
@@ -174,13 +211,18 @@ abbrev pub wideExamples : List Example
 wideExamples = gives wideBases 88 wideBasesFolded ∷ []
 
 pub wide-folds : map (λ x. foldOf (x .file) (x .lent)) wideExamples ≡ map (λ x. x .output) wideExamples
-unfolding dot comb _⊕_ _⊙_ squaredVolume isDependent leastBy nearestBy insertBy orderBy credited greedyBy isMember decode encode step readWords read write sameLattice standingBy folded foldOf
+unfolding dot comb _⊕_ _⊙_ squaredVolume isDependent leastBy nearestBy insertBy orderBy credited greedyBy isMember decode encode step readWords read write sameLattice firstBy standingBy folded foldOf
 wide-folds = refl
 
 pub lookups-hold : map (lookupOf (bytesOf full)) (7 ∷ 9 ∷ 12 ∷ 8 ∷ []) ++ (lookupOf [] 7 ∷ []) ≡ finds 7 ∷ finds 9 ∷ finds 7 ∷ nowhere 17 0 ∷ nowhere 10 0 ∷ []
-unfolding dot comb _⊕_ _⊙_ squaredVolume isDependent leastBy nearestBy insertBy orderBy credited greedyBy isMember decode encode step readWords read sameLattice standingBy lookupOf
+unfolding dot comb _⊕_ _⊙_ squaredVolume isDependent leastBy nearestBy insertBy orderBy credited greedyBy isMember decode encode step readWords read sameLattice firstBy standingBy lookupOf
 lookups-hold = refl
 
+-- among the drafts: 1 and 2 of the first lattice both ways
+pub draft-lookups : map (lookupOf (bytesOf draftFirst)) (1 ∷ 2 ∷ 3 ∷ []) ++ map (lookupOf (bytesOf allDrafts)) (1 ∷ 2 ∷ 3 ∷ []) ≡ finds 2 ∷ finds 2 ∷ finds 3 ∷ finds 1 ∷ finds 1 ∷ finds 3 ∷ []
+unfolding dot comb _⊕_ _⊙_ squaredVolume isDependent leastBy nearestBy insertBy orderBy credited greedyBy isMember decode encode step readWords read sameLattice firstBy standingBy lookupOf
+draft-lookups = refl
+
 pub listings-hold : map listingOf (bytesOf full ∷ [] ∷ []) ≡ fullListing ∷ refusedListing ∷ []
-unfolding dot comb _⊕_ _⊙_ squaredVolume isDependent leastBy nearestBy insertBy orderBy credited greedyBy isMember decode encode step readWords read sameLattice standingBy listingOf
+unfolding dot comb _⊕_ _⊙_ squaredVolume isDependent leastBy nearestBy insertBy orderBy credited greedyBy isMember decode encode step readWords read sameLattice firstBy standingBy listingOf
 listings-hold = refl

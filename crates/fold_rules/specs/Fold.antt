@@ -1,6 +1,6 @@
--- The fold (document 01, "The fold"; document 02, ask 1): one lattice, the standing entry, the closed list, where a see word leads and which of
--- them a standing entry carries, the folded catalogue.
-use mathlib.Core.Bool.{Bool, true, false, _&&_}
+-- The fold (document 01, "The fold"; document 02, asks 1 and 5): one lattice, the standing entry, the closed list, where a see word leads and which
+-- of them a standing entry carries, the folded catalogue.
+use mathlib.Core.Bool.{Bool, true, false, not, _&&_}
 use mathlib.Core.List.{List, [], _∷_, map}
 use mathlib.Core.Option.{Option, none, some}
 use Prim.Native.Nat.{ℕ}
@@ -35,20 +35,26 @@ abbrev pub firstEntry : (Entry → Bool) → Entry → List Entry → Entry
 firstEntry has other [] = other
 firstEntry has other (e ∷ es) = elim (has e) [ true ↦ e | false ↦ firstEntry has other es ]
 
--- R7.6: an entry and its standing entry
+-- R7.6: an entry, the first of its lattice and its standing entry. Entries that follow do not change the first; one that is no draft may change
+-- which one stands
 pub record Stood : Type 0 where
   pub entry : Entry
+  pub first : Entry
   pub standing : Entry
 
 -- `same` is the test for one lattice; what follows from the rules asks only that it decides an equivalence
 module _ (same : Entry → Entry → Bool) where
-  -- R7.1: "The standing entry of an entry is the first in the file with the same m and the same lattice."
+  -- R7.1: "the first in the file with the same m and the same lattice"
+  unfoldable pub firstBy : List Entry → Entry → Entry
+  firstBy es e = firstEntry (λ f. same f e) e es
+
+  -- R7.1: "A standing entry is now the first of its lattice that is no draft, or the first of all if every one is a draft."
   unfoldable pub standingBy : List Entry → Entry → Entry
-  standingBy es e = firstEntry (λ f. same f e) e es
+  standingBy es e = firstEntry (λ f. same f e && not (f .draft)) (firstBy es e) es
 
   -- R7.6
   abbrev pub stoodBy : List Entry → Entry → Stood
-  stoodBy es e = record { entry = e; standing = standingBy es e }
+  stoodBy es e = record { entry = e; first = firstBy es e; standing = standingBy es e }
 
   -- R7.6: the closed list: every entry has its standing entry before any see word is resolved
   abbrev pub closedBy : List Entry → List Stood
@@ -103,16 +109,21 @@ leads ss s = followed ss (s .standing .head .number) (s .entry .see)
 abbrev pub leadsFrom : List Stood → (own : ℕ) → Stood → Option See
 leadsFrom ss own s = elim (eqb (s .standing .head .number) own) [ true ↦ leads ss s | false ↦ none ]
 
--- R7.4: "A standing entry shall carry the first see word, in file order, among all entries folded into it that leads to another standing entry. Its
--- own comes first, as it is first in the file."
+-- R7.4: the first that is given, and the other where it is not
+abbrev pub orElse : Option See → Option See → Option See
+orElse none other = other
+orElse (some w) other = some w
+
+-- R7.4: "A standing entry shall carry the first see word, in file order, among all entries folded into it that leads to another standing entry"; and
+-- "the standing entry's own see word is considered before the others"
 abbrev pub carried : List Stood → Stood → Option See
-carried ss s = firstGiven (leadsFrom ss (s .entry .head .number)) ss
+carried ss s = orElse (leads ss s) (firstGiven (leadsFrom ss (s .entry .head .number)) ss)
 
 -- ---- the folded catalogue
 
--- R7.3, R7.4: each with "its number, its reduced vectors", and the see word that it carries
+-- R7.3, R7.4: each with "its number, its reduced vectors", and the see word that it carries; "a standing draft is written with its mark"
 abbrev pub printed : List Stood → Stood → Entry
-printed ss s = record { head = s .entry .head; vectors = reducedOf (s .entry); see = carried ss s }
+printed ss s = record { head = s .entry .head; vectors = reducedOf (s .entry); draft = s .entry .draft; see = carried ss s }
 
 -- R7.2
 abbrev pub printedIn : List Stood → List Entry

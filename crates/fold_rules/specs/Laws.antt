@@ -1,4 +1,5 @@
 -- What is proved about the definitions.
+pub mod First
 pub mod Standing
 pub mod Lookup
 pub mod See

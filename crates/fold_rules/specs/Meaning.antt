@@ -1,6 +1,7 @@
 -- What the fold and the lookup promise, in plain mathematics: no test and no reduction, only lattices, lengths and the order of the file.
 use mathlib.Core.Path.{_≡_}
 use mathlib.Core.Logic.{_≢_, _↔_}
+use mathlib.Core.Bool.{true, false}
 use mathlib.Core.List.{List, [], _∷_, _++_}
 use mathlib.Core.Option.{some}
 use Prim.Native.Nat.{ℕ, _≤_, _<_}
@@ -21,6 +22,14 @@ use Rattle.fold_rules.specs.Services.{foldOf, nowhere, lookupOf}
 abbrev pub Among : Entry → List Entry → Type 0
 Among e es = Some (λ f. f ≡ e) es
 
+-- f has P, and no entry before it in the file has
+pub record First (P : Entry → Type 0) (es : List Entry) (f : Entry) : Type 0 where
+  pub before : List Entry
+  pub after : List Entry
+  pub split : es ≡ before ++ (f ∷ after)
+  pub has : P f
+  pub none : All (λ g. ¬ P g) before
+
 -- R12.3: both generate one lattice: the same m, and the same vectors are combinations
 pub record OneLattice (e f : Entry) : Type 0 where
   pub m : e .head .m ≡ f .head .m
@@ -28,13 +37,11 @@ pub record OneLattice (e f : Entry) : Type 0 where
 
 -- `One` says what one lattice is
 module _ (One : Entry → Entry → Type 0) where
-  -- R12.3: f is the standing entry of e: it generates the lattice of e, and no entry before it in the file does
-  pub record StandsBy (es : List Entry) (e f : Entry) : Type 0 where
-    pub before : List Entry
-    pub after : List Entry
-    pub split : es ≡ before ++ (f ∷ after)
-    pub one : One f e
-    pub none : All (λ g. ¬ One g e) before
+  -- R12.3: f is the standing entry of e: the first that generates the lattice of e and is no draft; or all that generate it are drafts, and it is the
+  -- first of these
+  pub data StandsBy (es : List Entry) (e f : Entry) : Type 0 where
+    checked : First (λ g. One g e × (g .draft ≡ false)) es f → StandsBy es e f
+    drafts : All (λ g. One g e → g .draft ≡ true) es → First (λ g. One g e) es f → StandsBy es e f
 
   -- R12.3: the see word of f leads from the standing entry s to the number n: it names an entry whose standing entry is another than s and has
   -- that number
@@ -49,16 +56,17 @@ module _ (One : Entry → Entry → Type 0) where
     pub other : standing ≢ s
     pub there : standing .head .number ≡ n
 
-  -- R12.3: the standing entry s carries a see word to n: some entry of the file generates the lattice of s and has a word that leads from s to n,
-  -- and no entry of that lattice before it has a word that leads from s to any other standing entry
-  pub record CarriesBy (es : List Entry) (s : Entry) (n : ℕ) : Type 0 where
-    pub before : List Entry
-    pub entry : Entry
-    pub after : List Entry
-    pub split : es ≡ before ++ (entry ∷ after)
-    pub one : One entry s
-    pub leads : LeadsBy es s entry n
-    pub none : All (λ g. One g s → (k : ℕ) → ¬ LeadsBy es s g k) before
+  -- R12.3: f generates the lattice of s and has a word that leads from s to some other standing entry
+  pub record UsefulBy (es : List Entry) (s f : Entry) : Type 0 where
+    pub one : One f s
+    pub number : ℕ
+    pub leads : LeadsBy es s f number
+
+  -- R12.3: the standing entry s carries a see word to n: its own word leads there; or its own leads to no other standing entry, and that of the first
+  -- entry of its lattice whose word leads to one leads to n
+  pub data CarriesBy (es : List Entry) (s : Entry) (n : ℕ) : Type 0 where
+    its-own : LeadsBy es s s n → CarriesBy es s n
+    folded-in : ((k : ℕ) → ¬ LeadsBy es s s k) → (f : Entry) → First (UsefulBy es s) es f → LeadsBy es s f n → CarriesBy es s n
 
 -- R12.3: the same for the lattices of entries
 abbrev pub Stands : List Entry → Entry → Entry → Type 0
@@ -80,6 +88,7 @@ pub record Prints (es : List Entry) (e g : Entry) : Type 0 where
   pub number : g .head .number ≡ e .head .number
   pub d : g .head .d ≡ e .head .d
   pub count : length (g .vectors) ≡ e .head .d
+  pub draft : g .draft ≡ e .draft
   -- the vectors printed generate the lattice of e and no other
   pub one : OneLattice g e
   -- whichever independent vectors of that lattice anyone picks, more than k of them: some one is at least as long as vector k printed

@@ -23,13 +23,13 @@ use Rattle.fold_rules.specs.Laws.ListingSize.{listing-size}
 use Rattle.separation_rules.specs.Separation.{same, differentM, differentD, firstOutside, secondOutside, Separated, refusedAt, told, withNumber, separatedBy, separatedIn, separateOf}
 use Rattle.lent_numbers.specs.Layout.{beside, layoutSeparation}
 use Rattle.lent_numbers.specs.Small.{Small}
-use Rattle.lent_catalogue.specs.Places.{OutcomeLow, read-low}
+use Rattle.lent_catalogue.specs.Places.{mostRefusal, OutcomeLow, read-low}
 
 -- ---- writing
 
 -- a refusal with its place, or entries of which f makes no more than `mostText` bytes
 abbrev Told : (List Entry → List ℕ) → Outcome → Type 0
-Told f (refused n p) = (n ≤ 17) × (p ≤ mostWords)
+Told f (refused n p) = (n ≤ mostRefusal) × (p ≤ mostWords)
 Told f (accepted es) = length (f es) ≤ mostText
 
 told-read : (bytes : List ℕ) → Told write (read bytes)
@@ -55,7 +55,7 @@ told-list bytes = go (read bytes) refl (read-low bytes)
     go (accepted es) e q = listing-size bytes es e
 
 pub record Few (o : Output) : Type 0 where
-  pub refusal : o .refusal ≤ 17
+  pub refusal : o .refusal ≤ mostRefusal
   pub place : o .place ≤ mostWords
   pub written : o .written ≤ mostText
 
@@ -81,7 +81,7 @@ list-few bytes out = output-few listingText (read bytes) out (told-list bytes)
 -- ---- lookup
 
 abbrev FewFound : Lookup → Type 0
-FewFound l = (l .refusal ≤ 17) × (l .place ≤ mostWords)
+FewFound l = (l .refusal ≤ mostRefusal) × (l .place ≤ mostWords)
 
 looked-few : (o : Option ℕ) → FewFound (lookedUp o)
 looked-few none = (omega arith, omega arith)

@@ -1,4 +1,4 @@
--- A refusal has a number up to 17, and a place up to the number of words that a catalogue can have.
+-- A refusal has a number up to 18, and a place up to the number of words that a catalogue can have.
 use mathlib.Core.Bool.{Bool, true, false}
 use mathlib.Core.List.{List, [], _∷_, _++_}
 use mathlib.Core.Option.{Option, none, some}
@@ -14,11 +14,14 @@ use Rattle.integers.specs.FirstLaws.{given-has}
 use Rattle.lattices.specs.Vector.{Vec}
 use Rattle.lattices.specs.Volume.{isDependent}
 use Rattle.integers.specs.Every.{any}
-use Rattle.catalogue_rules.specs.Word.{Word, head, coordinate, see, end, other, decode, wordsOf}
+use Rattle.catalogue_rules.specs.Word.{Word, head, coordinate, see, end, draft, other, decode, wordsOf}
 use Rattle.catalogue_rules.specs.Laws.Word.{length-words}
 use Rattle.catalogue_rules.specs.Catalogue.{mostWords, mostBytes, Head, See, Entry, Outcome, refused, accepted}
-use Rattle.catalogue_rules.specs.Read.{State, outside, inside, after, closed, Step, next, stop, isNumbered, withEntry, headRows, atHead, coordinateOf, withCoordinate, coordinateRows, atCoordinate, endRows, atEnd, step, atLast, readWords, dependentAt, lostAt, afterWords, fileRows, read}
+use Rattle.catalogue_rules.specs.Read.{State, outside, inside, after, closed, Step, next, stop, isNumbered, withEntry, headRows, atHead, coordinateOf, withCoordinate, coordinateRows, atCoordinate, draftRows, atDraft, endRows, atEnd, step, atLast, readWords, dependentAt, lostAt, afterWords, fileRows, read}
 use Rattle.catalogue_rules.specs.Laws.Moves.{checked-case}
+
+abbrev pub mostRefusal : ℕ
+mostRefusal = 18
 
 -- places up to b
 module _ (b : ℕ) where
@@ -32,37 +35,40 @@ module _ (b : ℕ) where
   abbrev StateLow : State → Type 0
   StateLow (outside es) = All EntryLow es
   StateLow (inside es h vs v) = All EntryLow es × (h .place ≤ b)
-  StateLow (after es h vs) = All EntryLow es × (h .place ≤ b)
+  StateLow (after es h vs marked) = All EntryLow es × (h .place ≤ b)
   StateLow (closed es) = All EntryLow es
 
   abbrev StepLow : Step → Type 0
   StepLow (next t) = StateLow t
-  StepLow (stop n) = n ≤ 17
+  StepLow (stop n) = n ≤ mostRefusal
 
   abbrev pub OutcomeLow : Outcome → Type 0
-  OutcomeLow (refused n p) = (n ≤ 17) × (p ≤ b)
+  OutcomeLow (refused n p) = (n ≤ mostRefusal) × (p ≤ b)
   OutcomeLow (accepted es) = All EntryLow es
 
   -- ---- one word
 
-  with-entry : (es : List Entry) (h : Head) (vs : List Vec) (s : Option See) → All EntryLow es → h .place ≤ b → SeeLow s → All EntryLow (withEntry es h vs s)
-  with-entry es h vs s p q r = all-append EntryLow es (record { head = h; vectors = vs; see = s } ∷ []) p ((q, r), tt)
+  with-entry : (es : List Entry) (h : Head) (vs : List Vec) (marked : Bool) (s : Option See) → All EntryLow es → h .place ≤ b → SeeLow s → All EntryLow (withEntry es h vs marked s)
+  with-entry es h vs marked s p q r = all-append EntryLow es (record { head = h; vectors = vs; draft = marked; see = s } ∷ []) p ((q, r), tt)
 
   head-low : (es : List Entry) (h : Head) → All EntryLow es → h .place ≤ b → StepLow (atHead es h)
-  head-low es h p q = checked-case (λ n. n ≤ 17) StepLow stop (headRows es h) (next (inside es h [] [])) (λ n l. l) (omega arith) (λ none. (p, q))
+  head-low es h p q = checked-case (λ n. n ≤ mostRefusal) StepLow stop (headRows es h) (next (inside es h [] [])) (λ n l. l) (omega arith) (λ none. (p, q))
 
   end-low : (es : List Entry) (count : ℕ) → All EntryLow es → StepLow (atEnd es count)
-  end-low es count p = checked-case (λ n. n ≤ 17) StepLow stop (endRows es count) (next (closed es)) (λ n l. l) (omega arith) (λ none. p)
+  end-low es count p = checked-case (λ n. n ≤ mostRefusal) StepLow stop (endRows es count) (next (closed es)) (λ n l. l) (omega arith) (λ none. p)
 
   coordinate-low : (es : List Entry) (h : Head) (vs : List Vec) (v : Vec) (l : ℕ) → All EntryLow es × (h .place ≤ b) → StepLow (atCoordinate es h vs v l)
   coordinate-low es h vs v l p =
       let u = v ++ (coordinateOf l ∷ []) in
-      checked-case (λ n. n ≤ 17) StepLow stop (coordinateRows h u l) (next (withCoordinate es h vs u)) (λ n l. l) (omega arith) (λ none. vector (eqb (length u) (h .m)) (eqb (length (vs ++ (u ∷ []))) (h .d)) u)
+      checked-case (λ n. n ≤ mostRefusal) StepLow stop (coordinateRows h u l) (next (withCoordinate es h vs u)) (λ n l. l) (omega arith) (λ none. vector (eqb (length u) (h .m)) (eqb (length (vs ++ (u ∷ []))) (h .d)) u)
     where
-      vector : (s t : Bool) (u : Vec) → StateLow (elim s [ true ↦ elim t [ true ↦ after es h (vs ++ (u ∷ [])) | false ↦ inside es h (vs ++ (u ∷ [])) [] ] | false ↦ inside es h vs u ])
+      vector : (s t : Bool) (u : Vec) → StateLow (elim s [ true ↦ elim t [ true ↦ after es h (vs ++ (u ∷ [])) false | false ↦ inside es h (vs ++ (u ∷ [])) [] ] | false ↦ inside es h vs u ])
       vector true true u = p
       vector true false u = p
       vector false t u = p
+
+  draft-low : (es : List Entry) (h : Head) (vs : List Vec) (marked : Bool) (l : ℕ) → All EntryLow es × (h .place ≤ b) → StepLow (atDraft es h vs marked l)
+  draft-low es h vs marked l p = checked-case (λ n. n ≤ mostRefusal) StepLow stop (draftRows marked l) (next (after es h vs true)) (λ n l. l) (omega arith) (λ none. p)
 
   step-low : (s : State) (i : ℕ) (w : Word) → i ≤ b → StateLow s → StepLow (step s i w)
   unfolding step
@@ -70,17 +76,20 @@ module _ (b : ℕ) where
   step-low (outside es) i (coordinate l) q p = omega arith
   step-low (outside es) i (see number) q p = omega arith
   step-low (outside es) i (end count) q p = end-low es count p
+  step-low (outside es) i (draft l) q p = omega arith
   step-low (outside es) i (other k l) q p = omega arith
   step-low (inside es h vs v) i (head number d m) q p = omega arith
   step-low (inside es h vs v) i (coordinate l) q p = coordinate-low es h vs v l p
   step-low (inside es h vs v) i (see number) q p = omega arith
   step-low (inside es h vs v) i (end count) q p = omega arith
+  step-low (inside es h vs v) i (draft l) q p = omega arith
   step-low (inside es h vs v) i (other k l) q p = omega arith
-  step-low (after es h vs) i (head number d m) q p = head-low (withEntry es h vs none) (record { number = number; d = d; m = m; place = i }) (with-entry es h vs none (p .0) (p .1) tt) q
-  step-low (after es h vs) i (coordinate l) q p = omega arith
-  step-low (after es h vs) i (see number) q p = with-entry es h vs (some (record { number = number; place = i })) (p .0) (p .1) q
-  step-low (after es h vs) i (end count) q p = end-low (withEntry es h vs none) count (with-entry es h vs none (p .0) (p .1) tt)
-  step-low (after es h vs) i (other k l) q p = omega arith
+  step-low (after es h vs marked) i (head number d m) q p = head-low (withEntry es h vs marked none) (record { number = number; d = d; m = m; place = i }) (with-entry es h vs marked none (p .0) (p .1) tt) q
+  step-low (after es h vs marked) i (coordinate l) q p = omega arith
+  step-low (after es h vs marked) i (see number) q p = with-entry es h vs marked (some (record { number = number; place = i })) (p .0) (p .1) q
+  step-low (after es h vs marked) i (end count) q p = end-low (withEntry es h vs marked none) count (with-entry es h vs marked none (p .0) (p .1) tt)
+  step-low (after es h vs marked) i (draft l) q p = draft-low es h vs marked l p
+  step-low (after es h vs marked) i (other k l) q p = omega arith
   step-low (closed es) i w q p = omega arith
 
   -- ---- all words
@@ -88,7 +97,7 @@ module _ (b : ℕ) where
   last-low : (s : State) (i : ℕ) → i ≤ b → StateLow s → OutcomeLow (atLast s i)
   last-low (outside es) i q p = (omega arith, q)
   last-low (inside es h vs v) i q p = (omega arith, q)
-  last-low (after es h vs) i q p = (omega arith, q)
+  last-low (after es h vs marked) i q p = (omega arith, q)
   last-low (closed es) i q p = p
 
   words-low : (words : List ℕ) (s : State) (i : ℕ) → i + length words ≤ b → StateLow s → OutcomeLow (readWords s i words)
@@ -143,6 +152,6 @@ module _ (b : ℕ) where
 pub read-low : (bytes : List ℕ) → OutcomeLow mostWords (read bytes)
 unfolding read
 read-low bytes =
-    checked-case (λ n. n ≤ 17) (OutcomeLow mostWords) (λ n. refused n 0) (fileRows bytes) (afterWords (readWords (outside []) 0 (wordsOf bytes))) (λ n l. (l, omega arith)) (omega arith)
+    checked-case (λ n. n ≤ mostRefusal) (OutcomeLow mostWords) (λ n. refused n 0) (fileRows bytes) (afterWords (readWords (outside []) 0 (wordsOf bytes))) (λ n l. (l, omega arith)) (omega arith)
     (λ r. after-low mostWords (readWords (outside []) 0 (wordsOf bytes))
     (words-low mostWords (wordsOf bytes) (outside []) 0 (omega (arith, length-words bytes, ltb-false mostBytes (length bytes) (r .1 .0))) tt))

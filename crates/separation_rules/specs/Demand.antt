@@ -11,7 +11,7 @@ use Rattle.catalogue_rules.specs.Form.{WellFormed}
 use Rattle.catalogue_rules.specs.Laws.WellFormed.{well-formed}
 use Rattle.fold_rules.specs.Meaning.{Among}
 use Rattle.fold_rules.specs.Laws.SameLattice.{Sound, sound-entries}
-use Rattle.fold_rules.specs.Laws.Standing.{all-among}
+use Rattle.fold_rules.specs.Laws.First.{all-among}
 use Rattle.fold_rules.specs.Laws.Lookup.{unused}
 use Rattle.separation_rules.specs.Separation.{refusedAt, withNumber, separatedBy, separatedIn, separation, separateOf}
 use Rattle.separation_rules.specs.Meaning.{Answers, SeparatesAll}

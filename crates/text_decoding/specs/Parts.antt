@@ -1,8 +1,9 @@
--- An entry's line as the code puts it: what stands before the coordinates, the coordinates, and what follows them.
+-- An entry's line as the code puts it: what stands before the coordinates, the coordinates, the mark, and what stands last.
 use mathlib.Core.Path.{_≡_, refl, sym, ap, _∙_}
 use mathlib.Core.Bool.{Bool, true, false}
 use mathlib.Core.List.{List, [], _∷_, _++_, map, append-assoc}
 use Prim.Native.Nat.{ℕ, _+_, _*_}
+use native.Mathlib.Omega.{arith}
 use lib.ListN.{length, take, length-append}
 use Rattle.integers.specs.Decimal.{decimal, signed}
 use Rattle.catalogue_rules.specs.Catalogue as definition
@@ -14,10 +15,19 @@ use Rattle.catalogue_records.specs.EntriesIn.{seeIn, entryIn}
 use Rattle.catalogue_records.specs.Coordinates.{same}
 use Rattle.text_output.specs.Joined.{joined}
 use Rattle.text_fields.specs.Blank.{blank, joined-then}
-use Rattle.text_rules.specs.Text.{semicolon, seeFields, entryText, textOf}
+use Rattle.text_rules.specs.Text.{semicolon, draftWord, draftFields, seeFields, entryText, textOf}
 
 abbrev pub headText : ℕ → ℕ → ℕ → List ℕ
 headText number d m = decimal number ++ blank decimal d ++ blank decimal m ++ (32 ∷ 59 ∷ [])
+
+-- the mark of a draft
+abbrev pub draftText : Bool → List ℕ
+draftText true = 32 ∷ 59 ∷ 32 ∷ draftWord
+draftText false = []
+
+mark-then : (b : Bool) (fields : List (List ℕ)) → draftText b ++ after fields ≡ after (draftFields b ++ fields)
+mark-then true fields = refl
+mark-then false fields = refl
 
 -- the see word if there is one, and the end of the line
 abbrev pub lastText : Bool → ℕ → List ℕ
@@ -40,20 +50,26 @@ module _ (e : Entry) (fits : EntryFits (entryIn e)) (long : length (e .coordinat
   abbrev pub numbers : List ℕ
   numbers = joined (blank signed) (take (e .d * e .m) (e .coordinates))
 
-  pub entry-text : headText (e .number) (e .d) (e .m) ++ numbers ++ lastText (e .sees) (e .see) ≡ entryText (entryIn e)
+  pub entry-text : headText (e .number) (e .d) (e .m) ++ numbers ++ draftText (e .draft) ++ lastText (e .sees) (e .see) ≡ entryText (entryIn e)
   entry-text =
+      let h = headText (e .number) (e .d) (e .m) in
       let see = seeFields (seeIn (e .sees) (e .see) (e .at)) in
+      let rest = draftFields (e .draft) ++ see in
       let cs = take (e .d * e .m) (e .coordinates) in
-      append-assoc (headText (e .number) (e .d) (e .m)) numbers (lastText (e .sees) (e .see))
-      ∙ ap (λ t. headText (e .number) (e .d) (e .m) ++ (numbers ++ t)) (last-text (e .sees) (e .see) (e .at))
-      ∙ ap (λ t. headText (e .number) (e .d) (e .m) ++ t) (joined-then signed cs see)
-      ∙ head-then (e .number) (e .d) (e .m) (map signed cs ++ see)
-      ∙ ap (λ l. decimal (e .number) ++ after (decimal (e .d) ∷ decimal (e .m) ∷ semicolon ∷ (map signed l ++ see))) (sym (same e fits long))
+      append-assoc (h ++ numbers) (draftText (e .draft)) (lastText (e .sees) (e .see))
+      ∙ ap (λ t. h ++ numbers ++ (draftText (e .draft) ++ t)) (last-text (e .sees) (e .see) (e .at))
+      ∙ ap (λ t. h ++ numbers ++ t) (mark-then (e .draft) see)
+      ∙ append-assoc h numbers (after rest)
+      ∙ ap (λ t. h ++ t) (joined-then signed cs rest)
+      ∙ head-then (e .number) (e .d) (e .m) (map signed cs ++ rest)
+      ∙ ap (λ l. decimal (e .number) ++ after (decimal (e .d) ∷ decimal (e .m) ∷ semicolon ∷ (map signed l ++ rest))) (sym (same e fits long))
 
-  pub entry-length : length (headText (e .number) (e .d) (e .m)) + length numbers + length (lastText (e .sees) (e .see)) ≡ length (entryText (entryIn e))
+  pub entry-length : length (headText (e .number) (e .d) (e .m)) + length numbers + length (draftText (e .draft)) + length (lastText (e .sees) (e .see)) ≡ length (entryText (entryIn e))
   entry-length =
       let h = headText (e .number) (e .d) (e .m) in
-      sym (length-append (h ++ numbers) (lastText (e .sees) (e .see)) ∙ ap (λ n. n + length (lastText (e .sees) (e .see))) (length-append h numbers)) ∙ ap length entry-text
+      let mark = draftText (e .draft) in
+      let last = lastText (e .sees) (e .see) in
+      omega (arith, length-append (h ++ numbers ++ mark) last, length-append (h ++ numbers) mark, length-append h numbers, ap length entry-text)
 
 pub text-joined : (es : List definition.Entry) → joined entryText es ≡ textOf es
 text-joined [] = refl

@@ -1,7 +1,7 @@
--- The text of a catalogue has for each entry a line of at most 26 bytes and seven for a coordinate: at most 64,000, so that it has room where
+-- The text of a catalogue has for each entry a line of at most 34 bytes and seven for a coordinate: at most 66,048, so that it has room where
 -- a listing has (`text-size`), and that a text so long as `encode` takes holds it (`text-fits`).
 use mathlib.Core.Path.{_≡_}
-use mathlib.Core.Bool.{false}
+use mathlib.Core.Bool.{Bool, true, false}
 use mathlib.Core.List.{List, [], _∷_, _++_, map}
 use mathlib.Core.Option.{Option, none, some}
 use Prim.Native.Nat.{ℕ, _+_, _*_, _≤_}
@@ -25,7 +25,11 @@ use Rattle.catalogue_rules.specs.Laws.ReadBack.{sees-fit}
 use Rattle.catalogue_rules.specs.Laws.EntriesAccepted.{few-coordinates, all-near}
 use Rattle.text_layout.specs.Fields.{after}
 use Rattle.text_layout.specs.Sizes.{signed-length}
-use Rattle.text_rules.specs.Text.{semicolon, seeFields, entryFields, entryText, textOf}
+use Rattle.text_rules.specs.Text.{semicolon, draftFields, seeFields, entryFields, entryText, textOf}
+
+draft-length : (b : Bool) (fields : List (List ℕ)) → length (after (draftFields b ++ fields)) ≤ 8 + length (after fields)
+draft-length true fields = omega arith
+draft-length false fields = omega arith
 
 see-length : (o : Option See) → SeeFits o → length (after (seeFields o)) ≤ 13
 see-length none h = omega arith
@@ -40,23 +44,24 @@ coordinates-length (z ∷ zs) h fields =
 
 -- an entry's line
 abbrev pub mostLine : ℕ
-mostLine = mostNumbers * 7 + 26
+mostLine = mostNumbers * 7 + 34
 
 pub entry-size : (e : Entry) → EntryFits e → SeeFits (e .see) → length (entryText e) ≤ mostLine
 entry-size e f s =
     let h = e .head in
     let cs = coordinates (e .vectors) in
-    let last = map signed cs ++ seeFields (e .see) in
+    let rest = draftFields (e .draft) ++ seeFields (e .see) in
     omega (
       arith,
       length-append (decimal (h .number)) (after (entryFields e)),
-      length-append (decimal (h .d)) (after (decimal (h .m) ∷ semicolon ∷ last)),
-      length-append (decimal (h .m)) (after (semicolon ∷ last)),
+      length-append (decimal (h .d)) (after (decimal (h .m) ∷ semicolon ∷ (map signed cs ++ rest))),
+      length-append (decimal (h .m)) (after (semicolon ∷ (map signed cs ++ rest))),
       decimal-length 7 (h .number) (omega arith) (omega (arith, one-to mostNumber (h .number) (f .head .number) .1)),
       decimal-length 1 (h .d) (omega arith) (omega (arith, one-to mostVectors (h .d) (f .head .d) .1)),
       decimal-length 1 (h .m) (omega arith) (omega (arith, one-to mostCoordinates (h .m) (f .head .m) .1)),
-      coordinates-length cs (all-near (h .m) (e .vectors) (f .vectors)) (seeFields (e .see)),
+      coordinates-length cs (all-near (h .m) (e .vectors) (f .vectors)) rest,
       few-coordinates e f,
+      draft-length (e .draft) (seeFields (e .see)),
       see-length (e .see) s,
     )
 
@@ -64,7 +69,7 @@ entries-size : (es : List Entry) → All EntryFits es → All (λ e. SeeFits (e 
 entries-size [] f s = omega arith
 entries-size (e ∷ es) f s = omega (arith, length-append (entryText e) (textOf es), entry-size e (f .0) (s .0), entries-size es (f .1) (s .1))
 
--- those of all entries: 64,000
+-- those of all entries: 66,048
 abbrev pub mostLines : ℕ
 mostLines = mostEntries * mostLine
 
@@ -76,5 +81,5 @@ pub text-size : (es : List Entry) → WellFormed es → length (textOf es) ≤ m
 text-size es w = omega (arith, lines-size es w)
 
 -- no longer than a text that is read
-pub text-fits : (es : List Entry) → WellFormed es → length (textOf es) ≤ 65535
+pub text-fits : (es : List Entry) → WellFormed es → length (textOf es) ≤ 131071
 text-fits es w = omega (arith, lines-size es w)

@@ -1,4 +1,4 @@
-// The text of a catalogue, an entry to a line: `number d m ; coordinates`, and `; see` where there is a see word.
+// The text of a catalogue, an entry to a line: `number d m ; coordinates`, `; draft` where it is a draft, and `; see` where there is a see word.
 ghost use Prim.Native.Nat.{_+_, _≤_};
 ghost use lib.ListN.{length};
 ghost use Rattle.integers.specs.All.{All};
@@ -6,7 +6,7 @@ ghost use Rattle.catalogue_rules.specs.Form.{EntryFits};
 ghost use Rattle.catalogue_records.specs.EntriesIn.{entryIn, entriesIn};
 ghost use Rattle.text_rules.specs.Text.{entryText, textOf};
 ghost use Rattle.text_output.specs.Puts.{Puts};
-ghost use Rattle.text_decoding.specs.Parts.{headText, lastText};
+ghost use Rattle.text_decoding.specs.Parts.{headText, draftText, lastText};
 
 // What stands before the coordinates.
 fn put_head(out: &mut [u8], at: usize, number: u64, d: u64, m: u64) -> usize
@@ -19,7 +19,18 @@ fn put_head(out: &mut [u8], at: usize, number: u64, d: u64, m: u64) -> usize
     text_output::put_bytes(out, third, b" ;")
 }
 
-// What follows them: the see word if there is one, and the end of the line.
+// What follows them in a draft.
+fn put_draft(out: &mut [u8], at: usize, draft: bool) -> usize
+    requires { ⌜ at + length (draftText draft) ≤ length (now out) ⌝ }
+    ensures { λ r. ⌜ Puts (draftText draft) (now (out .entry)) at (now (out .exit)) r ⌝ }
+{
+    if !draft {
+        return at;
+    }
+    text_output::put_bytes(out, at, b" ; draft")
+}
+
+// What stands last: the see word if there is one, and the end of the line.
 fn put_last(out: &mut [u8], at: usize, sees: bool, see: u64) -> usize
     requires { ⌜ at + length (lastText sees see) ≤ length (now out) ⌝ }
     ensures { λ r. ⌜ Puts (lastText sees see) (now (out .entry)) at (now (out .exit)) r ⌝ }
@@ -42,7 +53,8 @@ fn put_entry(out: &mut [u8], at: usize, e: catalogue_records::Entry) -> usize
     let first = put_head(out, at, e.number as u64, e.d as u64, e.m as u64);
     let coordinates = e.coordinates;
     let second = text_fields::put_coordinates(out, first, &coordinates[..n]);
-    put_last(out, second, e.sees, e.see as u64)
+    let third = put_draft(out, second, e.draft);
+    put_last(out, third, e.sees, e.see as u64)
 }
 
 // The lines of all entries.

@@ -1,18 +1,18 @@
 -- How many words a line tells, and how many lines are passed before the one that holds a word.
 use mathlib.Core.Path.{_≡_, refl, sym, ap, _∙_}
-use mathlib.Core.Bool.{Bool, true, false, cond}
-use mathlib.Core.List.{List, [], _∷_, _++_, map, append-nil}
+use mathlib.Core.Bool.{true, false, cond}
+use mathlib.Core.List.{List, [], _++_, map, append-nil}
 use mathlib.Core.Option.{Option, none, some, Option·some-ne-none}
 use Prim.Native.Nat.{ℕ, zero, suc, _+_, _-_, _≤_, _<_}
 use native.Mathlib.Omega.{arith}
-use lib.Dec.{eqb, ltb}
+use lib.Dec.{ltb}
 use lib.ListN.{length, take, drop, length-append, length-map, drop-of-length-le}
 use lib.Seq.{drop-drop, length-take-le}
 use borrow.Author.Tests.{lt-ltb, le-ltb}
 use Rattle.catalogue_rules.specs.Word.{Word, encode}
-use Rattle.text_rules.specs.Encoding.{lineFrom, linesOf, content, isEmpty, listed, lineEntry, joined, lineWords, further, lineHolding}
+use Rattle.text_rules.specs.Encoding.{lineFrom, linesOf, content, isEmpty, listed, joined, lineWords, further, lineHolding}
 use Rattle.text_lines.specs.declared.Line.{Line}
-use Rattle.text_lines.specs.Told.{seeTold, wordsIn, encodedLine}
+use Rattle.text_lines.specs.Told.{draftTold, seeTold, wordsIn, encodedLine}
 use Rattle.text_encoding.specs.Splits.{lineLength, holding-split, nothing-holds}
 
 -- ---- of a line
@@ -36,9 +36,12 @@ right-words s {xs} e f = go (lineFrom (content s)) refl
         let same : xs ≡ map encode ws = ap (λ o. elim o as (λ o. List ℕ) [ none ↦ [] | some l ↦ l ]) (f ∙ ap encodedLine g) in
         ap length same ∙ length-map ws encode ∙ ap length (sym (append-nil ws)) ∙ sym (λ i. length (joined (cond (e i) [] (listed (g i)))))
 
--- the words of a line that is right are its head, its coordinates and its see word
-pub words-count : (l : Line) → l .count ≤ length (l .coordinates) → {n : ℕ} → length (seeTold (l .see)) ≡ n → 1 + (l .count + n) ≡ length (wordsIn l)
-words-count l h e = omega (arith, length-append (take (l .count) (l .coordinates)) (seeTold (l .see)), length-take-le (l .count) (l .coordinates) h, e)
+-- the words of a line that is right are its head, its coordinates, its mark and its see word
+pub words-count : (l : Line) → l .count ≤ length (l .coordinates) → 1 + l .count + length (draftTold (l .draft)) + length (seeTold (l .see)) ≡ length (wordsIn l)
+words-count l h =
+    let mark = draftTold (l .draft) in
+    let see = seeTold (l .see) in
+    omega (arith, length-append (take (l .count) (l .coordinates)) (mark ++ see), length-append mark see, length-take-le (l .count) (l .coordinates) h)
 
 -- ---- of a text
 

@@ -12,7 +12,7 @@ use Rattle.text_encoding.specs.declared.Told.{Told}
 
 -- R13.8: a longer text is not read
 abbrev pub mostText : ℕ
-mostText = 65535
+mostText = 131071
 
 abbrev pub isLong : List ℕ → Bool
 isLong text = ltb mostText (length text)

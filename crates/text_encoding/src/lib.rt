@@ -4,14 +4,14 @@ ghost use mathlib.Core.List.{[], _∷_};
 ghost use Prim.Native.Nat.{_*_, _≤_};
 ghost use lib.ListN.{length};
 ghost use Rattle.text_rules.specs.Encoding.{linesOf, lineWords, lineHolding};
-ghost use Rattle.text_lines.specs.Told.{seeTold, wordsIn};
+ghost use Rattle.text_lines.specs.Told.{draftTold, seeTold, wordsIn};
 ghost use Rattle.text_encoding.specs.Encoded.{Tells};
 ghost use Rattle.text_encoding.specs.Stores.{Room, Stores};
 ghost use Rattle.text_encoding.specs.Tells.{Adds};
 use text_lines::Line;
 
 // A longer text is not read (R13.8).
-pub const MOST_TEXT: usize = 65535;
+pub const MOST_TEXT: usize = 131071;
 
 // How far a text is told: the words and the entries so far, and whether a line was wrong.
 pub struct Told {
@@ -44,6 +44,18 @@ fn put_words(out: &mut [u8], k: usize, words: &[u32]) -> usize
     n
 }
 
+// The mark of a draft, or none.
+fn put_draft(out: &mut [u8], k: usize, draft: bool) -> usize
+    requires { ⌜ Room (now out) k ⌝ }
+    ensures { λ r. ⌜ Stores (draftTold draft) (now (out .entry)) k (now (out .exit)) r ⌝ }
+{
+    if !draft {
+        return k;
+    }
+    let w = catalogue_writer::draft_word();
+    put(out, k, w)
+}
+
 // A see word, 0 for none.
 fn put_see(out: &mut [u8], k: usize, see: u32) -> usize
     requires { ⌜ Room (now out) k ⌝ }
@@ -65,13 +77,14 @@ fn put_line(out: &mut [u8], k: usize, l: Line) -> usize
     let words = l.coordinates;
     let n = l.count;
     let second = put_words(out, first, &words[..n]);
-    put_see(out, second, l.see)
+    let third = put_draft(out, second, l.draft);
+    put_see(out, third, l.see)
 }
 
 // One line more. A blank one is passed over.
 fn with_line(s: &[u8], out: &mut [u8], e: Told) -> Told
     requires { ⌜ Room (now out) (e .words) ⌝ }
-    requires { ⌜ e .entries ≤ 65536 ⌝ }
+    requires { ⌜ e .entries ≤ 131072 ⌝ }
     ensures { λ r. ⌜ Adds (now (s .entry)) (now (out .entry)) e (now (out .exit)) r ⌝ }
 {
     let l = text_lines::read_line(s);
@@ -95,7 +108,7 @@ fn with_line(s: &[u8], out: &mut [u8], e: Told) -> Told
 
 // The words of the lines of a text.
 fn tell_lines(text: &[u8], out: &mut [u8]) -> Told
-    requires { ⌜ length (now text) ≤ 65535 ⌝ }
+    requires { ⌜ length (now text) ≤ 131071 ⌝ }
     ensures { λ r. ⌜ Tells (now (text .entry)) (now (out .entry)) (now (out .exit)) r ⌝ }
     ensures { λ r. ⌜ r .words * 4 ≤ length (now (out .entry)) ⌝ }
 {
@@ -141,10 +154,7 @@ fn count_words(l: Line) -> usize
     requires { ⌜ l .count ≤ 225 ⌝ }
     ensures { λ r. ⌜ r ≡ length (wordsIn l) ⌝ }
 {
-    if l.see == 0 {
-        return 1 + l.count;
-    }
-    2 + l.count
+    1 + l.count + l.draft as usize + (l.see != 0) as usize
 }
 
 // How many words a line tells.

@@ -3,5 +3,6 @@ pub mod Stops
 pub mod Told
 pub mod Lengths
 pub mod Fields
+pub mod Begins
 pub mod Parts
 pub mod ToldLaws

@@ -1,5 +1,5 @@
 -- What is read of a line, for every line: its words as numbers, or what is wrong with it. Places that are not used hold 0.
-use mathlib.Core.Bool.{Bool, true, false, cond, _&&_, _||_}
+use mathlib.Core.Bool.{Bool, true, false, cond, not, _&&_, _||_}
 use mathlib.Core.List.{List, [], _∷_, _++_, map}
 use mathlib.Core.Option.{Option, none, some}
 use Prim.Native.Nat.{ℕ, _-_, _*_}
@@ -9,14 +9,16 @@ use lib.ListN.{length, take, drop, replicate}
 use Rattle.lattices.specs.Vector.{nth}
 use Rattle.integers.specs.Every.{any}
 use Rattle.catalogue_rules.specs.Word.{Word, head, see, encode}
-use Rattle.catalogue_rules.specs.Write.{encodedCoordinates}
+use Rattle.catalogue_rules.specs.Write.{encodedCoordinates, draftWords}
 use Rattle.input_checks.specs.Any.{beyond}
 use Rattle.text_parts.specs.declared.Kind.{Kind}
+use Rattle.text_parts.specs.Tokens.{tokenAt}
 use Rattle.text_parts.specs.Parts.{isEnd, isSemicolon, Taken, takenAt}
-use Rattle.text_rules.specs.Encoding.{fits, at, isSee, mostNumbers, content, isEmpty}
+use Rattle.text_rules.specs.Encoding.{fits, at, isSee, isDraft, pastDraft, mostNumbers, content, isEmpty}
 use Rattle.text_lines.specs.declared.Mistake.{Mistake}
 use Rattle.text_lines.specs.declared.Mistake.the-variants.{None, PartMissing, TooLarge, TooMany, NoNumber, NotThree, NoHead, NotAll, Beyond, NoSee}
 use Rattle.text_lines.specs.declared.Line.{Line}
+use Rattle.text_lines.specs.declared.Rest.{Rest}
 use Rattle.text_lines.specs.Stops.{isLarge, isMany}
 
 abbrev pub isNone : Mistake → Bool
@@ -34,7 +36,7 @@ isNone NoSee = false
 -- ---- lines
 
 abbrev pub noWords : Mistake → Bool → Line
-noWords mistake blank = record { mistake = mistake; blank = blank; head = 0; count = 0; coordinates = replicate mostNumbers 0; see = 0 }
+noWords mistake blank = record { mistake = mistake; blank = blank; head = 0; count = 0; coordinates = replicate mostNumbers 0; draft = false; see = 0 }
 
 abbrev pub wrongLine : Mistake → Line
 wrongLine mistake = noWords mistake false
@@ -43,10 +45,17 @@ wrongLine mistake = noWords mistake false
 abbrev pub blankLine : Line
 blankLine = noWords None true
 
--- a head, coordinates and a see word, 0 for none
-abbrev pub rightLine : ℕ → List ℤ → ℕ → Line
-rightLine w zs n =
-    record { mistake = None; blank = false; head = w; count = length zs; coordinates = encodedCoordinates zs ++ replicate (mostNumbers - length zs) 0; see = n }
+-- a head, coordinates and what follows them
+abbrev pub rightLine : ℕ → List ℤ → Rest → Line
+rightLine w zs r = record {
+  mistake = None;
+  blank = false;
+  head = w;
+  count = length zs;
+  coordinates = encodedCoordinates zs ++ replicate (mostNumbers - length zs) 0;
+  draft = r .draft;
+  see = r .see;
+}
 
 -- ---- what is wrong, the first that applies
 
@@ -58,7 +67,9 @@ abbrev pub headMistake : Kind → ℕ → ℤ → ℤ → ℤ → Mistake
 headMistake stop count number d m =
     cond (isSemicolon stop) (cond (eqb count 3) (cond (fits 1048575 number && (fits 15 d && fits 15 m)) None NoHead) NotThree) (stopMistake stop)
 
--- what may follow the coordinates
+-- ---- what follows the coordinates
+
+-- how they may stop
 abbrev pub isLast : Kind → Bool
 isLast k = isEnd k || isSemicolon k
 
@@ -66,16 +77,38 @@ isLast k = isEnd k || isSemicolon k
 abbrev pub lastSee : Taken → ℕ
 lastSee p = cond (isSee p) (encode (see (at (p .numbers) 0))) 0
 
-abbrev pub seeRead : ℕ → List ℤ → ℕ → Line
-seeRead w zs n = cond (eqb n 0) (wrongLine NoSee) (rightLine w zs n)
+-- nothing more, behind the mark or without it
+abbrev pub endRest : Bool → Rest
+endRest draft = record { right = true; draft = draft; see = 0 }
+
+-- a part that is a see word, or none where it is 0
+abbrev pub seeRest : Bool → ℕ → Rest
+seeRest draft n = record { right = not (eqb n 0); draft = draft; see = n }
+
+-- behind the mark
+abbrev pub lastRest : List ℕ → Rest
+lastRest s =
+    let t = tokenAt s in
+    cond (isEnd (t .kind)) (endRest true) (cond (isSemicolon (t .kind)) (seeRest true (lastSee (takenAt 1 (drop (t .length) s)))) (seeRest true 0))
+
+-- the mark and what follows it, or a see word
+abbrev pub markRest : List ℕ → Rest
+markRest s = cond (isDraft s) (lastRest (pastDraft s)) (seeRest false (lastSee (takenAt 1 s)))
+
+abbrev pub restRead : Kind → List ℕ → Rest
+restRead k s = cond (isEnd k) (endRest false) (markRest s)
+
+-- ---- all parts
+
+abbrev pub followedRead : ℕ → List ℤ → Rest → Line
+followedRead w zs r = cond (r .right) (rightLine w zs r) (wrongLine NoSee)
 
 -- n coordinates, and what follows them
 abbrev pub partsRead : ℕ → ℕ → Taken → List ℕ → Line
 partsRead w n p s =
     cond (isLast (p .stop))
     (cond (eqb (length (p .numbers)) n)
-    (cond (any beyond (p .numbers)) (wrongLine Beyond)
-    (cond (isEnd (p .stop)) (rightLine w (p .numbers) 0) (seeRead w (p .numbers) (lastSee (takenAt 1 (drop (p .length) s))))))
+    (cond (any beyond (p .numbers)) (wrongLine Beyond) (followedRead w (p .numbers) (restRead (p .stop) (drop (p .length) s))))
     (wrongLine NotAll))
     (wrongLine (stopMistake (p .stop)))
 
@@ -100,12 +133,16 @@ lineRead s = textRead (content s)
 
 -- ---- its words
 
+-- the mark, or none
+abbrev pub draftTold : Bool → List ℕ
+draftTold b = map encode (draftWords b)
+
 -- a see word, 0 for none
 abbrev pub seeTold : ℕ → List ℕ
 seeTold n = cond (eqb n 0) [] (n ∷ [])
 
 abbrev pub wordsIn : Line → List ℕ
-wordsIn l = l .head ∷ (take (l .count) (l .coordinates) ++ seeTold (l .see))
+wordsIn l = l .head ∷ (take (l .count) (l .coordinates) ++ (draftTold (l .draft) ++ seeTold (l .see)))
 
 -- if nothing is wrong
 abbrev pub told : Line → Option (List ℕ)
@@ -115,6 +152,6 @@ abbrev pub encodedLine : Option (List Word) → Option (List ℕ)
 encodedLine none = none
 encodedLine (some ws) = some (map encode ws)
 
-abbrev pub headed : ℕ → Option (List ℕ) → Option (List ℕ)
-headed w none = none
-headed w (some ws) = some (w ∷ ws)
+abbrev pub behind : List ℕ → Option (List ℕ) → Option (List ℕ)
+behind ws none = none
+behind ws (some us) = some (ws ++ us)

@@ -1,30 +1,28 @@
 -- What is read of a line is what the rules of text say.
 use mathlib.Core.Path.{_≡_, refl, sym, ap, _∙_}
-use mathlib.Core.Logic.{_≢_}
-use mathlib.Core.Bool.{Bool, true, false, cond, _&&_}
+use mathlib.Core.Bool.{Bool, true, false, cond, not, _&&_}
 use mathlib.Core.List.{List, [], _∷_, _++_, map}
 use mathlib.Core.Option.{none, some}
 use Prim.Native.Nat.{ℕ, _-_, _*_}
-use native.Mathlib.Decide.{ℕ-discrete}
 use lib.Dec.{eqb}
 use lib.IntN.{ℤ}
-use lib.ListN.{length, take, drop, replicate, length-map}
+use lib.ListN.{length, drop, replicate, length-map}
 use lib.Seq.{take-at}
-use borrow.Author.Tests.{eq-eqb, ne-eqb}
 use Rattle.lattices.specs.Vector.{nth}
 use Rattle.integers.specs.Every.{any}
-use Rattle.catalogue_rules.specs.Word.{Word, head, see, encode}
+use Rattle.catalogue_rules.specs.Word.{Word, head, encode}
 use Rattle.catalogue_rules.specs.Write.{coordinateWord, encodedCoordinates}
 use Rattle.input_checks.specs.Any.{beyond}
 use Rattle.text_parts.specs.declared.Kind.{Kind}
 use Rattle.text_parts.specs.declared.Kind.the-variants.{Number, Semicolon, End, Unexpected, TooLarge, TooMany, NoCount}
-use Rattle.text_parts.specs.Parts.{isEnd, isSemicolon, Taken, takenAt}
-use Rattle.text_rules.specs.Encoding.{fits, at, coordinatesFrom, mostNumbers, isHead, lineFrom, content, isEmpty}
+use Rattle.text_parts.specs.Parts.{isSemicolon, Taken, takenAt}
+use Rattle.text_rules.specs.Encoding.{fits, at, before, restFrom, coordinatesFrom, mostNumbers, isHead, lineFrom, content, isEmpty}
 use Rattle.text_lines.specs.declared.Mistake.{Mistake}
 use Rattle.text_lines.specs.declared.Mistake.the-variants.{None, NotThree, NoHead, NotAll, Beyond, NoSee}
 use Rattle.text_lines.specs.declared.Line.{Line}
-use Rattle.text_lines.specs.Told.{isNone, wrongLine, blankLine, rightLine, stopMistake, headMistake, isLast, lastSee, seeRead, partsRead, headRead, contentRead, textRead, lineRead, seeTold, told, encodedLine, headed}
-use Rattle.text_lines.specs.Parts.{told-none, told-some, head-first, stops-wrong, other-count, some-beyond, with-none, no-see, with-see, is-none, is-some, see-told, no-head, with-head}
+use Rattle.text_lines.specs.declared.Rest.{Rest}
+use Rattle.text_lines.specs.Told.{isNone, wrongLine, blankLine, rightLine, stopMistake, headMistake, isLast, restRead, followedRead, partsRead, contentRead, lineRead, draftTold, seeTold, told, encodedLine, behind}
+use Rattle.text_lines.specs.Parts.{restTold, told-before, rest-told, rest-wrong, no-head, with-head}
 
 -- ---- the head
 
@@ -46,57 +44,58 @@ head-none false b c k = stop-wrong k
 -- ---- the other parts
 
 -- the words of a line that is right
-right-told : (w : ℕ) (zs : List ℤ) (n : ℕ) → told (rightLine w zs n) ≡ some (w ∷ (encodedCoordinates zs ++ seeTold n))
-right-told w zs n =
+right-told : (w : ℕ) (zs : List ℤ) (r : Rest) → told (rightLine w zs r) ≡ some (w ∷ (encodedCoordinates zs ++ (draftTold (r .draft) ++ seeTold (r .see))))
+right-told w zs r =
     let long : length (encodedCoordinates zs) ≡ length zs = length-map (map coordinateWord zs) encode ∙ length-map zs coordinateWord in
-    ap (λ l. some (w ∷ (l ++ seeTold n))) (take-at (encodedCoordinates zs) (replicate (mostNumbers - length zs) 0) (length zs) long)
+    ap (λ l. some (w ∷ (l ++ (draftTold (r .draft) ++ seeTold (r .see))))) (take-at (encodedCoordinates zs) (replicate (mostNumbers - length zs) 0) (length zs) long)
+
+followed-told : (w : ℕ) (zs : List ℤ) (r : Rest) → told (followedRead w zs r) ≡ behind (w ∷ []) (behind (encodedCoordinates zs) (restTold r))
+followed-told w zs r = go (r .right)
+  where
+    go : (b : Bool) → told (cond b (rightLine w zs r) (wrongLine NoSee)) ≡ behind (w ∷ []) (behind (encodedCoordinates zs) (cond b (some (draftTold (r .draft) ++ seeTold (r .see))) none))
+    go true = right-told w zs r
+    go false = refl
 
 module _ (w n : ℕ) (p : Taken) (s : List ℕ) where
-  abbrev last-part : Taken
-  last-part = takenAt 1 (drop (p .length) s)
+  abbrev words : List Word
+  words = map coordinateWord (p .numbers)
 
-  abbrev claim : Line → Type 0
-  claim l = told l ≡ headed w (encodedLine (coordinatesFrom n p s))
+  abbrev more : List ℕ
+  more = drop (p .length) s
 
-  module _ (count : length (p .numbers) ≡ n) (near : any beyond (p .numbers) ≡ false) (last : isLast (p .stop) ≡ true) (more : isEnd (p .stop) ≡ false) where
-    with-last : claim (seeRead w (p .numbers) (lastSee last-part))
-    with-last = go (ℕ-discrete (lastSee last-part) 0)
-      where
-        go : Dec (lastSee last-part ≡ 0) → claim (seeRead w (p .numbers) (lastSee last-part))
-        go (yes e) =
-            ap (λ b. told (cond b (wrongLine NoSee) (rightLine w (p .numbers) (lastSee last-part)))) (eq-eqb _ _ e)
-            ∙ told-none w (no-see n p s count near last more (is-none last-part e))
-        go (no h) =
-            ap (λ b. told (cond b (wrongLine NoSee) (rightLine w (p .numbers) (lastSee last-part)))) (ne-eqb _ _ h)
-            ∙ right-told w (p .numbers) (lastSee last-part)
-            ∙ told-some w (map coordinateWord (p .numbers)) (see (at (last-part .numbers) 0) ∷ []) (with-see n p s count near last more (is-some last-part h)) refl (see-told last-part refl h)
+  abbrev followed : Line
+  followed = followedRead w (p .numbers) (restRead (p .stop) more)
 
-  module _ (count : length (p .numbers) ≡ n) (near : any beyond (p .numbers) ≡ false) (last : isLast (p .stop) ≡ true) where
-    after-coordinates : (b : Bool) → isEnd (p .stop) ≡ b → claim (cond b (rightLine w (p .numbers) 0) (seeRead w (p .numbers) (lastSee last-part)))
-    after-coordinates true e = right-told w (p .numbers) 0 ∙ told-some w (map coordinateWord (p .numbers)) [] (with-none n p s count near e) refl refl
-    after-coordinates false e = with-last count near last e
+  -- so many coordinates within the limit, before what the rules say
+  counted : (all far : Bool) → isLast (p .stop) ≡ true
+      → told (cond all (cond far (wrongLine Beyond) followed) (wrongLine NotAll)) ≡ behind (w ∷ []) (encodedLine (cond (all && not far) (before words (restFrom (p .stop) more)) none))
+  counted true true e = refl
+  counted true false e =
+      followed-told w (p .numbers) (restRead (p .stop) more)
+      ∙ ap (λ o. behind (w ∷ []) (behind (map encode words) o)) (rest-told (p .stop) more e)
+      ∙ ap (behind (w ∷ [])) (told-before words (restFrom (p .stop) more))
+  counted false far e = refl
 
-  module _ (count : length (p .numbers) ≡ n) (last : isLast (p .stop) ≡ true) where
-    in-limit : (b : Bool) → any beyond (p .numbers) ≡ b
-        → claim (cond b (wrongLine Beyond) (cond (isEnd (p .stop)) (rightLine w (p .numbers) 0) (seeRead w (p .numbers) (lastSee last-part))))
-    in-limit true e = told-none w (some-beyond n p s count e)
-    in-limit false e = after-coordinates count e last (isEnd (p .stop)) refl
+  none-told : (b : Bool) → none ≡ behind (w ∷ []) (encodedLine (cond b (before words none) none))
+  none-told true = refl
+  none-told false = refl
 
-  module _ (last : isLast (p .stop) ≡ true) where
-    abbrev counted : Line
-    counted = cond (any beyond (p .numbers)) (wrongLine Beyond) (cond (isEnd (p .stop)) (rightLine w (p .numbers) 0) (seeRead w (p .numbers) (lastSee last-part)))
-
-    so-many : Dec (length (p .numbers) ≡ n) → claim (cond (eqb (length (p .numbers)) n) counted (wrongLine NotAll))
-    so-many (yes e) = ap (λ b. told (cond b counted (wrongLine NotAll))) (eq-eqb _ _ e) ∙ in-limit e last (any beyond (p .numbers)) refl
-    so-many (no h) = ap (λ b. told (cond b counted (wrongLine NotAll))) (ne-eqb _ _ h) ∙ told-none w (other-count n p s h)
-
-  parts-told : claim (partsRead w n p s)
+  parts-told : told (partsRead w n p s) ≡ behind (w ∷ []) (encodedLine (coordinatesFrom n p s))
   parts-told = go (isLast (p .stop)) refl
     where
+      all : Bool
+      all = eqb (length (p .numbers)) n
+
+      far : Bool
+      far = any beyond (p .numbers)
+
       go : (b : Bool) → isLast (p .stop) ≡ b
-          → claim (cond b (cond (eqb (length (p .numbers)) n) (cond (any beyond (p .numbers)) (wrongLine Beyond) (cond (isEnd (p .stop)) (rightLine w (p .numbers) 0) (seeRead w (p .numbers) (lastSee last-part)))) (wrongLine NotAll)) (wrongLine (stopMistake (p .stop))))
-      go true e = so-many e (ℕ-discrete (length (p .numbers)) n)
-      go false e = ap (λ b. cond b (some (0 ∷ [])) none) (stop-wrong (p .stop)) ∙ told-none w (stops-wrong n p s e)
+          → told (cond b (cond all (cond far (wrongLine Beyond) followed) (wrongLine NotAll)) (wrongLine (stopMistake (p .stop)))) ≡ behind (w ∷ []) (encodedLine (cond (all && not far) (before words (restFrom (p .stop) more)) none))
+      go true e = counted all far e
+      go false e =
+          ap (λ b. cond b (some (0 ∷ [])) none) (stop-wrong (p .stop))
+          ∙ none-told (all && not far)
+          ∙ ap (λ o. behind (w ∷ []) (encodedLine (cond (all && not far) (before words o) none))) (sym (rest-wrong (p .stop) more e))
 
 -- ---- the line
 
@@ -134,20 +133,19 @@ module _ (s : List ℕ) where
       go true e =
           ap told (sym (content-right e))
           ∙ parts-told headWord asked (takenAt mostNumbers rest) rest
-          ∙ head-first (head (at (first .numbers) 0) (at (first .numbers) 1) (at (first .numbers) 2)) (coordinatesFrom asked (takenAt mostNumbers rest) rest)
+          ∙ told-before (head (at (first .numbers) 0) (at (first .numbers) 1) (at (first .numbers) 2) ∷ []) (coordinatesFrom asked (takenAt mostNumbers rest) rest)
           ∙ sym (ap encodedLine (with-head s (sym is-head ∙ e)))
       go false e = ap told (sym (content-wrong e)) ∙ ap (λ b. cond b (some (0 ∷ [])) none) e ∙ sym (ap encodedLine (no-head s (sym is-head ∙ e)))
 
 -- ---- blank lines
 
-parts-shown : (a b c d e : Bool) (k : Kind) (w n : ℕ) (zs : List ℤ)
-    → cond a (cond b (cond c (wrongLine Beyond) (cond d (rightLine w zs 0) (cond e (wrongLine NoSee) (rightLine w zs n)))) (wrongLine NotAll)) (wrongLine (stopMistake k)) .blank ≡ false
-parts-shown true true true d e k w n zs = refl
-parts-shown true true false true e k w n zs = refl
-parts-shown true true false false true k w n zs = refl
-parts-shown true true false false false k w n zs = refl
-parts-shown true false c d e k w n zs = refl
-parts-shown false b c d e k w n zs = refl
+parts-shown : (last all far right : Bool) (k : Kind) (w : ℕ) (zs : List ℤ) (r : Rest)
+    → cond last (cond all (cond far (wrongLine Beyond) (cond right (rightLine w zs r) (wrongLine NoSee))) (wrongLine NotAll)) (wrongLine (stopMistake k)) .blank ≡ false
+parts-shown true true true right k w zs r = refl
+parts-shown true true false true k w zs r = refl
+parts-shown true true false false k w zs r = refl
+parts-shown true false far right k w zs r = refl
+parts-shown false all far right k w zs r = refl
 
 content-shown : (s : List ℕ) → contentRead s .blank ≡ false
 content-shown s = go (isNone (mistake s)) refl
@@ -155,9 +153,9 @@ content-shown s = go (isNone (mistake s)) refl
     go : (b : Bool) → isNone (mistake s) ≡ b → contentRead s .blank ≡ false
     go true e =
         let p = takenAt mostNumbers (rest s) in
-        let seen = lastSee (takenAt 1 (drop (p .length) (rest s))) in
+        let r = restRead (p .stop) (drop (p .length) (rest s)) in
         ap (λ l. l .blank) (sym (content-right s e))
-        ∙ parts-shown (isLast (p .stop)) (eqb (length (p .numbers)) (asked s)) (any beyond (p .numbers)) (isEnd (p .stop)) (eqb seen 0) (p .stop) (headWord s) seen (p .numbers)
+        ∙ parts-shown (isLast (p .stop)) (eqb (length (p .numbers)) (asked s)) (any beyond (p .numbers)) (r .right) (p .stop) (headWord s) (p .numbers) r
     go false e = ap (λ l. l .blank) (sym (content-wrong s e))
 
 pub line-blank : (s : List ℕ) → lineRead s .blank ≡ isEmpty (content s)

@@ -1,4 +1,5 @@
-// The words of a line of text: `number d m ; coordinates`, and `; see` where there is a see word. What stands behind a `#` is a comment.
+// The words of a line of text: `number d m ; coordinates`, `; draft` where it is a draft, and `; see` where there is a see word. What stands
+// behind a `#` is a comment.
 ghost use mathlib.Core.Path.{_≡_};
 ghost use mathlib.Core.Bool.{false};
 ghost use mathlib.Core.List.{_++_};
@@ -8,10 +9,12 @@ ghost use Rattle.integers.specs.Every.{any};
 ghost use Rattle.catalogue_rules.specs.Write.{encodedCoordinates};
 ghost use Rattle.input_checks.specs.Any.{beyond};
 ghost use Rattle.text_parts.specs.Parts.{takenAt};
-ghost use Rattle.text_rules.specs.Encoding.{fits};
-ghost use Rattle.text_lines.specs.Told.{isNone, noWords, wrongLine, stopMistake, headMistake, isLast, lastSee, partsRead, contentRead, textRead, lineRead};
+ghost use Rattle.text_rules.specs.Encoding.{fits, beginsWith, isDraft};
+ghost use Rattle.text_lines.specs.Told.{isNone, noWords, wrongLine, stopMistake, headMistake, isLast, lastSee, seeRest, lastRest, markRest, restRead, partsRead, contentRead, textRead, lineRead};
 ghost use Rattle.text_lines.specs.Lengths.{lengthBefore};
 use text_parts::Kind;
+use text_parts::tokens::blanks;
+use text_parts::tokens::read_token;
 
 // What is wrong with a line.
 pub enum Mistake {
@@ -27,13 +30,15 @@ pub enum Mistake {
     NoSee,
 }
 
-// What a line tells: its words, or what is wrong with it, or that it is blank. A see word 0 is none.
+// What a line tells: its words, or what is wrong with it, or that it is blank. Of the mark it tells whether it stands there. A see word 0 is
+// none.
 pub struct Line {
     pub mistake: Mistake,
     pub blank: bool,
     pub head: u32,
     pub count: usize,
     pub coordinates: [u32; 225],
+    pub draft: bool,
     pub see: u32,
 }
 
@@ -41,6 +46,13 @@ pub struct Line {
 struct Words {
     beyond: bool,
     words: [u32; 225],
+}
+
+// What follows the coordinates: whether it is right, whether it begins with the mark, and the see word, 0 for none.
+struct Rest {
+    right: bool,
+    draft: bool,
+    see: u32,
 }
 
 pub fn is_none(mistake: Mistake) -> bool
@@ -70,6 +82,7 @@ fn no_words(mistake: Mistake, blank: bool) -> Line
         head: 0,
         count: 0,
         coordinates: [0; 225],
+        draft: false,
         see: 0,
     }
 }
@@ -183,7 +196,91 @@ fn see_of(s: &[u8]) -> u32
     catalogue_writer::see_word(text_parts::first_part::count(z[0]) as u32)
 }
 
-// The parts after the head: n coordinates, and a see word or none.
+// The part of the see word, with the mark before it or not.
+fn see_rest(s: &[u8], draft: bool) -> Rest
+    ensures { λ r. ⌜ r ≡ seeRest draft (lastSee (takenAt 1 (now (s .entry)))) ⌝ }
+{
+    let see = see_of(s);
+    Rest {
+        right: see != 0,
+        draft,
+        see,
+    }
+}
+
+// Whether the bytes begin with a word.
+fn begins_with(s: &[u8], word: &[u8]) -> bool
+    ensures { λ r. ⌜ r ≡ beginsWith (now (word .entry)) (now (s .entry)) ⌝ }
+{
+    if s.len() < word.len() {
+        return false;
+    }
+    for i in 0..word.len() {
+        if s[i] != word[i] {
+            return false;
+        }
+    }
+    true
+}
+
+// Whether `draft` stands behind the blanks.
+fn is_draft(s: &[u8]) -> bool
+    ensures { λ r. ⌜ r ≡ isDraft (now (s .entry)) ⌝ }
+{
+    let n = blanks(s);
+    begins_with(&s[n..], b"draft")
+}
+
+// What follows `draft`: nothing, or the part of the see word.
+fn after_draft(s: &[u8]) -> Rest
+    ensures { λ r. ⌜ r ≡ lastRest (now (s .entry)) ⌝ }
+{
+    let t = read_token(s);
+    let kind = t.kind;
+    if text_parts::is_end(kind) {
+        return Rest {
+            right: true,
+            draft: true,
+            see: 0,
+        };
+    }
+    if !text_parts::is_semicolon(kind) {
+        return Rest {
+            right: false,
+            draft: true,
+            see: 0,
+        };
+    }
+    let at = t.length;
+    see_rest(&s[at..], true)
+}
+
+// The part behind the coordinates: `draft` and what follows it, or the see word.
+fn marked(s: &[u8]) -> Rest
+    ensures { λ r. ⌜ r ≡ markRest (now (s .entry)) ⌝ }
+{
+    if !is_draft(s) {
+        return see_rest(s, false);
+    }
+    let at = blanks(s) + 5;
+    after_draft(&s[at..])
+}
+
+// What follows the coordinates, which may stop as they do: nothing, or that part.
+fn rest_of(stop: Kind, s: &[u8]) -> Rest
+    ensures { λ r. ⌜ r ≡ restRead stop (now (s .entry)) ⌝ }
+{
+    if text_parts::is_end(stop) {
+        return Rest {
+            right: true,
+            draft: false,
+            see: 0,
+        };
+    }
+    marked(s)
+}
+
+// The parts after the head: n coordinates, the mark or none, and a see word or none.
 fn with_parts(s: &[u8], head: u32, n: usize) -> Line
     ensures { λ r. ⌜ r ≡ partsRead head n (takenAt 225 (now (s .entry))) (now (s .entry)) ⌝ }
     ensures { λ r. ⌜ r .count ≤ 225 ⌝ }
@@ -203,19 +300,9 @@ fn with_parts(s: &[u8], head: u32, n: usize) -> Line
         return wrong(Mistake::Beyond);
     }
     let words = w.words;
-    if text_parts::is_end(stop) {
-        return Line {
-            mistake: Mistake::None,
-            blank: false,
-            head,
-            count,
-            coordinates: words,
-            see: 0,
-        };
-    }
     let at = part.length;
-    let see = see_of(&s[at..]);
-    if see == 0 {
+    let rest = rest_of(stop, &s[at..]);
+    if !rest.right {
         return wrong(Mistake::NoSee);
     }
     Line {
@@ -224,7 +311,8 @@ fn with_parts(s: &[u8], head: u32, n: usize) -> Line
         head,
         count,
         coordinates: words,
-        see,
+        draft: rest.draft,
+        see: rest.see,
     }
 }
 
@@ -268,7 +356,7 @@ fn read_text(s: &[u8]) -> Line
     ensures { λ r. ⌜ r ≡ textRead (now (s .entry)) ⌝ }
     ensures { λ r. ⌜ r .count ≤ 225 ⌝ }
 {
-    if text_parts::tokens::blanks(s) == s.len() {
+    if blanks(s) == s.len() {
         return no_words(Mistake::None, true);
     }
     read_content(s)

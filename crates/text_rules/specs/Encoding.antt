@@ -3,19 +3,20 @@
 use mathlib.Core.Bool.{Bool, true, false, cond, not, _&&_, _||_}
 use mathlib.Core.List.{List, [], _∷_, _++_, map}
 use mathlib.Core.Option.{Option, none, some}
-use Prim.Native.Nat.{ℕ, zero, suc, _-_, _*_}
+use Prim.Native.Nat.{ℕ, zero, suc, _+_, _-_, _*_}
 use lib.Dec.{eqb, leb, ltb}
 use lib.IntN.{ℤ, pos, negsuc, natAbs}
 use lib.ListN.{length, take, drop}
 use Rattle.lattices.specs.Vector.{nth}
 use Rattle.integers.specs.Every.{any}
 use Rattle.lattices.specs.Refusal.{mostSize}
-use Rattle.catalogue_rules.specs.Word.{Word, head, see, end}
+use Rattle.catalogue_rules.specs.Word.{Word, head, see, end, draft}
 use Rattle.catalogue_rules.specs.Write.{coordinateWord}
 use Rattle.text_parts.specs.declared.Kind.{Kind}
 use Rattle.text_parts.specs.Numbers.{leading}
-use Rattle.text_parts.specs.Tokens.{isBlank}
+use Rattle.text_parts.specs.Tokens.{isBlank, tokenAt}
 use Rattle.text_parts.specs.Parts.{isSemicolon, isEnd, Taken, takenAt}
+use Rattle.text_rules.specs.Text.{draftWord}
 
 -- ---- a line
 
@@ -35,7 +36,7 @@ isSee p = isEnd (p .stop) && (eqb (length (p .numbers)) 1 && fits 268435455 (nth
 abbrev pub seeFrom : Taken → Option (List Word)
 seeFrom p = cond (isSee p) (some (see (at (p .numbers) 0) ∷ [])) none
 
--- R13.1, R13.4: what follows the coordinates: nothing, or a semicolon and the see word
+-- R13.1, R13.4: nothing, or a semicolon and the see word
 abbrev pub lastFrom : Kind → List ℕ → Option (List Word)
 lastFrom k s = cond (isEnd k) (some []) (cond (isSemicolon k) (seeFrom (takenAt 1 s)) none)
 
@@ -43,13 +44,39 @@ abbrev pub before : List Word → Option (List Word) → Option (List Word)
 before ws none = none
 before ws (some us) = some (ws ++ us)
 
+-- R13.1: the bytes begin with these
+abbrev pub beginsWith : List ℕ → List ℕ → Bool
+beginsWith [] s = true
+beginsWith (a ∷ word) [] = false
+beginsWith (a ∷ word) (b ∷ s) = eqb b a && beginsWith word s
+
+-- R13.1: `draft`, with the blanks before it
+abbrev pub isDraft : List ℕ → Bool
+isDraft s = beginsWith draftWord (drop (leading isBlank s) s)
+
+-- R13.1: what stands behind it
+abbrev pub pastDraft : List ℕ → List ℕ
+pastDraft s = drop (leading isBlank s + length draftWord) s
+
+-- R13.1, R13.4: behind `draft` its part ends
+abbrev pub afterDraft : List ℕ → Option (List Word)
+afterDraft s = let t = tokenAt s in lastFrom (t .kind) (drop (t .length) s)
+
+-- R13.1, R13.4: the part behind the coordinates: `draft` and what follows it, or the see word
+abbrev pub markFrom : List ℕ → Option (List Word)
+markFrom s = cond (isDraft s) (before (draft 1 ∷ []) (afterDraft (pastDraft s))) (seeFrom (takenAt 1 s))
+
+-- R13.1, R13.4: what follows the coordinates: nothing, or a semicolon and that part
+abbrev pub restFrom : Kind → List ℕ → Option (List Word)
+restFrom k s = cond (isEnd k) (some []) (cond (isSemicolon k) (markFrom s) none)
+
 -- R13.4: so many coordinates within the limit, and what follows them
 abbrev pub areCoordinates : ℕ → List ℤ → Bool
 areCoordinates n zs = eqb (length zs) n && not (any (λ z. ltb mostSize (natAbs z)) zs)
 
 -- R13.1, R13.4
 abbrev pub coordinatesFrom : ℕ → Taken → List ℕ → Option (List Word)
-coordinatesFrom n p s = cond (areCoordinates n (p .numbers)) (before (map coordinateWord (p .numbers)) (lastFrom (p .stop) (drop (p .length) s))) none
+coordinatesFrom n p s = cond (areCoordinates n (p .numbers)) (before (map coordinateWord (p .numbers)) (restFrom (p .stop) (drop (p .length) s))) none
 
 -- R13.4: d and m have four bits each in a head, so no more coordinates than these are asked for; whether d and m can be is left to reading
 abbrev pub mostNumbers : ℕ

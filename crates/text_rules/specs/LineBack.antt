@@ -1,9 +1,10 @@
 -- The line of an entry that fits tells the words of the entry.
 use mathlib.Core.Path.{_≡_, refl, sym, ap, ap₂, _∙_}
-use mathlib.Core.Bool.{false, true, cond, not, _&&_}
+use mathlib.Core.Logic.{inr}
+use mathlib.Core.Bool.{Bool, false, true, cond, not, _&&_}
 use mathlib.Core.List.{List, [], _∷_, _++_, map, append-assoc, append-nil}
 use mathlib.Core.Option.{Option, none, some}
-use Prim.Native.Nat.{ℕ, _+_, _*_, _≤_}
+use Prim.Native.Nat.{ℕ, suc, _+_, _*_, _≤_}
 use native.Mathlib.Omega.{arith}
 use lib.Dec.{ltb}
 use lib.IntN.{ℤ, pos, natAbs}
@@ -16,19 +17,20 @@ use Rattle.integers.specs.Decimal.{decimal, signed}
 use Rattle.integers.specs.Every.{any}
 use Rattle.lattices.specs.Refusal.{mostSize}
 use Rattle.catalogue_rules.specs.Catalogue.{Head, See, Entry, coordinates}
-use Rattle.catalogue_rules.specs.Word.{Word, see}
-use Rattle.catalogue_rules.specs.Write.{headWord, coordinateWord, seeWords, entryWords}
+use Rattle.catalogue_rules.specs.Word.{Word, see, draft}
+use Rattle.catalogue_rules.specs.Write.{headWord, coordinateWord, draftWords, seeWords, entryWords}
 use Rattle.catalogue_rules.specs.Form.{HeadFits, EntryFits}
 use Rattle.catalogue_rules.specs.Laws.EntriesAccepted.{count-coordinates, few-coordinates, all-near}
 use Rattle.catalogue_rules.specs.Laws.ReadEntries.{SeeFits, head-range}
 use Rattle.text_parts.specs.declared.Kind.{Kind}
 use Rattle.text_parts.specs.declared.Kind.the-variants.{Semicolon, End}
-use Rattle.text_parts.specs.Numbers.{read}
-use Rattle.text_parts.specs.Tokens.{tokenAt}
+use Rattle.text_parts.specs.Numbers.{leading, read}
+use Rattle.text_parts.specs.Tokens.{isBlank, tokenAt}
 use Rattle.text_parts.specs.Parts.{more, takenAt}
-use Rattle.text_rules.specs.Text.{semicolon, seeFields, entryFields, entryText}
-use Rattle.text_rules.specs.Encoding.{seeFrom, lastFrom, before, areCoordinates, coordinatesFrom, mostNumbers, headFrom, lineFrom}
-use Rattle.text_rules.specs.NumberBack.{Written, signed-reads}
+use Rattle.text_rules.specs.Text.{semicolon, draftWord, draftFields, seeFields, entryFields, entryText}
+use Rattle.text_rules.specs.Encoding.{seeFrom, before, beginsWith, isDraft, pastDraft, afterDraft, markFrom, restFrom, areCoordinates, coordinatesFrom, mostNumbers, headFrom, lineFrom}
+use Rattle.text_rules.specs.DecimalBack.{Tells, decimal-tells}
+use Rattle.text_rules.specs.NumberBack.{Written, digit-is-not, digit-no-blank, signed-reads}
 use Rattle.text_rules.specs.PartBack.{spaced, after-spaced, spaced-append, Stop, taken, part-goes, part-back}
 
 -- ---- where parts stop
@@ -50,6 +52,30 @@ see-back n h =
     ∙ ap seeFrom (part-back 1 (pos n ∷ []) (omega arith) (omega arith, tt) line-ends)
     ∙ ap (λ b. cond b (some (see n ∷ [])) none) (le-leb n 268435455 h)
 
+-- ---- the mark, and what follows it
+
+-- digits are no mark
+told-no-draft : (n : ℕ) (s rest : List ℕ) → Tells n s → isDraft (32 ∷ (s ++ rest)) ≡ false
+told-no-draft n [] rest t = absurd (omega (arith, t .one))
+told-no-draft n (b ∷ s) rest t =
+    let l = s ++ rest in
+    ap (λ c. beginsWith draftWord (drop (suc (cond c (suc (leading isBlank l)) 0)) (32 ∷ b ∷ l))) (digit-no-blank b (t .digits .0))
+    ∙ ap (λ c. c && beginsWith (114 ∷ 97 ∷ 102 ∷ 116 ∷ []) l) (digit-is-not b 100 (t .digits .0) (inr (omega arith)))
+
+unmarked-back : (n : ℕ) → n ≤ 268435455 → markFrom (spaced (decimal n ∷ [])) ≡ some (see n ∷ [])
+unmarked-back n h =
+    let text = spaced (decimal n ∷ []) in
+    ap (λ b. cond b (before (draft 1 ∷ []) (afterDraft (pastDraft text))) (seeFrom (takenAt 1 text))) (told-no-draft n (decimal n) [] (decimal-tells n))
+    ∙ see-back n h
+
+after-back : (o : Option See) → SeeFits o → afterDraft (spaced (seeFields o)) ≡ some (seeWords o)
+unfolding tokenAt
+after-back none h = refl
+after-back (some s) h = see-back (s .number) (omega arith)
+
+marked-back : (o : Option See) → SeeFits o → markFrom (spaced (draftWord ∷ seeFields o)) ≡ some (draftWords true ++ seeWords o)
+marked-back o h = ap (before (draft 1 ∷ [])) (after-back o h)
+
 -- ---- coordinates, and what follows them
 
 all-written : (zs : List ℤ) → any (λ z. ltb mostSize (natAbs z)) zs ≡ false → All Written zs
@@ -60,7 +86,7 @@ all-written (z ∷ zs) e =
     (omega arith, all-written zs (p .1))
 
 module _ (zs : List ℤ) (n : ℕ) (few : length zs ≤ mostNumbers) (count : length zs ≡ n) (near : any (λ z. ltb mostSize (natAbs z)) zs ≡ false) where
-  followed : {k : Kind} {j : ℕ} {rest : List ℕ} (ws : List Word) → Stop k j rest → lastFrom k (drop j rest) ≡ some ws
+  followed : {k : Kind} {j : ℕ} {rest : List ℕ} (ws : List Word) → Stop k j rest → restFrom k (drop j rest) ≡ some ws
       → let s = spaced (map signed zs) ++ rest in coordinatesFrom n (takenAt mostNumbers s) s ≡ some (map coordinateWord zs ++ ws)
   followed {k} {j} {rest} ws stop e =
       let fields = spaced (map signed zs) in
@@ -68,14 +94,15 @@ module _ (zs : List ℤ) (n : ℕ) (few : length zs ≤ mostNumbers) (count : le
       let words = map coordinateWord zs in
       let fit : areCoordinates n zs ≡ true = ap₂ (λ b c. b && not c) (eq-eqb (length zs) n count) near in
       ap (λ p. coordinatesFrom n p s) (part-back mostNumbers zs few (all-written zs near) stop)
-      ∙ ap (λ b. cond b (before words (lastFrom k (drop (length fields + j) s))) none) fit
-      ∙ ap (λ l. before words (lastFrom k l)) (drop-append-add fields rest j)
+      ∙ ap (λ b. cond b (before words (restFrom k (drop (length fields + j) s))) none) fit
+      ∙ ap (λ l. before words (restFrom k l)) (drop-append-add fields rest j)
       ∙ ap (before words) e
 
-  coordinates-back : (o : Option See) → SeeFits o
-      → let s = spaced (map signed zs) ++ spaced (seeFields o) in coordinatesFrom n (takenAt mostNumbers s) s ≡ some (map coordinateWord zs ++ seeWords o)
-  coordinates-back none h = followed [] line-ends refl
-  coordinates-back (some s) h = followed (seeWords (some s)) (at-semicolon (spaced (decimal (s .number) ∷ []))) (see-back (s .number) (omega arith))
+  coordinates-back : (b : Bool) (o : Option See) → SeeFits o
+      → let s = spaced (map signed zs) ++ spaced (draftFields b ++ seeFields o) in coordinatesFrom n (takenAt mostNumbers s) s ≡ some (map coordinateWord zs ++ (draftWords b ++ seeWords o))
+  coordinates-back true o h = followed (draftWords true ++ seeWords o) (at-semicolon (spaced (draftWord ∷ seeFields o))) (marked-back o h)
+  coordinates-back false none h = followed [] line-ends refl
+  coordinates-back false (some s) h = followed (seeWords (some s)) (at-semicolon (spaced (decimal (s .number) ∷ []))) (unmarked-back (s .number) (omega arith))
 
 -- ---- the head
 
@@ -120,8 +147,8 @@ text-line e = ap (λ l. decimal (e .head .number) ++ l) (after-spaced (entryFiel
 pub line-back : (e : Entry) → EntryFits e → SeeFits (e .see) → lineFrom (lineOf e) ≡ some (entryWords e)
 line-back e p q =
     let zs = coordinates (e .vectors) in
-    let last = map signed zs ++ seeFields (e .see) in
+    let last = draftFields (e .draft) ++ seeFields (e .see) in
     let two = map signed (pos (e .head .d) ∷ pos (e .head .m) ∷ []) in
-    ap (λ l. lineFrom (decimal (e .head .number) ++ l)) (spaced-append two (semicolon ∷ last))
-    ∙ ap (λ s. lineFrom (headed (e .head) (p .head) s)) (spaced-append (map signed zs) (seeFields (e .see)))
-    ∙ head-back (e .head) (p .head) _ _ (coordinates-back zs _ (omega (arith, few-coordinates e p)) (count-coordinates e p) (all-near (e .head .m) (e .vectors) (p .vectors)) (e .see) q)
+    ap (λ l. lineFrom (decimal (e .head .number) ++ l)) (spaced-append two (semicolon ∷ (map signed zs ++ last)))
+    ∙ ap (λ s. lineFrom (headed (e .head) (p .head) s)) (spaced-append (map signed zs) last)
+    ∙ head-back (e .head) (p .head) _ _ (coordinates-back zs _ (omega (arith, few-coordinates e p)) (count-coordinates e p) (all-near (e .head .m) (e .vectors) (p .vectors)) (e .draft) (e .see) q)

@@ -1,7 +1,7 @@
 -- The text of a catalogue is cut into the lines of its entries: none holds a newline, and none is blank.
 use mathlib.Core.Path.{_≡_, refl, ap, _∙_}
 use mathlib.Core.Logic.{inl}
-use mathlib.Core.Bool.{false, cond, not}
+use mathlib.Core.Bool.{Bool, true, false, cond, not}
 use mathlib.Core.List.{List, [], _∷_, _++_, map}
 use mathlib.Core.Option.{Option, none, some}
 use Prim.Native.Nat.{ℕ, suc}
@@ -16,7 +16,7 @@ use Rattle.integers.specs.Decimal.{decimal, signed}
 use Rattle.catalogue_rules.specs.Catalogue.{See, Entry, coordinates}
 use Rattle.text_parts.specs.Numbers.{leading}
 use Rattle.text_parts.specs.Tokens.{isBlank}
-use Rattle.text_rules.specs.Text.{semicolon, seeFields, entryFields}
+use Rattle.text_rules.specs.Text.{semicolon, draftFields, seeFields, entryFields}
 use Rattle.text_rules.specs.Encoding.{onto, linesOf, isText, content, isEmpty}
 use Rattle.text_rules.specs.DecimalBack.{Tells, decimal-tells}
 use Rattle.text_rules.specs.NumberBack.{digit-is-not, digit-no-blank}
@@ -49,6 +49,10 @@ numbers-plain (z ∷ zs) = (signed-plain z, numbers-plain zs)
 semicolon-plain : AllPlain semicolon
 semicolon-plain = (plain 59 refl refl, tt)
 
+draft-plain : (b : Bool) → All AllPlain (draftFields b)
+draft-plain true = (semicolon-plain, ((plain 100 refl refl, (plain 114 refl refl, (plain 97 refl refl, (plain 102 refl refl, (plain 116 refl refl, tt))))), tt))
+draft-plain false = tt
+
 see-plain : (o : Option See) → All AllPlain (seeFields o)
 see-plain none = tt
 see-plain (some s) = (semicolon-plain, (decimal-plain (s .number), tt))
@@ -60,7 +64,9 @@ spaced-plain (field ∷ fields) p = (plain 32 refl refl, all-append Plain field 
 fields-plain : (e : Entry) → All AllPlain (entryFields e)
 fields-plain e =
     let zs = coordinates (e .vectors) in
-    (decimal-plain (e .head .d), (decimal-plain (e .head .m), (semicolon-plain, all-append AllPlain (map signed zs) (seeFields (e .see)) (numbers-plain zs) (see-plain (e .see)))))
+    let mark = draftFields (e .draft) in
+    let see = seeFields (e .see) in
+    (decimal-plain (e .head .d), (decimal-plain (e .head .m), (semicolon-plain, all-append AllPlain (map signed zs) (mark ++ see) (numbers-plain zs) (all-append AllPlain mark see (draft-plain (e .draft)) (see-plain (e .see))))))
 
 pub line-plain : (e : Entry) → AllPlain (lineOf e)
 line-plain e = all-append Plain (decimal (e .head .number)) (spaced (entryFields e)) (decimal-plain (e .head .number)) (spaced-plain (entryFields e) (fields-plain e))

@@ -1,4 +1,5 @@
--- The text of a catalogue, an entry to a line: `number d m ; coordinates`, and `; see` where there is a see word.
+-- The text of a catalogue, an entry to a line: `number d m ; coordinates`, `; draft` where it is a draft, and `; see` where there is a see word.
+use mathlib.Core.Bool.{Bool, true, false}
 use mathlib.Core.List.{List, [], _∷_, _++_, map}
 use mathlib.Core.Option.{Option, none, some}
 use Prim.Native.Nat.{ℕ}
@@ -10,6 +11,15 @@ use Rattle.text_layout.specs.Fields.{line}
 abbrev pub semicolon : List ℕ
 semicolon = 59 ∷ []
 
+-- R13.1: "draft"
+abbrev pub draftWord : List ℕ
+draftWord = 100 ∷ 114 ∷ 97 ∷ 102 ∷ 116 ∷ []
+
+-- R13.1: "a part of its own after the coordinates"
+abbrev pub draftFields : Bool → List (List ℕ)
+draftFields true = semicolon ∷ draftWord ∷ []
+draftFields false = []
+
 -- R13.1
 abbrev pub seeFields : Option See → List (List ℕ)
 seeFields none = []
@@ -17,7 +27,7 @@ seeFields (some s) = semicolon ∷ decimal (s .number) ∷ []
 
 -- R13.1
 abbrev pub entryFields : Entry → List (List ℕ)
-entryFields e = decimal (e .head .d) ∷ decimal (e .head .m) ∷ semicolon ∷ (map signed (coordinates (e .vectors)) ++ seeFields (e .see))
+entryFields e = decimal (e .head .d) ∷ decimal (e .head .m) ∷ semicolon ∷ (map signed (coordinates (e .vectors)) ++ (draftFields (e .draft) ++ seeFields (e .see)))
 
 -- R13.1
 abbrev pub entryText : Entry → List ℕ

@@ -9,6 +9,10 @@ const HEAD: u32 = 1;
 const COORDINATE: u32 = 2;
 const SEE: u32 = 3;
 const END: u32 = 4;
+const MARK: u32 = 5;
+
+/// The load of a draft's mark.
+const DRAFT: u64 = 1;
 
 /// The greatest load.
 const MOST_LOAD: u32 = (1 << 28) - 1;
@@ -16,7 +20,7 @@ const MOST_LOAD: u32 = (1 << 28) - 1;
 /// A coordinate's load is the coordinate and this.
 const SHIFT: i64 = 20_000;
 
-/// An entry of a catalogue: a numbered basis, perhaps with a reference to an entry.
+/// An entry of a catalogue: a numbered basis, perhaps a draft, perhaps with a reference to an entry.
 #[derive(Clone, Debug, PartialEq, Eq, Hash)]
 #[non_exhaustive]
 pub struct Entry {
@@ -24,17 +28,28 @@ pub struct Entry {
     pub number: u32,
     /// Its d vectors, of m coordinates each.
     pub vectors: Vec<Vec<i64>>,
+    /// Whether it is a draft: it does not stand for a lattice that has another entry that is none.
+    pub draft: bool,
     /// The number of the entry that its see word refers to, if it has one.
     pub see: Option<u32>,
 }
 
 impl Entry {
-    /// An entry without a see word.
+    /// An entry that is no draft, without a see word.
     pub fn new<V: Into<Vec<i64>>>(number: u32, vectors: impl IntoIterator<Item = V>) -> Entry {
         Entry {
             number,
             vectors: vectors.into_iter().map(V::into).collect(),
+            draft: false,
             see: None,
+        }
+    }
+
+    /// The same entry as a draft.
+    pub fn drafted(self) -> Entry {
+        Entry {
+            draft: true,
+            ..self
         }
     }
 
@@ -159,6 +174,7 @@ fn coordinate(x: i64) -> u32 {
 fn entry_words(entry: &Entry) -> Vec<u32> {
     let mut words = vec![head(entry)];
     words.extend(entry.vectors.iter().flatten().map(|&x| coordinate(x)));
+    words.extend(entry.draft.then(|| word(MARK, DRAFT)));
     words.extend(entry.see.map(|n| word(SEE, n.into())));
     words
 }
@@ -190,6 +206,7 @@ fn entries_of(bytes: &[u8]) -> Vec<Entry> {
                 .chunks(m as usize)
                 .map(<[i64]>::to_vec)
                 .collect(),
+            draft: words.next_if(|&w| kind(w) == MARK).is_some(),
             see: words.next_if(|&w| kind(w) == SEE).map(load),
         });
     }

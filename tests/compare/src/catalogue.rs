@@ -49,8 +49,9 @@ const LIST: Writing = Writing {
 #[derive(Default)]
 pub struct Compared {
     pub refused: Option<Refused>,
-    /// The m of each entry, where the catalogue is accepted.
+    /// The m of each entry, where the catalogue is accepted, and whether one is a draft.
     pub widths: Vec<usize>,
+    pub has_drafts: bool,
     pub writings: u64,
     pub short_outputs: u64,
     pub lookups: u64,
@@ -63,6 +64,7 @@ pub fn compare(bytes: &[u8], rooms: Rooms) -> Result<Compared, String> {
     let mut seen = Compared {
         refused: entries.as_ref().err().copied(),
         widths: entries.iter().flatten().map(Entry::m).collect(),
+        has_drafts: entries.iter().flatten().any(|e| e.draft),
         ..Compared::default()
     };
     let whole = entries.as_ref().map(|e| write(e)).map_err(|r| *r);
@@ -176,10 +178,10 @@ fn entries_alike(bytes: &[u8], expected: &Result<Vec<Entry>, Refused>) -> Result
     let is_alike = match (&given, expected) {
         (Ok(given), Ok(expected)) => {
             let same = given.len() == expected.len()
-                && given
-                    .iter()
-                    .zip(expected)
-                    .all(|(a, b)| (a.number, &a.vectors, a.see) == (b.number, &b.vectors, b.see));
+                && given.iter().zip(expected).all(|(a, b)| {
+                    let wanted = (b.number, &b.vectors, b.draft, b.see);
+                    (a.number, &a.vectors, a.draft, a.see) == wanted
+                });
             same && engine::from_entries(given).as_deref() == Ok(bytes)
         }
         (Err(refusal), Err(r)) => number_and_place(*refusal) == (r.number as i64, r.place),

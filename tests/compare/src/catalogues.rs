@@ -1,12 +1,10 @@
-//! Catalogues: random ones and damaged ones, every truncation of a few, every byte of two small ones changed, outputs of every length.
+//! Catalogues: random ones and damaged ones, every truncation of a few, every byte of three small ones changed, outputs of every length.
 
 use reference::catalogue::cases::{case, kind, Kind};
-use reference::catalogue::reader::{words, COORDINATE, END, HEAD, SEE};
 use reference::catalogue::writer;
-use reference::catalogue::Refused;
-use reference::MOST_COORDINATES;
 
 use crate::catalogue::{self, Rooms};
+use crate::refusals::Refusals;
 use crate::widths::Widths;
 
 /// Document 01's catalogue.
@@ -23,6 +21,12 @@ const WIDE: [u32; 19] = [
     0x20004E20, 0x30000007, 0x40000001,
 ];
 
+/// Entry 7: (1,0),(4,1), a draft that refers to 12; 12: (0,1),(1,0).
+const DRAFT: [u32; 13] = [
+    0x10000722, 0x20004E21, 0x20004E20, 0x20004E24, 0x20004E21, 0x50000001, 0x3000000C, 0x10000C22,
+    0x20004E20, 0x20004E21, 0x20004E21, 0x20004E20, 0x40000002,
+];
+
 /// How many random catalogues of each kind are cut at every byte, and are written to outputs of every length.
 const CUT: usize = 3;
 const LENT: usize = 20;
@@ -30,40 +34,13 @@ const LENT: usize = 20;
 /// So many random catalogues must show every refusal at every place.
 const ENOUGH: usize = 100_000;
 
-/// What stands at a refusal's place.
-const PLACES: [&str; 7] = [
-    "place 0",
-    "head",
-    "coordinate",
-    "see word",
-    "end word",
-    "other word",
-    "no word",
-];
-
-/// The places that each refusal can have, as indices.
-const POSSIBLE: [(usize, &[usize]); 12] = [
-    (1, &[1]),
-    (2, &[1]),
-    (4, &[2]),
-    (5, &[1]),
-    (8, &[0]),
-    (9, &[0]),
-    (10, &[1, 2, 3, 4, 5, 6]),
-    (11, &[1]),
-    (12, &[3]),
-    (13, &[4]),
-    (14, &[1, 2, 3, 4, 5]),
-    (15, &[1]),
-];
-
-/// How many catalogues were accepted, or refused with each number at each place, and what was called.
+/// How many catalogues were accepted, or refused with each number at each kind of place, and what was called.
 #[derive(Default)]
 struct Counts {
     accepted: u64,
-    refused: [[u64; PLACES.len()]; 18],
-    /// Of those refused with 2, the m in the head.
-    wrong_m: [u64; 16],
+    /// Of these, with drafts.
+    drafts: u64,
+    refusals: Refusals,
     /// Accepted catalogues with an entry of each m.
     widths: Widths,
     writings: u64,
@@ -78,11 +55,9 @@ impl Counts {
             .map_err(|what| format!("{what}\n{of}, in hexadecimal:\n{}", hexadecimal(bytes)))?;
         match seen.refused {
             None => self.accepted += 1,
-            Some(r) => self.refused[r.number as usize][place(bytes, r)] += 1,
+            Some(r) => self.refusals.add(bytes, r),
         }
-        if let Some(Refused { number: 2, place }) = seen.refused {
-            self.wrong_m[words(bytes)[place] as usize & 15] += 1;
-        }
+        self.drafts += seen.has_drafts as u64;
         self.widths.add_each(seen.widths.into_iter());
         self.writings += seen.writings;
         self.short_outputs += seen.short_outputs;
@@ -92,54 +67,28 @@ impl Counts {
     }
 
     fn total(&self) -> u64 {
-        self.accepted + self.refused.iter().flatten().sum::<u64>()
+        self.accepted + self.refusals.total()
     }
 
     fn print(&self) {
         println!(
-            "{} catalogues as the reference answers them: {} accepted",
+            "{} catalogues as the reference answers them: {} accepted, {} of them with drafts",
             self.total(),
-            self.accepted
+            self.accepted,
+            self.drafts
         );
-        for (number, counts) in self.refused.iter().enumerate() {
-            let places: Vec<String> = (0..PLACES.len())
-                .filter(|&i| counts[i] > 0)
-                .map(|i| format!("{} {}", PLACES[i], counts[i]))
-                .collect();
-            if !places.is_empty() {
-                let sum: u64 = counts.iter().sum();
-                println!("  refused with {number}: {sum} ({})", places.join(", "));
-            }
-        }
-        println!("  refused with 2 for m from 0 to 15: {:?}", self.wrong_m);
+        self.refusals.print();
         println!(
             "{} writings, refused with 16: {}; {} lookups, refused with 17: {}",
             self.writings, self.short_outputs, self.lookups, self.absent_numbers
         );
     }
 
-    /// Every refusal at every place that it can have, and 2 for every m that it can have.
+    /// Every refusal at every kind of place that it can have, and catalogues accepted with drafts and without.
     fn is_complete(&self) -> bool {
-        let all = POSSIBLE
-            .iter()
-            .all(|(number, places)| places.iter().all(|&i| self.refused[*number][i] > 0));
-        let every_m = (0..16).all(|m| (self.wrong_m[m] > 0) == (m == 0 || m > MOST_COORDINATES));
-        all && every_m && self.accepted > 0 && self.short_outputs > 0 && self.absent_numbers > 0
-    }
-}
-
-/// What stands at the place of a refusal, as an index.
-fn place(bytes: &[u8], refused: Refused) -> usize {
-    if refused.number == 8 || refused.number == 9 {
-        return 0;
-    }
-    match words(bytes).get(refused.place).map(|w| w >> 28) {
-        Some(HEAD) => 1,
-        Some(COORDINATE) => 2,
-        Some(SEE) => 3,
-        Some(END) => 4,
-        Some(_) => 5,
-        None => 6,
+        let is_accepted = self.accepted > self.drafts && self.drafts > 0;
+        let is_called = self.short_outputs > 0 && self.absent_numbers > 0;
+        self.refusals.is_complete() && is_accepted && is_called
     }
 }
 
@@ -154,9 +103,11 @@ pub fn compare(count: usize, seed: u64) -> Result<(), String> {
         let of = format!("seed {seed}, index {index}, kind {:?}", kind(index));
         counts.compare(&case(seed, index), Rooms::Few, &of)?;
     }
-    let small = writer::bytes(&SMALL);
-    truncations(&mut counts, &small)?;
-    truncations(&mut counts, &writer::bytes(&WIDE))?;
+    let small = [&SMALL[..], &WIDE, &DRAFT].map(writer::bytes);
+    for bytes in &small {
+        truncations(&mut counts, bytes)?;
+        changes(&mut counts, bytes)?;
+    }
     for wanted in [Kind::Accepted, Kind::Longer] {
         for bytes in of_kind(wanted, seed, CUT) {
             truncations(&mut counts, &bytes)?;
@@ -165,14 +116,12 @@ pub fn compare(count: usize, seed: u64) -> Result<(), String> {
             counts.compare(&bytes, Rooms::All, "outputs of every length")?;
         }
     }
-    changes(&mut counts, &small)?;
-    changes(&mut counts, &writer::bytes(&WIDE))?;
     counts.print();
     counts.widths.print("catalogues accepted", count)?;
     if count < ENOUGH || counts.is_complete() {
         Ok(())
     } else {
-        Err("the cases: a refusal did not occur at each of its places".into())
+        Err("the cases: a refusal did not occur at each kind of its places, or at another".into())
     }
 }
 

@@ -78,7 +78,8 @@ pub fn said<T>(outcome: Result<T, Refused>, accepted: impl FnOnce(T) -> Vec<u8>)
     }
 }
 
-fn compare_one(bytes: &[u8], random: &mut Random) -> Result<(), String> {
+/// Folds, lists, looks up and decodes one catalogue, and encodes its text.
+pub fn compare_one(bytes: &[u8], random: &mut Random) -> Result<(), String> {
     let outcome = read(bytes);
     same(&["list"], bytes, listing(bytes).into_bytes())?;
     let fold = |es: Vec<Entry>| write(&folded(&es));
@@ -109,12 +110,18 @@ fn compare_one(bytes: &[u8], random: &mut Random) -> Result<(), String> {
 pub fn compare(count: usize, seed: u64) -> Result<(), String> {
     let mut random = Random::new(seed);
     let mut widths = Widths::default();
+    let mut drafts = 0;
     for index in 0..count {
         let bytes = case(seed, index);
         compare_one(&bytes, &mut random)
             .map_err(|what| format!("seed {seed}, index {index}: {what}"))?;
-        widths.add_each(read(&bytes).iter().flatten().map(Entry::m));
+        let entries = read(&bytes).unwrap_or_default();
+        widths.add_each(entries.iter().map(Entry::m));
+        drafts += entries.iter().any(|e| e.draft) as u64;
     }
-    println!("{count} catalogues by the command line: folded, listed, looked up, decoded and encoded, with comments and without, as the reference does");
+    println!(
+        "{count} catalogues by the command line, with drafts {drafts}: folded, listed, looked up, decoded and encoded, with comments and without, \
+         as the reference does"
+    );
     widths.print("catalogues accepted", count)
 }

@@ -29,6 +29,8 @@ struct Counts {
     refused: u64,
     /// Of these, with a number that no entry can have, so that 17 would be given if it came first.
     refused_before_17: u64,
+    /// Answered pairs with a draft.
+    drafts: u64,
     /// Answered pairs, by the m of the first entry.
     widths: Widths,
 }
@@ -37,8 +39,10 @@ impl Counts {
     fn add(&mut self, pair: &Pair, said: Result<Separation, Refused>) {
         if said.is_ok() {
             let entries = read(&pair.bytes).expect("answered");
-            let first = entries.iter().find(|e| e.number == pair.first);
-            self.widths.add(first.expect("answered").m());
+            let of = |number: u32| entries.iter().find(|e| e.number == number);
+            let [first, second] = [pair.first, pair.second].map(|n| of(n).expect("answered"));
+            self.widths.add(first.m());
+            self.drafts += (first.draft || second.draft) as u64;
         }
         match said {
             Ok(Separation::Same) => self.same += 1,
@@ -74,7 +78,9 @@ impl Counts {
         );
         let [first, second, both] = self.unknown;
         println!(
-            "  refused with 17: {} (for the first {first}, for the second {second}, for both {both}); catalogues refused: {} (before 17 {})",
+            "  with a draft: {}; refused with 17: {} (for the first {first}, for the second {second}, for both {both}); catalogues refused: {} \
+             (before 17 {})",
+            self.drafts,
             first + second + both,
             self.refused,
             self.refused_before_17
@@ -95,7 +101,7 @@ impl Counts {
     }
 
     fn is_complete(&self) -> bool {
-        self.all().iter().all(|&n| n > 0) && self.refused_before_17 > 0
+        self.all().iter().all(|&n| n > 0) && self.refused_before_17 > 0 && self.drafts > 0
     }
 }
 

@@ -55,9 +55,9 @@ fn rows_of_the_table() {
         words
     };
     assert_eq!(listing(&[0; 3]), "refused 8 0\n");
-    assert_eq!(listing(&[0; 34_821]), "refused 8 0\n");
-    assert_eq!(listing(&[0; 34_824]), "refused 9 0\n");
-    assert_eq!(listing(&[0; 34_820]), "refused 10 0\n");
+    assert_eq!(listing(&[0; 35_845]), "refused 8 0\n");
+    assert_eq!(listing(&[0; 35_848]), "refused 9 0\n");
+    assert_eq!(listing(&[0; 35_844]), "refused 10 0\n");
     refused(&[], 10, 0);
     refused(&FULL[..17], 10, 17);
     refused(&changed(2, 0x50004E20), 10, 2);
@@ -95,13 +95,13 @@ fn wide_entries() {
     assert_eq!(lookup(&bytes, 3), Ok(3));
 }
 
-/// 256 entries of four vectors of eight coordinates, with see words, are the most bytes that are read.
+/// 256 entries of four vectors of eight coordinates, drafts with see words, are the most bytes that are read.
 #[test]
 fn the_largest_catalogue() {
     let all = largest(&mut Random::new(5));
     let mut bytes = write(&all);
     assert_eq!(bytes.len(), MOST_BYTES);
-    assert!(all.iter().all(|e| (e.d(), e.m()) == (4, 8)));
+    assert!(all.iter().all(|e| (e.d(), e.m(), e.draft) == (4, 8, true)));
     assert_eq!(read(&bytes), Ok(all));
     bytes.extend([0, 0, 0, 0x40]);
     assert_eq!(read(&bytes).map_err(|r| r.number), Err(9));

@@ -7,6 +7,12 @@ use reference::catalogue::listing::listing;
 use reference::catalogue::text::{entries, text};
 use reference::catalogue::writer::write;
 
+/// The lines that are entries.
+fn without_comments(text: &str) -> String {
+    let lines = text.split_inclusive('\n');
+    lines.filter(|line| !line.starts_with('#')).collect()
+}
+
 /// Entries and standing entries of a sample.
 fn counts(name: &str) -> String {
     let folder = Path::new(env!("CARGO_MANIFEST_DIR")).join("../../samples");
@@ -15,7 +21,7 @@ fn counts(name: &str) -> String {
     let list = entries(&words).unwrap();
     let bytes = read(path("catalogue")).unwrap();
     let lines = read_to_string(path("listing")).unwrap();
-    assert_eq!(text(&list), words);
+    assert_eq!(text(&list), without_comments(&words));
     assert_eq!(write(&list), bytes);
     assert_eq!(listing(&bytes), lines);
     lines.lines().next().unwrap().to_string()
@@ -26,4 +32,5 @@ fn samples() {
     assert_eq!(counts("generators"), "51 27");
     assert_eq!(counts("cells"), "28 16");
     assert_eq!(counts("embedded"), "26 16");
+    assert_eq!(counts("drafts"), "11 7");
 }

@@ -1,7 +1,8 @@
 -- The catalogue's own refusals first; the list is closed, then folded, then written.
 use mathlib.Core.Path.{ap, _∙_}
+use native.Mathlib.Omega.{arith}
 use Rattle.catalogue_records.specs.Catalogues.{writtenOf}
-use Rattle.catalogue_standing.specs.ReducedEntries.{WasRead, ready, keeps-fair}
+use Rattle.catalogue_standing.specs.ReducedEntries.{WasRead, ready}
 use Rattle.catalogue.specs.Outcome.{not-folded, few-folded, formed-folded, fold-written}
 use borrow.Author.Needs.{needs}
 use Rattle.catalogue.proofs.fold.Statement.{statement}
@@ -24,13 +25,16 @@ lattices-of-requires : tie.Need-lattices-of-requires
 lattices-of-requires c κs = prepared c
 
 closed-requires : tie.Need-closed-requires
-closed-requires c κs = let r = prepared (c .before) in (r .few, keeps-fair _ r (c .lattices-of .ensures))
+closed-requires c κs = (prepared (c .before), c .lattices-of .ensures)
 
 slice-aggregate-folded : tie.Need-slice-aggregate-folded
 slice-aggregate-folded c = search needs
 
 folded-requires : tie.Need-folded-requires
-folded-requires c κs = (prepared (c .before .before .before), (c .before .before .lattices-of .ensures, c .before .closed .ensures))
+folded-requires c κs =
+    let r = prepared (c .before .before .before) in
+    let closed = c .before .closed .ensures in
+    (r, (c .before .before .lattices-of .ensures, (omega (arith, r .few, closed .1), closed .0)))
 
 write-entries-requires : tie.Need-write-entries-requires
 write-entries-requires c κs =

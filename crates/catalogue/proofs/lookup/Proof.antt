@@ -1,5 +1,5 @@
 -- The catalogue's own refusals first, then the place of the number, then that of its standing entry.
-use mathlib.Core.Path.{_≡_, sym, ap₂, _∙_, subst}
+use mathlib.Core.Path.{_≡_, sym, _∙_, subst}
 use mathlib.Core.List.{List}
 use Prim.Native.Nat.{_<_}
 use native.Mathlib.Omega.{arith}
@@ -8,10 +8,9 @@ use lib.ListN.{length, getD}
 use borrow.Author.Needs.{needs}
 use Rattle.catalogue_rules.specs.Catalogue.{Entry, mostEntries}
 use Rattle.catalogue_records.specs.EntriesIn.{entryIn, entriesIn}
-use Rattle.catalogue_records.specs.Entries.{beyond, at-place}
-use Rattle.fold_rules.specs.Fold.{sameLattice}
-use Rattle.catalogue_standing.specs.Places.{First, first-like}
-use Rattle.catalogue_standing.specs.Standing.{Numbers}
+use Rattle.catalogue_records.specs.Entries.{beyond}
+use Rattle.catalogue_standing.specs.Places.{First}
+use Rattle.catalogue_standing.specs.Numbers.{Numbers}
 use Rattle.catalogue_standing.specs.ReducedEntries.{WasRead, ready, ready-length, ready-numbers}
 use Rattle.catalogue.specs.Finding.{looked-refused, looked-up}
 use Rattle.catalogue_standing.specs.Looking.{lookup-first, lookup-lost}
@@ -76,7 +75,7 @@ small-place : (c : tie.After-standing-place) → (c .before .before .before .pla
 small-place c =
     let e = c .before in
     let few = prepared (else1 (e .before .before)) .few in
-    (omega (arith, counted e, few), omega (arith, c .standing-place .ensures .within, counted e, few))
+    (omega (arith, counted e, few), omega (arith, c .standing-place .ensures .within, ready-length _ (prepared (else1 (e .before .before))), few))
 
 mul-t11 : tie.Need-mul-t11
 mul-t11 c = omega (arith, small-place c .0, small-place c .1)
@@ -84,23 +83,12 @@ mul-t11 c = omega (arith, small-place c .0, small-place c .1)
 array-read-t14 : tie.Need-array-read-t14
 array-read-t14 c = omega (arith, small-place c .0, small-place c .1, all (c .before .before .before .before .before))
 
-found : (c : tie.After-standing-place) →
-    let p = c .before .before .before in
-    First (λ j. sameLattice (getD (entries p) j (entryIn beyond)) (getD (entries p) (p .place-of .result) (entryIn beyond))) (p .place-of .result) (c .standing-place .result)
-found c =
-    let e = c .before in
-    let p = e .before .before in
-    let r = prepared (else1 p) in
-    let k = counted e in
-    let all = else1 p .before .before .read .result in
-    first-like (λ j h. sym (ap₂ sameLattice (at-place all (r .long) (r .few) j (omega (arith, h, k))) (at-place all (r .long) (r .few) (p .place-of .result) k))) (c .standing-place .ensures)
-
 returns-3 : tie.Need-returns-3
 returns-3 c =
     let e = c .before in
     let p = e .before .before in
     let r = else1 p .before .before in
-    looked-up (r .before .before .args .bytes .now) (r .read .ensures) _ (else1 p .if1 .left) (lookup-first _ _ (prepared (else1 p) .formed) (named p) _ (first p) (below e) (found c))
+    looked-up (r .before .before .args .bytes .now) (r .read .ensures) _ (else1 p .if1 .left) (lookup-first _ _ (prepared (else1 p) .formed) (named p) _ (first p) (below e) (c .standing-place .ensures))
 
 pub lookup-spec : {M : Type 1} → statement M
 lookup-spec =

@@ -12,7 +12,7 @@ use Rattle.catalogue_records.specs.EntriesIn.{entryIn, entriesIn}
 use Rattle.catalogue_records.specs.Entries.{beyond, entryAt, at-place}
 use Rattle.separation_rules.specs.Separation.{told, separation}
 use Rattle.catalogue_standing.specs.Places.{First}
-use Rattle.catalogue_standing.specs.Standing.{Numbers}
+use Rattle.catalogue_standing.specs.Numbers.{Numbers}
 use Rattle.catalogue_standing.specs.ReducedEntries.{WasRead, ready, ready-length, ready-numbers, ready-sound}
 use Rattle.catalogue.specs.Separating.{separate-refused, first-nowhere, second-nowhere, both-there, entry-there, entry-nowhere}
 use Rattle.catalogue.proofs.separate.Statement.{statement}

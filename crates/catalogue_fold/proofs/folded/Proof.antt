@@ -7,7 +7,6 @@ use borrow.Author.Needs.{needs}
 use Rattle.catalogue_rules.specs.Catalogue.{mostEntries}
 use Rattle.catalogue_records.specs.declared.Catalogue.{Catalogue}
 use Rattle.catalogue_records.specs.EntriesIn.{entriesIn}
-use Rattle.catalogue_standing.specs.ReducedEntries.{keeps-standing}
 use Rattle.catalogue_fold.specs.Folding.{Folds, folds-none}
 use Rattle.catalogue_fold.specs.Steps.{full, passed-over, printed-next, all-printed}
 use Rattle.catalogue_fold.proofs.folded.Statement.{statement}
@@ -33,8 +32,7 @@ carried-ways-requires : tie.Need-carried-ways-requires Inv-loop μ-loop
 carried-ways-requires c κs =
     let n = c .before in
     let s = n .before .before in
-    let closed = s .pre .1 .1 in
-    (s .pre .0, (n .numbers .ensures, (omega (arith, s .pre .0 .few, closed .long), keeps-standing (s .args .t1) (s .pre .0) (s .pre .1 .0) closed)))
+    (s .pre .0, (n .numbers .ensures, (s .pre .1 .1 .0, s .pre .1 .1 .1)))
 
 empty-requires : tie.Need-empty-requires Inv-loop μ-loop
 empty-requires c κs = search needs
@@ -56,7 +54,7 @@ mul-if1 : tie.Need-mul-if1 Inv-loop μ-loop
 mul-if1 c = omega (arith, small c)
 
 shared-slice-read-if1 : tie.Need-shared-slice-read-if1 Inv-loop μ-loop
-shared-slice-read-if1 c = omega (arith, small (c .before), start (c .before .before) .pre .1 .1 .long)
+shared-slice-read-if1 c = omega (arith, c .before .loop-test .taken, start (c .before .before) .pre .1 .1 .0)
 
 mul-e : tie.Need-mul-e Inv-loop μ-loop
 mul-e c = omega (arith, small (c .before .before))
@@ -80,7 +78,7 @@ printed-requires : tie.Need-printed-requires Inv-loop μ-loop
 printed-requires c κs =
     let i = c .before .before .before .before .before in
     let s = start (i .before) in
-    full _ (s .pre .0) (s .pre .1 .0) (s .pre .1 .1) (i .before .loop .k) (i .loop-test .taken)
+    full _ (s .pre .0) (s .pre .1 .0) (s .pre .1 .1 .1) (i .before .loop .k) (i .loop-test .taken)
 
 mul-entries : tie.Need-mul-entries Inv-loop μ-loop
 mul-entries c = omega (arith, small-count (c .before .before .before .before .before .before))
@@ -104,8 +102,8 @@ loop-again c =
     let here = c .before .before .loop-test .taken in
     let carried = l .before .before .before .carried-ways .ensures in (
       search needs,
-      ⊎-elim (λ x. printed-next (s .args .t1) (s .pre .0) (s .pre .1 .0) (s .pre .1 .1) (l .loop .k) here (l .loop .inv .1) (x .0 .taken) carried (x .4 .ensures) (x .5) (x .6))
-          (λ x. passed-over (s .args .t1) (s .pre .0) (s .pre .1 .0) (s .pre .1 .1) (l .loop .k) here (l .loop .inv .1) (x .0 .left) (x .1) (x .2)) (c .if1 .came),
+      ⊎-elim (λ x. printed-next (s .args .t1) (s .pre .0) (s .pre .1 .0) (s .pre .1 .1 .1) (l .loop .k) here (l .loop .inv .1) (x .0 .taken) carried (x .4 .ensures) (x .5) (x .6))
+          (λ x. passed-over (s .args .t1) (s .pre .0) (s .pre .1 .0) (s .pre .1 .1 .1) (l .loop .k) here (l .loop .inv .1) (x .0 .left) (x .1) (x .2)) (c .if1 .came),
     )
 
 returns : tie.Need-returns Inv-loop μ-loop

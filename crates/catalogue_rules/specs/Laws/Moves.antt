@@ -11,10 +11,10 @@ use lib.Seq.{append-snoc}
 use borrow.Author.Tests.{eqb-true, ltb-false, not-false}
 use Rattle.lattices.specs.Vector.{Vec}
 use Rattle.integers.specs.All.{All}
-use Rattle.catalogue_rules.specs.Word.{Word, head, coordinate, see, end, other, decode, wordsOf}
+use Rattle.catalogue_rules.specs.Word.{Word, head, coordinate, see, end, draft, other, decode, wordsOf}
 use Rattle.catalogue_rules.specs.Catalogue.{Head, See, Entry, Outcome, refused, accepted, refusal, entries, mostBytes}
 use Rattle.integers.specs.First.{firstGiven}
-use Rattle.catalogue_rules.specs.Read.{State, outside, inside, after, closed, Step, next, stop, checked, headRows, coordinateRows, endRows, fileRows, withEntry, coordinateOf, withCoordinate, atHead, atCoordinate, atEnd, step, dependentAt, lostAt, afterReading, afterWords, atLast, readWords, read}
+use Rattle.catalogue_rules.specs.Read.{State, outside, inside, after, closed, Step, next, stop, checked, headRows, coordinateRows, draftRows, endRows, fileRows, withEntry, coordinateOf, withCoordinate, atHead, atCoordinate, atDraft, atEnd, step, dependentAt, lostAt, afterReading, afterWords, atLast, readWords, read}
 
 -- ---- rows of the table
 
@@ -37,13 +37,14 @@ checked-case N Q refuse (r ∷ rows) a stops numbers goes = go (r .0) refl (λ e
 -- a head or the end may stand after these entries
 pub data Between : State → List Entry → Type 0 where
   between : (es : List Entry) → Between (outside es) es
-  unreferred : (es : List Entry) (h : Head) (vs : List Vec) → Between (after es h vs) (withEntry es h vs none)
+  unreferred : (es : List Entry) (h : Head) (vs : List Vec) (marked : Bool) → Between (after es h vs marked) (withEntry es h vs marked none)
 
 pub data Moves : State → ℕ → Word → State → Type 0 where
   by-head : {s : State} {es : List Entry} (h : Head) → Between s es → NoneOf (headRows es h) → Moves s (h .place) (head (h .number) (h .d) (h .m)) (inside es h [] [])
   by-coordinate : {i : ℕ} (es : List Entry) (h : Head) (vs : List Vec) (v : Vec) (l : ℕ) → NoneOf (coordinateRows h (v ++ (coordinateOf l ∷ [])) l)
       → Moves (inside es h vs v) i (coordinate l) (withCoordinate es h vs (v ++ (coordinateOf l ∷ [])))
-  by-see : (es : List Entry) (h : Head) (vs : List Vec) (s : See) → Moves (after es h vs) (s .place) (see (s .number)) (outside (withEntry es h vs (some s)))
+  by-draft : {i : ℕ} (es : List Entry) (h : Head) (vs : List Vec) → Moves (after es h vs false) i (draft 1) (after es h vs true)
+  by-see : (es : List Entry) (h : Head) (vs : List Vec) (marked : Bool) (s : See) → Moves (after es h vs marked) (s .place) (see (s .number)) (outside (withEntry es h vs marked (some s)))
   by-end : {s : State} {es : List Entry} {i : ℕ} → Between s es → Moves s i (end (length es)) (closed es)
 
 -- a step goes on so that Q holds, or stops with a number
@@ -64,23 +65,32 @@ coordinate-moves es h vs v i l =
     checked-case (λ n. n ≢ 0) (Going (Moves (inside es h vs v) i (coordinate l))) stop (coordinateRows h (v ++ (coordinateOf l ∷ [])) l) (next (withCoordinate es h vs (v ++ (coordinateOf l ∷ [])))) (λ n h. h) (omega arith)
     (λ p. by-coordinate es h vs v l p)
 
+draft-moves : (es : List Entry) (h : Head) (vs : List Vec) (marked : Bool) (i l : ℕ) → Going (Moves (after es h vs marked) i (draft l)) (atDraft es h vs marked l)
+draft-moves es h vs marked i l =
+    checked-case (λ n. n ≢ 0) (Going (Moves (after es h vs marked) i (draft l))) stop (draftRows marked l) (next (after es h vs true)) (λ n h. h) (omega arith)
+    (λ p. subst (λ l. Moves (after es h vs marked) i (draft l) (after es h vs true)) (sym (eqb-true l 1 (not-false _ (p .1 .0))))
+    (subst (λ b. Moves (after es h vs b) i (draft 1) (after es h vs true)) (sym (p .0)) (by-draft es h vs)))
+
 pub moved : (s : State) (i : ℕ) (w : Word) → Going (Moves s i w) (step s i w)
 unfolding step
 moved (outside es) i (head number d m) = head-moves (outside es) es (between es) (record { number = number; d = d; m = m; place = i })
 moved (outside es) i (coordinate l) = omega arith
 moved (outside es) i (see number) = omega arith
 moved (outside es) i (end count) = end-moves (outside es) es (between es) i count
+moved (outside es) i (draft l) = omega arith
 moved (outside es) i (other k l) = omega arith
 moved (inside es h vs v) i (head number d m) = omega arith
 moved (inside es h vs v) i (coordinate l) = coordinate-moves es h vs v i l
 moved (inside es h vs v) i (see number) = omega arith
 moved (inside es h vs v) i (end count) = omega arith
+moved (inside es h vs v) i (draft l) = omega arith
 moved (inside es h vs v) i (other k l) = omega arith
-moved (after es h vs) i (head number d m) = head-moves (after es h vs) (withEntry es h vs none) (unreferred es h vs) (record { number = number; d = d; m = m; place = i })
-moved (after es h vs) i (coordinate l) = omega arith
-moved (after es h vs) i (see number) = by-see es h vs (record { number = number; place = i })
-moved (after es h vs) i (end count) = end-moves (after es h vs) (withEntry es h vs none) (unreferred es h vs) i count
-moved (after es h vs) i (other k l) = omega arith
+moved (after es h vs marked) i (head number d m) = head-moves (after es h vs marked) (withEntry es h vs marked none) (unreferred es h vs marked) (record { number = number; d = d; m = m; place = i })
+moved (after es h vs marked) i (coordinate l) = omega arith
+moved (after es h vs marked) i (see number) = by-see es h vs marked (record { number = number; place = i })
+moved (after es h vs marked) i (end count) = end-moves (after es h vs marked) (withEntry es h vs marked none) (unreferred es h vs marked) i count
+moved (after es h vs marked) i (draft l) = draft-moves es h vs marked i l
+moved (after es h vs marked) i (other k l) = omega arith
 moved (closed es) i w = omega arith
 
 -- ---- to the end
@@ -122,7 +132,7 @@ module _ (P : List ℕ → State → Type 0) (keeps : (past : List ℕ) (s t : S
   last-kept : (past : List ℕ) (s : State) (i : ℕ) → P past s → WhenAccepted (λ es. P past (closed es)) (atLast s i)
   last-kept past (outside es) i p = omega arith
   last-kept past (inside es h vs v) i p = omega arith
-  last-kept past (after es h vs) i p = omega arith
+  last-kept past (after es h vs marked) i p = omega arith
   last-kept past (closed es) i p = p
 
   pub words-kept : (words past : List ℕ) (s : State) (i : ℕ) → P past s → WhenAccepted (λ es. P (past ++ words) (closed es)) (readWords s i words)

@@ -8,8 +8,8 @@ use lib.ListN.{length}
 use Rattle.integers.specs.All.{All, Some}
 use Rattle.catalogue_rules.specs.Word.{Word, end, encode, bytesOf}
 use Rattle.catalogue_rules.specs.Catalogue.{See, Entry, coordinates}
-use Rattle.catalogue_rules.specs.Write.{headWord, coordinateWord, seeWords, entriesWords, write}
-use Rattle.catalogue_rules.specs.Form.{seeAt, pastSee, pastVectors, entryAt, placed}
+use Rattle.catalogue_rules.specs.Write.{headWord, coordinateWord, draftWords, seeWords, entriesWords, write}
+use Rattle.catalogue_rules.specs.Form.{seeAt, pastSee, pastMark, entryAt, placed}
 
 pub length-placed : (i : ℕ) (es : List Entry) → length (placed i es) ≡ length es
 length-placed i [] = refl
@@ -24,7 +24,7 @@ see-words i (some s) = refl
 entries-words : (i : ℕ) (es : List Entry) → entriesWords (placed i es) ≡ entriesWords es
 entries-words i [] = refl
 entries-words i (e ∷ es) =
-    ap₂ (λ (s t : List Word). headWord (e .head) ∷ (map coordinateWord (coordinates (e .vectors)) ++ s) ++ t) (see-words (pastVectors i (e .vectors)) (e .see)) (entries-words _ es)
+    ap₂ (λ (s t : List Word). headWord (e .head) ∷ (map coordinateWord (coordinates (e .vectors)) ++ (draftWords (e .draft) ++ s)) ++ t) (see-words (pastMark i e) (e .see)) (entries-words _ es)
 
 pub write-placed : (i : ℕ) (es : List Entry) → write (placed i es) ≡ write es
 unfolding write
@@ -43,8 +43,8 @@ past-again i (some s) = refl
 pub placed-again : (i : ℕ) (es : List Entry) → placed i (placed i es) ≡ placed i es
 placed-again i [] = refl
 placed-again i (e ∷ es) =
-    let j = pastVectors i (e .vectors) in
-    ap₂ _∷_ (ap (λ o. record { head = entryAt i e .head; vectors = e .vectors; see = o }) (see-again j (e .see)))
+    let j = pastMark i e in
+    ap₂ _∷_ (ap (λ o. record { head = entryAt i e .head; vectors = e .vectors; draft = e .draft; see = o }) (see-again j (e .see)))
     (ap (λ k. placed k (placed (pastSee j (e .see)) es)) (past-again j (e .see)) ∙ placed-again (pastSee j (e .see)) es)
 
 -- ---- properties

@@ -16,7 +16,7 @@ use Rattle.catalogue_rules.specs.Laws.Word.{words-bytes, length-bytes}
 use Rattle.catalogue_rules.specs.Catalogue.{See, Entry, refused, accepted, entries, mostBytes, mostEntries}
 use Rattle.catalogue_rules.specs.Read.{State, step, outside, closed, fileRows, isNumbered, dependentAt, lostAt, afterReading, afterWords, readWords, read}
 use Rattle.catalogue_rules.specs.Write.{entriesWords, catalogueWords, write}
-use Rattle.catalogue_rules.specs.Form.{mostNumber, EntryFits, EntryIndependent, Names, WellFormed, seeAt, pastVectors, entryAt, placed}
+use Rattle.catalogue_rules.specs.Form.{mostNumber, EntryFits, EntryIndependent, Names, WellFormed, seeAt, pastMark, entryAt, placed}
 use Rattle.catalogue_rules.specs.Laws.Placed.{length-placed, all-placed}
 use Rattle.catalogue_rules.specs.Laws.Moves.{Between, between}
 use Rattle.catalogue_rules.specs.Laws.RoundTrip.{same-entries}
@@ -51,7 +51,7 @@ numbered-placed n i [] = refl
 numbered-placed n i (e ∷ es) = ap (λ t. isNumbered n e || t) (numbered-placed n _ es)
 
 found : (all fs : List Entry) → ((n : ℕ) → any (isNumbered n) fs ≡ any (isNumbered n) all) → (e : Entry) → Names all (e .see) → (j : ℕ) → lostAt fs (entryAt j e) ≡ none
-found all fs same e p j = go (e .see) p (pastVectors j (e .vectors))
+found all fs same e p j = go (e .see) p (pastMark j e)
   where
     go : (o : Option See) → Names all o → (k : ℕ)
         → _≡_ {A = Option ℕ} (elim (seeAt k o) [ none ↦ none | some s ↦ elim (any (isNumbered (s .number)) fs) [ true ↦ none | false ↦ some (s .place) ] ]) none

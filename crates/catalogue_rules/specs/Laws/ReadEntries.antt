@@ -1,6 +1,6 @@
--- Reading entries that were written: a head, its vectors and its see word, entry by entry, each at its place.
+-- Reading entries that were written: a head, its vectors, its mark and its see word, entry by entry, each at its place.
 use mathlib.Core.Path.{_≡_, refl, sym, ap, ap₂, _∙_, subst}
-use mathlib.Core.Bool.{false, not, _||_}
+use mathlib.Core.Bool.{Bool, true, false, not, _||_}
 use mathlib.Core.List.{List, [], _∷_, _++_, map, append-assoc, append-nil, map-append}
 use mathlib.Core.Option.{Option, none, some}
 use Prim.Native.Nat.{ℕ, suc, _+_, _^_, _≤_, _<_}
@@ -14,12 +14,12 @@ use Rattle.lattices.specs.Refusal.{mostVectors, mostCoordinates}
 use Rattle.integers.specs.Tests.{neither}
 use Rattle.lattices.specs.Laws.Refusal.{one-to}
 use Rattle.integers.specs.All.{All}
-use Rattle.catalogue_rules.specs.Word.{head, see, encode}
+use Rattle.catalogue_rules.specs.Word.{head, see, draft, encode}
 use Rattle.catalogue_rules.specs.Laws.Word.{InRange}
 use Rattle.catalogue_rules.specs.Catalogue.{Head, See, Entry, Outcome, coordinates, mostEntries}
 use Rattle.catalogue_rules.specs.Read.{State, outside, inside, after, headRows, isNumbered, withEntry, step, readWords}
-use Rattle.catalogue_rules.specs.Write.{headWord, coordinateWord, seeWords, entryWords, entriesWords, encodedCoordinates}
-use Rattle.catalogue_rules.specs.Form.{mostNumber, HeadFits, EntryFits, Distinct, seeAt, pastSee, pastVectors, headAt, entryAt, placed}
+use Rattle.catalogue_rules.specs.Write.{headWord, coordinateWord, draftWords, seeWords, entryWords, entriesWords, encodedCoordinates}
+use Rattle.catalogue_rules.specs.Form.{mostNumber, HeadFits, EntryFits, Distinct, seeAt, pastSee, pastVectors, pastDraft, pastMark, headAt, entryAt, placed}
 use Rattle.catalogue_rules.specs.Laws.Moves.{NoneOf, Between, between, unreferred}
 use Rattle.catalogue_rules.specs.Laws.ReadVectors.{one-word, at-head, all-vectors}
 use Rattle.catalogue_rules.specs.Laws.WellFormed.{any-snoc, eqb-turned}
@@ -36,13 +36,19 @@ abbrev pub SeeFits : Option See → Type 0
 SeeFits none = Unit {0}
 SeeFits (some s) = s .number < 2 ^ 28
 
-seen : (es : List Entry) (h : Head) (vs : List Vec) (i : ℕ) (o : Option See) (words : List ℕ) → SeeFits o
-    → Reached (withEntry es h vs (seeAt i o)) (pastSee i o) words (readWords (after es h vs) i (map encode (seeWords o) ++ words))
+seen : (es : List Entry) (h : Head) (vs : List Vec) (marked : Bool) (i : ℕ) (o : Option See) (words : List ℕ) → SeeFits o
+    → Reached (withEntry es h vs marked (seeAt i o)) (pastSee i o) words (readWords (after es h vs marked) i (map encode (seeWords o) ++ words))
 unfolding step
-seen es h vs i none words p = record { state = after es h vs; here = unreferred es h vs; same = refl }
-seen es h vs i (some s) words p =
-    let fs = withEntry es h vs (seeAt i (some s)) in
-    record { state = outside fs; here = between fs; same = one-word (after es h vs) (outside fs) i (see (s .number)) words p refl }
+seen es h vs marked i none words p = record { state = after es h vs marked; here = unreferred es h vs marked; same = refl }
+seen es h vs marked i (some s) words p =
+    let fs = withEntry es h vs marked (seeAt i (some s)) in
+    record { state = outside fs; here = between fs; same = one-word (after es h vs marked) (outside fs) i (see (s .number)) words p refl }
+
+marking : (es : List Entry) (h : Head) (vs : List Vec) (d : Bool) (i : ℕ) (words : List ℕ)
+    → readWords (after es h vs false) i (map encode (draftWords d) ++ words) ≡ readWords (after es h vs d) (pastDraft i d) words
+unfolding step
+marking es h vs true i words = one-word (after es h vs false) (after es h vs true) i (draft 1) words (omega arith) refl
+marking es h vs false i words = refl
 
 head-passes : (es : List Entry) (h : Head) → HeadFits h → length es < mostEntries → any (isNumbered (h .number)) es ≡ false → NoneOf (headRows es h)
 head-passes es h p few new =
@@ -56,22 +62,24 @@ head-range h p =
     let m = one-to mostCoordinates (h .m) (p .m) in
     omega arith
 
-head-and-vectors : (s : State) (es : List Entry) (e : Entry) (words : List ℕ) → Between s es → EntryFits e → length es < mostEntries → any (isNumbered (e .head .number)) es ≡ false
-    → readWords s (e .head .place) (map encode (entryWords e) ++ words) ≡ readWords (after es (e .head) (e .vectors)) (pastVectors (e .head .place) (e .vectors)) (map encode (seeWords (e .see)) ++ words)
-head-and-vectors s es e words b fits few new =
+up-to-mark : (s : State) (es : List Entry) (e : Entry) (words : List ℕ) → Between s es → EntryFits e → length es < mostEntries → any (isNumbered (e .head .number)) es ≡ false
+    → readWords s (e .head .place) (map encode (entryWords e) ++ words) ≡ readWords (after es (e .head) (e .vectors) (e .draft)) (pastMark (e .head .place) e) (map encode (seeWords (e .see)) ++ words)
+up-to-mark s es e words b fits few new =
     let h = e .head in
     let cs = coordinates (e .vectors) in
     let more = map encode (seeWords (e .see)) ++ words in
-    let split : map encode (map coordinateWord cs ++ seeWords (e .see)) ++ words ≡ encodedCoordinates cs ++ more = simp (map-append, append-assoc) in
+    let mark = map encode (draftWords (e .draft)) ++ more in
+    let split : map encode (map coordinateWord cs ++ (draftWords (e .draft) ++ seeWords (e .see))) ++ words ≡ encodedCoordinates cs ++ mark = simp (map-append, append-assoc) in
     ap (λ l. readWords s (h .place) (encode (headWord h) ∷ l)) split
-    ∙ one-word s (inside es h [] []) (h .place) (headWord h) (encodedCoordinates cs ++ more) (head-range h (fits .head)) (at-head h b (head-passes es h (fits .head) few new))
-    ∙ all-vectors es h (e .vectors) (suc (h .place)) more (one-to mostVectors (h .d) (fits .head .d) .0) (one-to mostCoordinates (h .m) (fits .head .m) .0) (fits .vectors) (fits .count)
+    ∙ one-word s (inside es h [] []) (h .place) (headWord h) (encodedCoordinates cs ++ mark) (head-range h (fits .head)) (at-head h b (head-passes es h (fits .head) few new))
+    ∙ all-vectors es h (e .vectors) (suc (h .place)) mark (one-to mostVectors (h .d) (fits .head .d) .0) (one-to mostCoordinates (h .m) (fits .head .m) .0) (fits .vectors) (fits .count)
+    ∙ marking es h (e .vectors) (e .draft) (pastVectors (h .place) (e .vectors)) more
 
 -- ---- entries
 
 abbrev pub pastEntries : ℕ → List Entry → ℕ
 pastEntries i [] = i
-pastEntries i (e ∷ es) = pastEntries (pastSee (pastVectors i (e .vectors)) (e .see)) es
+pastEntries i (e ∷ es) = pastEntries (pastSee (pastMark i e) (e .see)) es
 
 -- none of these numbers is used among the entries before
 abbrev pub New : List Entry → List Entry → Type 0
@@ -83,7 +91,7 @@ new-after past e (f ∷ es) p q =
     let r = neither (isNumbered (e .head .number) f) (any (isNumbered (e .head .number)) es) q in
     (any-snoc (isNumbered (f .head .number)) past e (p .0) (eqb-turned (f .head .number) (e .head .number) (r .0)), new-after past e es (p .1) (r .1))
 
-fits-at : (i : ℕ) (e : Entry) → EntryFits e → EntryFits (record { head = headAt i (e .head); vectors = e .vectors; see = e .see })
+fits-at : (i : ℕ) (e : Entry) → EntryFits e → EntryFits (record { head = headAt i (e .head); vectors = e .vectors; draft = e .draft; see = e .see })
 fits-at i e p = record { head = record { number = p .head .number; d = p .head .d; m = p .head .m }; count = p .count; vectors = p .vectors }
 
 pub entries-read : (s : State) (past es : List Entry) (i : ℕ) (words : List ℕ) → Between s past
@@ -91,13 +99,13 @@ pub entries-read : (s : State) (past es : List Entry) (i : ℕ) (words : List �
     → Reached (past ++ placed i es) (pastEntries i es) words (readWords s i (map encode (entriesWords es) ++ words))
 entries-read s past [] i words b few fits sees distinct new = record { state = s; here = subst (Between s) (sym (append-nil past)) b; same = refl }
 entries-read s past (e ∷ es) i words b few fits sees distinct new =
-    let f : Entry = record { head = headAt i (e .head); vectors = e .vectors; see = e .see } in
-    let j = pastSee (pastVectors i (e .vectors)) (e .see) in
+    let f : Entry = record { head = headAt i (e .head); vectors = e .vectors; draft = e .draft; see = e .see } in
+    let j = pastSee (pastMark i e) (e .see) in
     let more = map encode (entriesWords es) ++ words in
     let split : map encode (entryWords e ++ entriesWords es) ++ words ≡ map encode (entryWords e) ++ more =
     ap (λ l. l ++ words) (map-append encode (entryWords e) (entriesWords es)) ∙ append-assoc (map encode (entryWords e)) (map encode (entriesWords es)) words in
-    let one = head-and-vectors s past f more b (fits-at i e (fits .0)) (omega arith) (new .0) in
-    let r = seen past (headAt i (e .head)) (e .vectors) (pastVectors i (e .vectors)) (e .see) more (sees .0) in
+    let one = up-to-mark s past f more b (fits-at i e (fits .0)) (omega arith) (new .0) in
+    let r = seen past (headAt i (e .head)) (e .vectors) (e .draft) (pastMark i e) (e .see) more (sees .0) in
     let t = entries-read (r .state) (past ++ (entryAt i e ∷ [])) es j words (r .here) (omega (arith, length-append past (entryAt i e ∷ []))) (fits .1) (sees .1) (distinct .1)
     (new-after past (entryAt i e) es (new .1) (distinct .0)) in
     record {

@@ -1,7 +1,7 @@
 -- Reading words that were written: a head, a see word, the end, and the coordinates of an entry whose vectors fit.
 use mathlib.Core.Path.{_≡_, refl, sym, ap, ap₂, _∙_}
 use mathlib.Core.Bool.{Bool, true, false, not, _&&_, _||_}
-use mathlib.Core.List.{List, [], _∷_, _++_, map, append-assoc, append-nil, map-append}
+use mathlib.Core.List.{List, [], _∷_, _++_, append-assoc, append-nil, map-append}
 use mathlib.Core.Option.{none}
 use Prim.Native.Nat.{ℕ, suc, _+_, _-_, _≤_}
 use native.Mathlib.Omega.{arith}
@@ -40,7 +40,7 @@ one-word s t i w words h e =
 pub at-head : {s : State} {es : List Entry} (h : Head) → Between s es → NoneOf (headRows es h) → step s (h .place) (headWord h) ≡ next (inside es h [] [])
 unfolding step
 at-head h (between es) p = passes stop (headRows es h) _ p
-at-head h (unreferred es g vs) p = passes stop (headRows (withEntry es g vs none) h) _ p
+at-head h (unreferred es g vs marked) p = passes stop (headRows (withEntry es g vs marked none) h) _ p
 
 end-passes : (es : List Entry) → atEnd es (length es) ≡ next (closed es)
 end-passes es = passes stop (endRows es (length es)) (next (closed es)) (ap not (eq-eqb (length es) (length es) refl), tt)
@@ -48,7 +48,7 @@ end-passes es = passes stop (endRows es (length es)) (next (closed es)) (ap not 
 pub at-end : {s : State} {es : List Entry} (i : ℕ) → Between s es → step s i (end (length es)) ≡ next (closed es)
 unfolding step
 at-end i (between es) = end-passes es
-at-end i (unreferred es h vs) = end-passes (withEntry es h vs none)
+at-end i (unreferred es h vs marked) = end-passes (withEntry es h vs marked none)
 
 -- ---- a coordinate
 
@@ -118,22 +118,22 @@ encoded-append xs ys words = simp (map-append, append-assoc)
 -- the vectors that follow those of vs
 rest-of-vectors : (es : List Entry) (h : Head) (vs : List Vec) (u : Vec) (us : List Vec) (i : ℕ) (words : List ℕ)
     → 1 ≤ h .m → All (VectorFits (h .m)) (u ∷ us) → length (vs ++ (u ∷ us)) ≡ h .d
-    → readWords (inside es h vs []) i (encodedCoordinates (coordinates (u ∷ us)) ++ words) ≡ readWords (after es h (vs ++ (u ∷ us))) (i + length (coordinates (u ∷ us))) words
+    → readWords (inside es h vs []) i (encodedCoordinates (coordinates (u ∷ us)) ++ words) ≡ readWords (after es h (vs ++ (u ∷ us)) false) (i + length (coordinates (u ∷ us))) words
 rest-of-vectors es h vs u [] i words one fits count =
     ap (readWords (inside es h vs []) i) (encoded-append u [] words)
     ∙ one-vector es h vs u i words one (fits .0)
-    ∙ ap₂ (λ s j. readWords s j words) (ap (λ t. elim t [ true ↦ after es h (vs ++ (u ∷ [])) | false ↦ inside es h (vs ++ (u ∷ [])) [] ]) (eq-eqb _ _ count))
+    ∙ ap₂ (λ s j. readWords s j words) (ap (λ t. elim t [ true ↦ after es h (vs ++ (u ∷ [])) false | false ↦ inside es h (vs ++ (u ∷ [])) [] ]) (eq-eqb _ _ count))
     (ap (λ l. i + length l) (sym (append-nil u)))
 rest-of-vectors es h vs u (y ∷ us) i words one fits count =
     let more = encodedCoordinates (coordinates (y ∷ us)) ++ words in
     let part : eqb (length (vs ++ (u ∷ []))) (h .d) ≡ false = ne-eqb (length (vs ++ (u ∷ []))) (h .d) (λ p. omega (arith, length-append vs (u ∷ []), length-append vs (u ∷ y ∷ us))) in
     ap (readWords (inside es h vs []) i) (encoded-append u (coordinates (y ∷ us)) words)
     ∙ one-vector es h vs u i more one (fits .0)
-    ∙ ap (λ s. readWords s (i + length u) more) (ap (λ t. elim t [ true ↦ after es h (vs ++ (u ∷ [])) | false ↦ inside es h (vs ++ (u ∷ [])) [] ]) part)
+    ∙ ap (λ s. readWords s (i + length u) more) (ap (λ t. elim t [ true ↦ after es h (vs ++ (u ∷ [])) false | false ↦ inside es h (vs ++ (u ∷ [])) [] ]) part)
     ∙ rest-of-vectors es h (vs ++ (u ∷ [])) y us (i + length u) words one (fits .1) (ap length (append-snoc vs u (y ∷ us)) ∙ count)
-    ∙ ap₂ (λ l j. readWords (after es h l) j words) (append-snoc vs u (y ∷ us)) (omega (arith, length-append u (coordinates (y ∷ us))))
+    ∙ ap₂ (λ l j. readWords (after es h l false) j words) (append-snoc vs u (y ∷ us)) (omega (arith, length-append u (coordinates (y ∷ us))))
 
 pub all-vectors : (es : List Entry) (h : Head) (vs : List Vec) (i : ℕ) (words : List ℕ) → 1 ≤ h .d → 1 ≤ h .m → All (VectorFits (h .m)) vs → length vs ≡ h .d
-    → readWords (inside es h [] []) i (encodedCoordinates (coordinates vs) ++ words) ≡ readWords (after es h vs) (i + length (coordinates vs)) words
+    → readWords (inside es h [] []) i (encodedCoordinates (coordinates vs) ++ words) ≡ readWords (after es h vs false) (i + length (coordinates vs)) words
 all-vectors es h [] i words one full fits count = absurd (omega arith)
 all-vectors es h (u ∷ us) i words one full fits count = rest-of-vectors es h [] u us i words full fits count

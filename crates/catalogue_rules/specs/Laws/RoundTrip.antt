@@ -14,13 +14,13 @@ use Rattle.catalogue_rules.specs.Laws.Word.{encode-decode, bytes-words}
 use Rattle.catalogue_rules.specs.Catalogue.{Head, Entry, coordinates, accepted}
 use Rattle.catalogue_rules.specs.Read.{State, outside, inside, after, closed, withEntry, coordinateOf, withVector, withCoordinate, read}
 use Rattle.catalogue_rules.specs.Write.{headWord, coordinateWord, entryWords, entriesWords, catalogueWords, write}
-use Rattle.catalogue_rules.specs.Laws.Moves.{between, unreferred, Moves, by-head, by-coordinate, by-see, by-end, kept-to-end}
+use Rattle.catalogue_rules.specs.Laws.Moves.{between, unreferred, Moves, by-head, by-coordinate, by-draft, by-see, by-end, kept-to-end}
 
 -- the words that a state has read
 abbrev wordsSoFar : State → List Word
 wordsSoFar (outside es) = entriesWords es
 wordsSoFar (inside es h vs v) = entriesWords es ++ (headWord h ∷ map coordinateWord (coordinates vs ++ v))
-wordsSoFar (after es h vs) = entriesWords (withEntry es h vs none)
+wordsSoFar (after es h vs marked) = entriesWords (withEntry es h vs marked none)
 wordsSoFar (closed es) = catalogueWords es
 
 pub entries-append : (es fs : List Entry) → entriesWords (es ++ fs) ≡ entriesWords es ++ entriesWords fs
@@ -38,7 +38,7 @@ coordinates-snoc (u ∷ vs) v = ap (λ l. u ++ l) (coordinates-snoc vs v) ∙ sy
 vector-words : (es : List Entry) (h : Head) (vs : List Vec) → wordsSoFar (withVector es h vs) ≡ wordsSoFar (inside es h vs [])
 vector-words es h vs = go (eqb (length vs) (h .d))
   where
-    go : (t : Bool) → wordsSoFar (elim t [ true ↦ after es h vs | false ↦ inside es h vs [] ]) ≡ wordsSoFar (inside es h vs [])
+    go : (t : Bool) → wordsSoFar (elim t [ true ↦ after es h vs false | false ↦ inside es h vs [] ]) ≡ wordsSoFar (inside es h vs [])
     go true = entries-snoc es _ ∙ simp append-nil
     go false = refl
 
@@ -57,14 +57,15 @@ one-coordinate es h vs v x = simp (append-assoc, map-append)
 
 grows : {s t : State} {i : ℕ} {w : Word} → Moves s i w t → wordsSoFar t ≡ wordsSoFar s ++ (w ∷ [])
 grows (by-head h (between es) p) = refl
-grows (by-head h (unreferred es g vs) p) = refl
+grows (by-head h (unreferred es g vs marked) p) = refl
 grows (by-coordinate es h vs v l p) =
     coordinate-words es h vs (v ++ (coordinateOf l ∷ []))
     ∙ one-coordinate es h vs v (coordinateOf l)
     ∙ ap (λ w. wordsSoFar (inside es h vs v) ++ (w ∷ [])) (load-back l)
-grows (by-see es h vs s) = simp (entries-snoc, append-assoc, append-nil)
+grows (by-draft es h vs) = simp (entries-snoc, append-assoc, append-nil)
+grows (by-see es h vs marked s) = simp (entries-snoc, append-assoc, append-nil)
 grows (by-end (between es)) = refl
-grows (by-end (unreferred es h vs)) = refl
+grows (by-end (unreferred es h vs marked)) = refl
 
 -- the words read are the words that would be written
 abbrev Same : List ℕ → State → Type 0

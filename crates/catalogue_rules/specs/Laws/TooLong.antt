@@ -1,4 +1,4 @@
--- Files over the limit are refused by their length alone: their bytes after the first 34,820 count only modulo 4.
+-- Files over the limit are refused by their length alone: their bytes after the first 35,844 count only modulo 4.
 use mathlib.Core.Path.{_≡_, refl, sym, ap, _∙_}
 use mathlib.Core.Bool.{Bool, true, false, not}
 use mathlib.Core.List.{List, [], _∷_}

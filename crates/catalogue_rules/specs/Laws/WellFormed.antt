@@ -25,7 +25,7 @@ use Rattle.catalogue_rules.specs.Catalogue.{Head, See, Entry, accepted, 
 use Rattle.catalogue_rules.specs.Read.{State, outside, inside, after, closed, isNumbered, withEntry, coordinateOf, withVector, withCoordinate, dependentAt, lostAt, readWords, read}
 use Rattle.catalogue_rules.specs.Form.{mostNumber, HeadFits, VectorFits, EntryFits, Distinct, Entered, EntryIndependent, Names, WellFormed}
 use Rattle.catalogue_rules.specs.Laws.Word.{InRange, decode-range}
-use Rattle.catalogue_rules.specs.Laws.Moves.{Between, between, unreferred, Moves, by-head, by-coordinate, by-see, by-end, WhenAccepted, words-kept, kept-to-end}
+use Rattle.catalogue_rules.specs.Laws.Moves.{Between, between, unreferred, Moves, by-head, by-coordinate, by-draft, by-see, by-end, WhenAccepted, words-kept, kept-to-end}
 
 -- ---- tests
 
@@ -55,7 +55,7 @@ pub record Headed (es : List Entry) (h : Head) : Type 0 where
 abbrev pub Known : State → Type 0
 Known (outside es) = Entered es
 Known (inside es h vs v) = Headed es h × All (VectorFits (h .m)) vs × (any (λ x. ltb mostSize (natAbs x)) v ≡ false)
-Known (after es h vs) = Headed es h × All (VectorFits (h .m)) vs × (length vs ≡ h .d)
+Known (after es h vs marked) = Headed es h × All (VectorFits (h .m)) vs × (length vs ≡ h .d)
 Known (closed es) = Entered es
 
 distinct-snoc : (es : List Entry) (e : Entry) → Distinct es → any (isNumbered (e .head .number)) es ≡ false → Distinct (es ++ (e ∷ []))
@@ -64,9 +64,9 @@ distinct-snoc (f ∷ es) e p q =
     let r = neither (isNumbered (e .head .number) f) (any (isNumbered (e .head .number)) es) q in
     (any-snoc (isNumbered (f .head .number)) es e (p .0) (eqb-turned (f .head .number) (e .head .number) (r .0)), distinct-snoc es e (p .1) (r .1))
 
-with-entry : (es : List Entry) (h : Head) (vs : List Vec) (s : Option See) → Known (after es h vs) → Entered (withEntry es h vs s)
-with-entry es h vs s k =
-    let e : Entry = record { head = h; vectors = vs; see = s } in
+with-entry : (es : List Entry) (h : Head) (vs : List Vec) (marked : Bool) (s : Option See) → Known (after es h vs marked) → Entered (withEntry es h vs marked s)
+with-entry es h vs marked s k =
+    let e : Entry = record { head = h; vectors = vs; draft = marked; see = s } in
     record {
       few = (let p = length-append es (e ∷ []) in let q = k .0 .few in omega arith);
       fits = all-snoc EntryFits es e (k .0 .entered .fits) (record { head = k .0 .head; count = k .2; vectors = k .1 });
@@ -83,7 +83,7 @@ load-within l e =
 with-vector : (es : List Entry) (h : Head) (vs : List Vec) → Headed es h → All (VectorFits (h .m)) vs → Known (withVector es h vs)
 with-vector es h vs k r = go (eqb (length vs) (h .d)) refl
   where
-    go : (t : Bool) → eqb (length vs) (h .d) ≡ t → Known (elim t [ true ↦ after es h vs | false ↦ inside es h vs [] ])
+    go : (t : Bool) → eqb (length vs) (h .d) ≡ t → Known (elim t [ true ↦ after es h vs false | false ↦ inside es h vs [] ])
     go true e = (k, r, eqb-true _ _ e)
     go false e = (k, r, refl)
 
@@ -98,7 +98,7 @@ with-coordinate es h vs v k short = go (eqb (length v) (h .m)) refl
 
 known-between : {s : State} {es : List Entry} → Between s es → Known s → Entered es
 known-between (between es) k = k
-known-between (unreferred es h vs) k = with-entry es h vs none k
+known-between (unreferred es h vs marked) k = with-entry es h vs marked none k
 
 number-fits : (n : ℕ) → n < 2 ^ 20 → eqb n 0 ≡ false → oneTo mostNumber n ≡ true
 number-fits n h e =
@@ -121,7 +121,8 @@ known-moves (by-coordinate es h vs v l p) r k =
     let u = v ++ (coordinateOf l ∷ []) in
     let fits = neither (ltb mostLoad l) (eqb (length u) (h .m) && ltZ (pos mostSquare) (N u)) (p .0) in
     with-coordinate es h vs u (k .0, k .1, any-snoc (λ x. ltb mostSize (natAbs x)) v (coordinateOf l) (k .2) (load-within l (fits .0))) (rest-false _ _ (fits .1))
-known-moves (by-see es h vs s) r k = with-entry es h vs (some s) k
+known-moves (by-draft es h vs) r k = k
+known-moves (by-see es h vs marked s) r k = with-entry es h vs marked (some s) k
 known-moves (by-end b) r k = known-between b k
 
 -- ---- the end

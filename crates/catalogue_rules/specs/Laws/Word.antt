@@ -9,7 +9,7 @@ use lib.Dec.{eqb}
 use lib.ListN.{length, getD}
 use borrow.Author.Tests.{eqb-true, eqb-false}
 use Rattle.integers.specs.All.{All}
-use Rattle.catalogue_rules.specs.Word.{Word, head, coordinate, see, end, other, kind, load, headOf, wordOf, decode, kindOf, loadOf, encode, wordsOf, bytesOf}
+use Rattle.catalogue_rules.specs.Word.{Word, head, coordinate, see, end, draft, other, kind, load, headOf, wordOf, decode, kindOf, loadOf, encode, wordsOf, bytesOf}
 
 -- ---- words
 
@@ -19,13 +19,14 @@ by-test Q true a b p q = p refl
 by-test Q false a b p q = q refl
 
 by-kind : (Q : Word → Type 0) (k l : ℕ)
-    → (k ≡ 1 → Q (headOf l)) → (k ≡ 2 → Q (coordinate l)) → (k ≡ 3 → Q (see l)) → (k ≡ 4 → Q (end l))
-    → (k ≢ 1 → k ≢ 2 → k ≢ 3 → k ≢ 4 → Q (other k l)) → Q (wordOf k l)
-by-kind Q k l p₁ p₂ p₃ p₄ q =
+    → (k ≡ 1 → Q (headOf l)) → (k ≡ 2 → Q (coordinate l)) → (k ≡ 3 → Q (see l)) → (k ≡ 4 → Q (end l)) → (k ≡ 5 → Q (draft l))
+    → (k ≢ 1 → k ≢ 2 → k ≢ 3 → k ≢ 4 → k ≢ 5 → Q (other k l)) → Q (wordOf k l)
+by-kind Q k l p₁ p₂ p₃ p₄ p₅ q =
     by-test Q (eqb k 1) _ _ (λ e. p₁ (eqb-true k 1 e)) λ n₁.
     by-test Q (eqb k 2) _ _ (λ e. p₂ (eqb-true k 2 e)) λ n₂.
     by-test Q (eqb k 3) _ _ (λ e. p₃ (eqb-true k 3 e)) λ n₃.
-    by-test Q (eqb k 4) _ _ (λ e. p₄ (eqb-true k 4 e)) λ n₄. q (eqb-false k 1 n₁) (eqb-false k 2 n₂) (eqb-false k 3 n₃) (eqb-false k 4 n₄)
+    by-test Q (eqb k 4) _ _ (λ e. p₄ (eqb-true k 4 e)) λ n₄.
+    by-test Q (eqb k 5) _ _ (λ e. p₅ (eqb-true k 5 e)) λ n₅. q (eqb-false k 1 n₁) (eqb-false k 2 n₂) (eqb-false k 3 n₃) (eqb-false k 4 n₄) (eqb-false k 5 n₅)
 
 head-load : (l : ℕ) → loadOf (headOf l) ≡ l
 head-load l = omega arith
@@ -33,8 +34,8 @@ head-load l = omega arith
 pub encode-decode : (w : ℕ) → encode (decode w) ≡ w
 unfolding decode encode
 encode-decode w =
-    by-kind (λ x. kindOf x * 2 ^ 28 + loadOf x ≡ w) (kind w) (load w) (λ e. omega (arith, head-load (load w))) (λ e. omega arith) (λ e. omega arith) (λ e. omega arith)
-    (λ n₁ n₂ n₃ n₄. omega arith)
+    by-kind (λ x. kindOf x * 2 ^ 28 + loadOf x ≡ w) (kind w) (load w) (λ e. omega (arith, head-load (load w))) (λ e. omega arith) (λ e. omega arith) (λ e. omega arith) (λ e. omega arith)
+    (λ n₁ n₂ n₃ n₄ n₅. omega arith)
 
 -- the loads that a word has room for
 abbrev pub InRange : Word → Type 0
@@ -42,20 +43,22 @@ InRange (head number d m) = (number < 2 ^ 20) × (d < 16) × (m < 16)
 InRange (coordinate l) = l < 2 ^ 28
 InRange (see number) = number < 2 ^ 28
 InRange (end count) = count < 2 ^ 28
-InRange (other k l) = (k ≢ 1) × (k ≢ 2) × (k ≢ 3) × (k ≢ 4) × (l < 2 ^ 28)
+InRange (draft l) = l < 2 ^ 28
+InRange (other k l) = (k ≢ 1) × (k ≢ 2) × (k ≢ 3) × (k ≢ 4) × (k ≢ 5) × (l < 2 ^ 28)
 
 pub decode-range : (w : ℕ) → InRange (decode w)
 unfolding decode
 decode-range w =
-    by-kind InRange (kind w) (load w) (λ e. omega arith) (λ e. omega arith) (λ e. omega arith) (λ e. omega arith)
-    (λ n₁ n₂ n₃ n₄. (n₁, n₂, n₃, n₄, omega arith))
+    by-kind InRange (kind w) (load w) (λ e. omega arith) (λ e. omega arith) (λ e. omega arith) (λ e. omega arith) (λ e. omega arith)
+    (λ n₁ n₂ n₃ n₄ n₅. (n₁, n₂, n₃, n₄, n₅, omega arith))
 
 load-range : (w : Word) → InRange w → loadOf w < 2 ^ 28
 load-range (head number d m) h = omega arith
 load-range (coordinate l) h = h
 load-range (see number) h = h
 load-range (end count) h = h
-load-range (other k l) h = h .4
+load-range (draft l) h = h
+load-range (other k l) h = h .5
 
 back : (w : Word) → InRange w → wordOf (kindOf w) (loadOf w) ≡ w
 back (head number d m) h =
@@ -65,8 +68,9 @@ back (head number d m) h =
 back (coordinate l) h = refl
 back (see number) h = refl
 back (end count) h = refl
+back (draft l) h = refl
 back (other k l) h =
-    by-kind (λ w. w ≡ other k l) k l (λ e. absurd (h .0 e)) (λ e. absurd (h .1 e)) (λ e. absurd (h .2 e)) (λ e. absurd (h .3 e)) (λ n₁ n₂ n₃ n₄. refl)
+    by-kind (λ w. w ≡ other k l) k l (λ e. absurd (h .0 e)) (λ e. absurd (h .1 e)) (λ e. absurd (h .2 e)) (λ e. absurd (h .3 e)) (λ e. absurd (h .4 e)) (λ n₁ n₂ n₃ n₄ n₅. refl)
 
 kind-back : (k l : ℕ) → l < 2 ^ 28 → kind (k * 2 ^ 28 + l) ≡ k
 kind-back k l h = omega arith

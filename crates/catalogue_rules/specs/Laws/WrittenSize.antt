@@ -1,6 +1,6 @@
--- The words written for well-formed entries have 32 bits, and make at most 34,820 bytes.
+-- The words written for well-formed entries have 32 bits, and make at most 35,844 bytes.
 use mathlib.Core.Path.{_≡_, sym, subst}
-use mathlib.Core.Bool.{false}
+use mathlib.Core.Bool.{Bool, true, false}
 use mathlib.Core.List.{List, [], _∷_, _++_, map, map-append}
 use mathlib.Core.Option.{Option, none, some}
 use Prim.Native.Nat.{ℕ, _+_, _*_, _^_, _≤_, _<_}
@@ -14,10 +14,10 @@ use Rattle.integers.specs.Every.{any}
 use Rattle.lattices.specs.Refusal.{mostSquare, mostSize}
 use Rattle.integers.specs.All.{All}
 use Rattle.integers.specs.AllLaws.{all-append, all-map}
-use Rattle.catalogue_rules.specs.Word.{Word, head, see, end, encode, bytesOf}
+use Rattle.catalogue_rules.specs.Word.{Word, head, see, end, draft, encode, bytesOf}
 use Rattle.catalogue_rules.specs.Laws.Word.{length-bytes}
 use Rattle.catalogue_rules.specs.Catalogue.{Head, See, Entry, coordinates, mostEntries, mostNumbers, mostBytes}
-use Rattle.catalogue_rules.specs.Write.{headWord, coordinateWord, seeWords, entryWords, entriesWords, catalogueWords}
+use Rattle.catalogue_rules.specs.Write.{headWord, coordinateWord, draftWords, seeWords, entryWords, entriesWords, catalogueWords}
 use Rattle.catalogue_rules.specs.Form.{HeadFits, VectorFits, EntryFits}
 use Rattle.integers.specs.Tests.{neither}
 use Rattle.catalogue_rules.specs.Laws.EntriesAccepted.{few-coordinates}
@@ -52,12 +52,18 @@ unfolding encode
 see-small none p = tt
 see-small (some s) p = (omega arith, tt)
 
+draft-small : (d : Bool) → All SmallWords (draftWords d)
+unfolding encode
+draft-small true = (omega arith, tt)
+draft-small false = tt
+
 entries-small : (es : List Entry) → All EntryFits es → All (λ e. SeeFits (e .see)) es → All SmallWords (entriesWords es)
 entries-small [] p q = tt
 entries-small (e ∷ es) p q = (
   head-small (e .head) (p .0 .head),
-  all-append SmallWords (map coordinateWord (coordinates (e .vectors)) ++ seeWords (e .see)) (entriesWords es)
-      (all-append SmallWords (map coordinateWord (coordinates (e .vectors))) (seeWords (e .see)) (vectors-small (e .head .m) (e .vectors) (p .0 .vectors)) (see-small (e .see) (q .0)))
+  all-append SmallWords (map coordinateWord (coordinates (e .vectors)) ++ (draftWords (e .draft) ++ seeWords (e .see))) (entriesWords es)
+      (all-append SmallWords (map coordinateWord (coordinates (e .vectors))) (draftWords (e .draft) ++ seeWords (e .see)) (vectors-small (e .head .m) (e .vectors) (p .0 .vectors))
+      (all-append SmallWords (draftWords (e .draft)) (seeWords (e .see)) (draft-small (e .draft)) (see-small (e .see) (q .0))))
       (entries-small es (p .1) (q .1)),
 )
 
@@ -68,16 +74,28 @@ words-small es few p q =
 
 -- ---- how many
 
+length-draft : (d : Bool) → length (draftWords d) ≤ 1
+length-draft true = omega arith
+length-draft false = omega arith
+
 length-see : (o : Option See) → length (seeWords o) ≤ 1
 length-see none = omega arith
 length-see (some s) = omega arith
 
-pub length-entry : (e : Entry) → EntryFits e → length (entryWords e) ≤ mostNumbers + 2
+pub length-entry : (e : Entry) → EntryFits e → length (entryWords e) ≤ mostNumbers + 3
 length-entry e p =
     let cs = coordinates (e .vectors) in
-    omega (arith, few-coordinates e p, length-append (map coordinateWord cs) (seeWords (e .see)), length-map cs coordinateWord, length-see (e .see))
+    omega (
+      arith,
+      few-coordinates e p,
+      length-append (map coordinateWord cs) (draftWords (e .draft) ++ seeWords (e .see)),
+      length-map cs coordinateWord,
+      length-append (draftWords (e .draft)) (seeWords (e .see)),
+      length-draft (e .draft),
+      length-see (e .see),
+    )
 
-pub length-entries : (es : List Entry) → All EntryFits es → length (entriesWords es) ≤ length es * (mostNumbers + 2)
+pub length-entries : (es : List Entry) → All EntryFits es → length (entriesWords es) ≤ length es * (mostNumbers + 3)
 length-entries [] p = omega arith
 length-entries (e ∷ es) p = omega (arith, length-append (entryWords e) (entriesWords es), length-entry e (p .0), length-entries es (p .1))
 

@@ -6,8 +6,8 @@ use lib.Seq.{length-take-le}
 use Rattle.cli_catalogues.proofs.encode.Statement.{statement}
 use Rattle.cli_catalogues.proofs.encode.Tie as tie
 
-large-buffer-requires : tie.Need-large-buffer-requires
-large-buffer-requires c κs = search needs
+text-buffer-requires : tie.Need-text-buffer-requires
+text-buffer-requires c κs = search needs
 
 slice-aggregate-read-all : tie.Need-slice-aggregate-read-all
 slice-aggregate-read-all c = search needs
@@ -88,7 +88,7 @@ pub encode-spec : {M : Type 1} → statement M
 encode-spec =
     tie.close
     (tie.spec
-    large-buffer-requires
+    text-buffer-requires
     slice-aggregate-read-all
     read-all-requires
     returns

@@ -15,7 +15,8 @@ use Rattle.catalogue_rules.specs.Laws.WellFormed.{well-formed}
 use Rattle.fold_rules.specs.Fold.{reducedOf, sameLattice, standing, stoodOf, closedList, printed, printedIn, folded}
 use Rattle.fold_rules.specs.Meaning.{Among, OneLattice, Sees, Apart}
 use Rattle.fold_rules.specs.Laws.SameLattice.{Sound, sound-entries, entry-basis, one-sym, one-lattice}
-use Rattle.fold_rules.specs.Laws.Standing.{all-self, all-among, standing-among, standing-one, stands-itself}
+use Rattle.fold_rules.specs.Laws.First.{all-self, all-among}
+use Rattle.fold_rules.specs.Laws.Standing.{standing-among, standing-one, stands-itself}
 use Rattle.fold_rules.specs.Laws.Fixed.{carried-same}
 use Rattle.fold_rules.specs.Laws.FoldedForm.{shown-ind, folded-accepted}
 use Rattle.fold_rules.specs.Laws.Printing.{folded-prints, printing-apart, printing-other}
@@ -49,7 +50,7 @@ module _ (all : List Entry) (w : WellFormed all) (apart : Apart all) where
       apart-one all apart (standing all g) g (standing-among one-lattice all sound g a) a (standing-one one-lattice all sound g a)
 
   entry-same : (g : Entry) → Fixed all g → printed (closedList all) (stoodOf all g) ≡ g
-  entry-same g f = ap₂ (λ vs o. record { head = g .head; vectors = vs; see = o }) (f .reduced) (carried-same sameLattice all (w .entered .distinct) stays g (f .among) (f .named) (f .other))
+  entry-same g f = ap₂ (λ vs o. record { head = g .head; vectors = vs; draft = g .draft; see = o }) (f .reduced) (carried-same sameLattice all (w .entered .distinct) stays g (f .among) (f .named) (f .other))
 
   prints-same : All (Fixed all) all → printedIn (closedList all) ≡ all
   prints-same = shown-ind all (λ es gs. All (Fixed all) es → gs ≡ es) (λ p. refl)

@@ -13,9 +13,10 @@ use Rattle.integers.specs.First.{firstGiven}
 use Rattle.integers.specs.FirstLaws.{given-none, given-some}
 use Rattle.catalogue_rules.specs.Catalogue.{See, Entry}
 use Rattle.catalogue_rules.specs.Form.{Distinct, Names}
-use Rattle.fold_rules.specs.Fold.{Stood, standingBy, stoodBy, closedBy, followed, leads, leadsFrom, carried}
+use Rattle.fold_rules.specs.Fold.{Stood, standingBy, stoodBy, closedBy, followed, leads, leadsFrom, orElse, carried}
 use Rattle.fold_rules.specs.Meaning.{Among, Sees}
-use Rattle.fold_rules.specs.Laws.Standing.{all-self, one-number}
+use Rattle.fold_rules.specs.Laws.First.{all-self}
+use Rattle.fold_rules.specs.Laws.Standing.{one-number}
 use Rattle.fold_rules.specs.Laws.Lookup.{numbered}
 use Rattle.fold_rules.specs.Laws.See.{led-other, followed-to}
 
@@ -62,8 +63,8 @@ module _ (same : Entry → Entry → Bool) (all : List Entry) (d : Distinct all)
   every-word : All (λ s. (word s ≡ none) ⊎ (word s ≡ g .see)) ss
   every-word = all-map (λ s. (word s ≡ none) ⊎ (word s ≡ g .see)) (stoodBy same all) all (all-imp word-other all (all-self all))
 
-  pub carried-same : carried ss (stoodBy same all g) ≡ g .see
-  carried-same = go (g .see) refl
+  others-same : firstGiven word ss ≡ g .see
+  others-same = go (g .see) refl
     where
       both-none : (s : Stood) → (leadsFrom (closedBy same all) (g .head .number) s ≡ none) ⊎ (leadsFrom (closedBy same all) (g .head .number) s ≡ none) → leadsFrom (closedBy same all) (g .head .number) s ≡ none
       both-none s (inl e) = e
@@ -74,3 +75,11 @@ module _ (same : Entry → Entry → Bool) (all : List Entry) (d : Distinct all)
       go (some w) q =
           given-some word w ss (subst (λ o. All (λ s. (word s ≡ none) ⊎ (word s ≡ o)) ss) q every-word)
           (some-map (λ s. word s ≡ some w) (stoodBy same all) all (some-imp (λ f e. subst (λ x. word (stoodBy same all x) ≡ some w) (sym e) (word-own ∙ q)) all a))
+
+  -- the own word is there before the others, and where it is not, they have none
+  pub carried-same : carried ss (stoodBy same all g) ≡ g .see
+  carried-same = ap (λ o. orElse o (firstGiven word ss)) leads-same ∙ ap (orElse (g .see)) others-same ∙ twice (g .see)
+    where
+      twice : (o : Option See) → orElse o o ≡ o
+      twice none = refl
+      twice (some w) = refl

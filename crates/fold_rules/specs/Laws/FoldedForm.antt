@@ -28,7 +28,7 @@ use Rattle.catalogue_rules.specs.Form.{VectorFits, Distinct, Names, WellFormed}
 use Rattle.catalogue_rules.specs.Laws.Placed.{write-placed}
 use Rattle.catalogue_rules.specs.Laws.WrittenSize.{length-written}
 use Rattle.catalogue_rules.specs.Laws.ReadBack.{read-written}
-use Rattle.fold_rules.specs.Fold.{reducedOf, sameLattice, standing, Stood, stoodOf, closedList, stands, standingIn, unlessOwn, led, followed, leads, leadsFrom, carried, printed, printedIn, folded}
+use Rattle.fold_rules.specs.Fold.{reducedOf, sameLattice, standing, Stood, stoodOf, closedList, stands, standingIn, unlessOwn, led, followed, leads, leadsFrom, orElse, carried, printed, printedIn, folded}
 use Rattle.fold_rules.specs.Laws.SameLattice.{Sound, sound-entries, entry-basis, entry-count, entry-full, one-lattice}
 use Rattle.fold_rules.specs.Meaning.{Among}
 use Rattle.fold_rules.specs.Laws.Standing.{standing-among, standing-twice, stands-itself}
@@ -43,7 +43,7 @@ vectors-fit m (v ∷ vs) c p = (record { full = c .0; short = p .0 }, vectors-fi
 
 -- an entry with its reduced vectors
 abbrev pub reducedEntry : Entry → Option See → Entry
-reducedEntry e o = record { head = e .head; vectors = reducedOf e; see = o }
+reducedEntry e o = record { head = e .head; vectors = reducedOf e; draft = e .draft; see = o }
 
 pub reduced-sound : (e : Entry) → Sound e → (o : Option See) → Sound (reducedEntry e o)
 unfolding isDependent
@@ -142,12 +142,17 @@ module _ (all : List Entry) where
         go true = followed-names (standing all e .head .number) (e .see) n
         go false = tt
 
-    carried-names : (e : Entry) → Names (printedIn ss) (carried ss (stoodOf all e))
-    carried-names e = given-has (leadsFrom ss (e .head .number)) (Names (printedIn ss)) tt ss
-        (all-map (λ s. Names (printedIn ss) (leadsFrom ss (e .head .number) s)) (stoodOf all) all (all-imp (leads-from-names (e .head .number)) all (w .named)))
+    or-names : (o p : Option See) → Names (printedIn ss) o → Names (printedIn ss) p → Names (printedIn ss) (orElse o p)
+    or-names none p n m = m
+    or-names (some w) p n m = n
 
-    shown-names : (es : List Entry) → All (λ e. Names (printedIn ss) (e .see)) (shown es)
-    shown-names = shown-ind (λ es gs. All (λ e. Names (printedIn ss) (e .see)) gs) tt (λ e es gs q h. (carried-names e, h)) (λ e es gs q h. h)
+    carried-names : (e : Entry) → Names all (e .see) → Names (printedIn ss) (carried ss (stoodOf all e))
+    carried-names e own = or-names (leads ss (stoodOf all e)) _ (followed-names (standing all e .head .number) (e .see) own) (given-has (leadsFrom ss (e .head .number)) (Names (printedIn ss)) tt ss
+        (all-map (λ s. Names (printedIn ss) (leadsFrom ss (e .head .number) s)) (stoodOf all) all (all-imp (leads-from-names (e .head .number)) all (w .named))))
+
+    shown-names : (es : List Entry) → All (λ e. Names all (e .see)) es → All (λ e. Names (printedIn ss) (e .see)) (shown es)
+    shown-names = shown-ind (λ es gs. All (λ e. Names all (e .see)) es → All (λ e. Names (printedIn ss) (e .see)) gs) (λ p. tt) (λ e es gs q h p. (carried-names e (p .0), h (p .1)))
+        (λ e es gs q h p. h (p .1))
 
     pub prints-form : WellFormed (printedIn ss)
     prints-form =
@@ -155,7 +160,7 @@ module _ (all : List Entry) where
         record {
           entered = record { few = omega (arith, shown-few all, w .entered .few); fits = all-imp (λ e p. p .fits) (printedIn ss) s; distinct = shown-distinct all .1 (w .entered .distinct) };
           independent = all-imp (λ e p. p .independent) (printedIn ss) s;
-          named = shown-names all;
+          named = shown-names all (w .named);
         }
 
 -- writing asks for no places

@@ -35,7 +35,8 @@ use Rattle.fold_rules.specs.Listing.{vectorLines, entryLine, vectorsShow
 use Rattle.fold_rules.specs.Services.{listingText}
 use Rattle.fold_rules.specs.Meaning.{Among}
 use Rattle.fold_rules.specs.Laws.SameLattice.{Sound, sound-entries, entry-basis, one-lattice}
-use Rattle.fold_rules.specs.Laws.Standing.{all-self, all-among, standing-among}
+use Rattle.fold_rules.specs.Laws.First.{all-self, all-among}
+use Rattle.fold_rules.specs.Laws.Standing.{standing-among}
 use Rattle.fold_rules.specs.Laws.FoldedForm.{reduced-sound}
 
 -- ---- fields
@@ -124,8 +125,8 @@ few-passes e s =
 number-short : (e : Entry) → Sound e → Short (e .head .number)
 number-short e s = let r = one-to mostNumber (e .head .number) (s .fits .head .number) in omega arith
 
-shown-length : (e f : Entry) → Sound e → length (vectorsShown (record { entry = e; standing = f })) ≤ mostShown
-shown-length e f s = go (stands (record { entry = e; standing = f }))
+shown-length : (all : List Entry) (e : Entry) → Sound e → length (vectorsShown (stoodOf all e)) ≤ mostShown
+shown-length all e s = go (stands (stoodOf all e))
   where
     go : (b : Bool) → length {A = ℕ} (elim b as (λ b. List ℕ) [ true ↦ vectorLines (reducedOf e) | false ↦ [] ]) ≤ mostShown
     go true =
@@ -153,7 +154,7 @@ module _ (file : List ℕ) (es : List Entry) (e : read file ≡ accepted es) whe
   entry-listed : (f : Entry) → Among f es → Listed (stoodOf es f)
   entry-listed f a =
       let s = all-among Sound es sound f a in
-      record { number = number-short f s; standing = standing-short f a; passes = few-passes f s; shown = shown-length f (standing es f) s }
+      record { number = number-short f s; standing = standing-short f a; passes = few-passes f s; shown = shown-length es f s }
 
   pub listing-size : length (listingText es) ≤ mostText
   listing-size =

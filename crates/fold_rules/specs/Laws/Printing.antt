@@ -9,11 +9,12 @@ use Rattle.integers.specs.All.{All, Some}
 use Rattle.integers.specs.AllLaws.{all-imp}
 use Rattle.successive_minima.specs.Laws.Minima.{successive}
 use Rattle.catalogue_rules.specs.Catalogue.{See, Entry, seeNumber}
-use Rattle.catalogue_rules.specs.Form.{Distinct, WellFormed, seeAt, entryAt, placed, pastVectors}
+use Rattle.catalogue_rules.specs.Form.{Distinct, WellFormed, seeAt, entryAt, placed, pastMark}
 use Rattle.fold_rules.specs.Fold.{reducedOf, standing, stoodOf, closedList, printed, printedIn, folded}
-use Rattle.fold_rules.specs.Meaning.{Among, OneLattice, Stands, Carries, Sees, Prints, Printing, done, print, pass, Apart}
+use Rattle.fold_rules.specs.Meaning.{Among, OneLattice, Stands, LeadsBy, Carries, its-own, folded-in, Sees, Prints, Printing, done, print, pass, Apart}
 use Rattle.fold_rules.specs.Laws.SameLattice.{Sound, sound-entries, entry-basis, entry-lattice, entry-reduced, entry-count, one-sym, one-trans, one-lattice}
-use Rattle.fold_rules.specs.Laws.Standing.{all-self, all-among, stands-among, stands-once, one-number, not-used, itself-stands, stands-here, stands-not}
+use Rattle.fold_rules.specs.Laws.First.{all-self, all-among}
+use Rattle.fold_rules.specs.Laws.Standing.{stands-among, stands-once, one-number, not-used, itself-stands, stands-here, stands-not}
 use Rattle.fold_rules.specs.Laws.See.{carried-means, means-carried}
 use Rattle.fold_rules.specs.Laws.FoldedForm.{shown-ind}
 
@@ -30,7 +31,7 @@ module _ (all : List Entry) (w : WellFormed all) where
     see-carries n s = subst (Carries all e) (s .number) (carried-means one-lattice all sound distinct e a own (s .word) (s .carried))
 
     carries-see : (n : ℕ) → Carries all e n → Sees (printed (closedList all) (stoodOf all e)) n
-    carries-see n c = record { word = record { number = n; place = c .leads .word .place }; carried = means-carried one-lattice all sound distinct e a own n c; number = refl }
+    carries-see n c = let r = means-carried one-lattice all sound distinct e a own n c in record { word = r .word; carried = r .is; number = r .number }
 
     sound-here : Sound e
     sound-here = all-among Sound all sound e a
@@ -42,6 +43,7 @@ module _ (all : List Entry) (w : WellFormed all) where
           number = refl;
           d = refl;
           count = entry-count e sound-here ∙ sound-here .fits .count;
+          draft = refl;
           one = record { m = refl; lattice = λ v. (entry-lattice e sound-here v .1, entry-lattice e sound-here v .0) };
           minima = λ vs h i k p q. successive (reducedOf e) (entry-reduced e sound-here) (omega (arith, entry-count e sound-here, B .four)) vs
               (all-imp (λ v. entry-lattice e sound-here v .0) vs h) i k p (omega (arith, entry-count e sound-here, sound-here .fits .count));
@@ -63,18 +65,19 @@ one-placed i g o = record { m = o .m; lattice = o .lattice }
 sees-placed : (i : ℕ) (g : Entry) (n : ℕ) → Sees (entryAt i g) n ↔ Sees g n
 sees-placed i g n = (
   λ s. back (g .see) refl s,
-  λ s. record { word = record { number = s .word .number; place = pastVectors i (g .vectors) }; carried = ap (seeAt (pastVectors i (g .vectors))) (s .carried); number = s .number },
+  λ s. record { word = record { number = s .word .number; place = pastMark i g }; carried = ap (seeAt (pastMark i g)) (s .carried); number = s .number },
 )
   where
     back : (o : Option See) → g .see ≡ o → Sees (entryAt i g) n → Sees g n
-    back none q s = absurd (Option·some-ne-none (s .word) (sym (s .carried) ∙ ap (seeAt (pastVectors i (g .vectors))) q))
-    back (some v) q s = record { word = v; carried = q; number = ap seeNumber (sym (ap (seeAt (pastVectors i (g .vectors))) q) ∙ s .carried) ∙ s .number }
+    back none q s = absurd (Option·some-ne-none (s .word) (sym (s .carried) ∙ ap (seeAt (pastMark i g)) q))
+    back (some v) q s = record { word = v; carried = q; number = ap seeNumber (sym (ap (seeAt (pastMark i g)) q) ∙ s .carried) ∙ s .number }
 
 prints-placed : {all : List Entry} {e : Entry} (i : ℕ) (g : Entry) → Prints all e g → Prints all e (entryAt i g)
 prints-placed i g p = record {
   number = p .number;
   d = p .d;
   count = p .count;
+  draft = p .draft;
   one = one-placed i g (p .one);
   minima = p .minima;
   see = λ n. (λ s. p .see n .0 (sees-placed i g n .0 s), λ l. sees-placed i g n .1 (p .see n .1 l));
@@ -88,6 +91,11 @@ printing-placed (pass e s r) i = pass e s (printing-placed r i)
 pub folded-prints : (es : List Entry) → WellFormed es → Printing es es (folded es)
 unfolding folded
 folded-prints es w = printing-placed (prints-all es w) 0
+
+-- the word that leads to the number carried
+carries-leads : {all : List Entry} {s : Entry} {n : ℕ} → Carries all s n → (f : Entry) × LeadsBy OneLattice all s f n
+carries-leads {s = s} (its-own l) = (s, l)
+carries-leads (folded-in n f first l) = (f, l)
 
 -- ---- what follows for any printing
 
@@ -132,5 +140,5 @@ module _ {all : List Entry} where
     where
       other : (g : Entry) → From all all g → (n : ℕ) → Sees g n → n ≢ g .head .number
       other g f n s q =
-          let l = f .prints .see n .0 s .leads in
-          l .other (one-number all d (l .standing) (f .entry) (stands-among (l .stands)) (f .among) (l .there ∙ q ∙ f .prints .number))
+          let l = carries-leads (f .prints .see n .0 s) in
+          l .1 .other (one-number all d (l .1 .standing) (f .entry) (stands-among (l .1 .stands)) (f .among) (l .1 .there ∙ q ∙ f .prints .number))

@@ -1,18 +1,18 @@
--- The standing entry found place by place, as a loop finds it: the first place where a test says yes, among the standing entries before.
+-- The first of a lattice found place by place, as a loop finds it: the first place where a test says yes, among the first ones before.
 use mathlib.Core.Path.{_≡_, refl, ap, _∙_}
 use mathlib.Core.Logic.{inl, inr}
 use mathlib.Core.Bool.{Bool, true, false, _&&_}
-use mathlib.Core.List.{List, [], _∷_, _++_, map}
+use mathlib.Core.List.{List, [], _∷_, _++_}
 use Prim.Native.Nat.{ℕ, zero, suc, _<_}
 use native.Mathlib.Omega.{arith}
 use lib.ListN.{length, getD}
 use Rattle.integers.specs.All.{All}
 use Rattle.integers.specs.AllLaws.{all-left, all-right}
 use Rattle.catalogue_rules.specs.Catalogue.{Entry}
-use Rattle.fold_rules.specs.Fold.{firstEntry, Stood, standingBy, stoodBy, stands, standingIn}
+use Rattle.fold_rules.specs.Fold.{firstEntry, firstBy}
 use Rattle.fold_rules.specs.Meaning.{Among}
 use Rattle.fold_rules.specs.Laws.Standing.{Decides}
-use Rattle.fold_rules.specs.Laws.Adding.{standing-new, among-standers}
+use Rattle.fold_rules.specs.Laws.Adding.{isFirst, first-new, among-firsts}
 
 pub among-at : (es : List Entry) (d : Entry) (k : ℕ) → k < length es → Among (getD es k d) es
 among-at [] d k h = absurd (omega arith)
@@ -31,21 +31,9 @@ module _ (has : Entry → Bool) (other d : Entry) where
   first-none [] n = refl
   first-none (e ∷ es) n = ap (λ b. elim b [ true ↦ e | false ↦ firstEntry has other es ]) (n 0 (omega arith)) ∙ first-none es (λ j p. n (suc j) (omega arith))
 
--- the first of the standing entries is the first that stands and is asked for
-first-stander : (same : Entry → Entry → Bool) (all : List Entry) (has : Entry → Bool) (other : Entry) (es : List Entry)
-    → firstEntry has other (map (λ s. s .entry) (standingIn (map (stoodBy same all) es))) ≡ firstEntry (λ f. stands (stoodBy same all f) && has f) other es
-first-stander same all has other [] = refl
-first-stander same all has other (e ∷ es) = go (stands (stoodBy same all e)) (first-stander same all has other es)
-  where
-    go : (b : Bool) → firstEntry has other (map (λ s. s .entry) (standingIn (map (stoodBy same all) es))) ≡ firstEntry (λ f. stands (stoodBy same all f) && has f) other es
-        → firstEntry has other (map (λ (s : Stood). s .entry) (elim b as (λ b. List Stood) [ true ↦ stoodBy same all e ∷ standingIn (map (stoodBy same all) es) | false ↦ standingIn (map (stoodBy same all) es) ]))
-        ≡ elim (b && has e) as (λ b. Entry) [ true ↦ e | false ↦ firstEntry (λ f. stands (stoodBy same all f) && has f) other es ]
-    go true r = ap (λ f. elim (has e) as (λ b. Entry) [ true ↦ e | false ↦ f ]) r
-    go false r = r
-
--- so an entry is compared with the standing ones before it only
-pub standing-past : {same : Entry → Entry → Bool} {One : Entry → Entry → Type 0} {Sound : Entry → Type 0} → Decides same One Sound → (past : List Entry) (e : Entry) (rest : List Entry)
-    → All Sound (past ++ (e ∷ rest)) → standingBy same (past ++ (e ∷ rest)) e ≡ firstEntry (λ f. stands (stoodBy same past f) && same f e) e past
-standing-past {same} {Sound = Sound} D past e rest sound =
+-- the first of the lattice of an entry: it is compared with the first ones before it only
+pub first-past : {same : Entry → Entry → Bool} {One : Entry → Entry → Type 0} {Sound : Entry → Type 0} → Decides same One Sound → (past : List Entry) (e : Entry) (rest : List Entry)
+    → All Sound (past ++ (e ∷ rest)) → firstBy same (past ++ (e ∷ rest)) e ≡ firstEntry (λ f. isFirst same past f && same f e) e past
+first-past {Sound = Sound} D past e rest sound =
     let s = all-right Sound past (e ∷ rest) sound .0 in
-    standing-new D past e rest s ∙ among-standers D past (all-left Sound past (e ∷ rest) sound) e s ∙ first-stander same past (λ f. same f e) e past
+    first-new D past e rest s ∙ among-firsts D past (all-left Sound past (e ∷ rest) sound) e s

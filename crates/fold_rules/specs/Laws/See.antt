@@ -6,16 +6,16 @@ use mathlib.Core.List.{List, [], _∷_, _++_, map}
 use mathlib.Core.Option.{Option, none, some, Option·some-ne-none}
 use Prim.Native.Nat.{ℕ}
 use lib.Dec.{eqb}
-use lib.Seq.{append-snoc}
 use borrow.Author.Tests.{eqb-true, eqb-false, eq-eqb, ne-eqb}
 use Rattle.integers.specs.All.{All}
-use Rattle.integers.specs.AllLaws.{all-left, all-snoc}
+use Rattle.integers.specs.AllLaws.{all-left}
 use Rattle.integers.specs.First.{firstGiven}
 use Rattle.catalogue_rules.specs.Catalogue.{See, Entry, seeNumber}
 use Rattle.catalogue_rules.specs.Form.{Distinct}
-use Rattle.fold_rules.specs.Fold.{Stood, standingBy, stoodBy, closedBy, lookup, unlessOwn, led, followed, leads, leadsFrom, carried}
-use Rattle.fold_rules.specs.Meaning.{Among, LeadsBy, CarriesBy}
-use Rattle.fold_rules.specs.Laws.Standing.{Decides, all-self, among-middle, one-number, stands-once, standing-is, standing-among, standing-one, standing-same}
+use Rattle.fold_rules.specs.Fold.{Stood, standingBy, stoodBy, closedBy, lookup, unlessOwn, led, followed, leads, leadsFrom, orElse, carried}
+use Rattle.fold_rules.specs.Meaning.{Among, First, LeadsBy, UsefulBy, CarriesBy, its-own, folded-in}
+use Rattle.fold_rules.specs.Laws.First.{all-self, first-among, first-here, first-later}
+use Rattle.fold_rules.specs.Laws.Standing.{Decides, one-number, stands-once, standing-is, standing-among, standing-one, standing-same}
 use Rattle.fold_rules.specs.Laws.Lookup.{lookup-finds, lookup-some}
 
 -- ---- one word
@@ -109,46 +109,74 @@ module _ {same : Entry → Entry → Bool} {One : Entry → Entry → Type 0} {S
           ∙ ap (λ n. followed ss n (f .see)) q ∙ means-followed f n l
 
       -- ---- the first of them
-
-      -- f has no word for s
-      abbrev Wordless : Entry → Type 0
-      Wordless f = One f s → (k : ℕ) → ¬ LeadsBy One all s f k
-
-      no-word : (f : Entry) → Among f all → Wordless f → word (stoodBy same all f) ≡ none
+      no-word : (f : Entry) → Among f all → ¬ UsefulBy One all s f → word (stoodBy same all f) ≡ none
       no-word f b i = go (word (stoodBy same all f)) refl
         where
           go : (o : Option See) → leadsFrom ss (s .head .number) (stoodBy same all f) ≡ o → o ≡ none
           go none q = refl
-          go (some w) q = let m = word-means f b w q in absurd (i (m .0) (w .number) (m .1))
+          go (some w) q = let m = word-means f b w q in absurd (i (record { one = m .0; number = w .number; leads = m .1 }))
 
-      pub means-carried : (n : ℕ) (c : CarriesBy One all s n) → carried ss (stoodBy same all s) ≡ some (record { number = n; place = c .leads .word .place })
-      means-carried n c =
+      first-given : (f : Entry) (n : ℕ) (c : First (UsefulBy One all s) all f) (l : LeadsBy One all s f n) → firstGiven word ss ≡ some (record { number = n; place = l .word .place })
+      first-given f n c l =
           ap (λ l. firstGiven word (map (stoodBy same all) l)) (c .split)
-          ∙ go (c .before) (c .none) (all-left (λ g. Among g all) (c .before) (c .entry ∷ c .after) (subst (All (λ g. Among g all)) (c .split) (all-self all)))
+          ∙ go (c .before) (c .none) (all-left (λ g. Among g all) (c .before) (f ∷ c .after) (subst (All (λ g. Among g all)) (c .split) (all-self all)))
         where
-          b : Among (c .entry) all
-          b = subst (Among (c .entry)) (sym (c .split)) (among-middle (c .before) (c .entry) (c .after))
+          go : (k : List Entry) → All (λ g. ¬ UsefulBy One all s g) k → All (λ g. Among g all) k
+              → firstGiven (leadsFrom ss (s .head .number)) (map (stoodBy same all) (k ++ (f ∷ c .after))) ≡ some (record { number = n; place = l .word .place })
+          go [] p q = ap (λ o. elim o [ none ↦ firstGiven word (map (stoodBy same all) (c .after)) | some w ↦ some w ]) (means-word f (first-among c) (c .has .one) n l)
+          go (g ∷ k) p q = ap (λ o. elim o [ none ↦ firstGiven word (map (stoodBy same all) (k ++ (f ∷ c .after))) | some w ↦ some w ]) (no-word g (q .0) (p .0)) ∙ go k (p .1) (q .1)
 
-          go : (l : List Entry) → All Wordless l → All (λ g. Among g all) l
-              → firstGiven (leadsFrom ss (s .head .number)) (map (stoodBy same all) (l ++ (c .entry ∷ c .after))) ≡ some (record { number = n; place = c .leads .word .place })
-          go [] p q = ap (λ o. elim o [ none ↦ firstGiven word (map (stoodBy same all) (c .after)) | some w ↦ some w ]) (means-word (c .entry) b (c .one) n (c .leads))
-          go (g ∷ l) p q = ap (λ o. elim o [ none ↦ firstGiven word (map (stoodBy same all) (l ++ (c .entry ∷ c .after))) | some w ↦ some w ]) (no-word g (q .0) (p .0)) ∙ go l (p .1) (q .1)
+      -- the first entry of the lattice whose word leads to another standing entry
+      record FirstWord (fs : List Entry) (n : ℕ) : Type 0 where
+        entry : Entry
+        first : First (UsefulBy One all s) fs entry
+        leads : LeadsBy One all s entry n
 
-      first-means : (past : List Entry) → All Wordless past → (fs : List Entry) → past ++ fs ≡ all → (w : See) → firstGiven word (map (stoodBy same all) fs) ≡ some w → CarriesBy One all s (w .number)
-      first-means past p [] q w h = absurd (Option·some-ne-none w (sym h))
-      first-means past p (f ∷ fs) q w h = go (word (stoodBy same all f)) refl h (λ i. first-means (past ++ (f ∷ [])) (all-snoc Wordless past f p i) fs (append-snoc past f fs ∙ q) w)
+      first-means : (fs : List Entry) → All (λ g. Among g all) fs → (w : See) → firstGiven word (map (stoodBy same all) fs) ≡ some w → FirstWord fs (w .number)
+      first-means [] b w h = absurd (Option·some-ne-none w (sym h))
+      first-means (f ∷ fs) b w h = go (word (stoodBy same all f)) refl h (first-means fs (b .1) w)
         where
-          b : Among f all
-          b = subst (Among f) q (among-middle past f fs)
-
-          wordless : leadsFrom ss (s .head .number) (stoodBy same all f) ≡ none → One f s → (k : ℕ) → ¬ LeadsBy One all s f k
-          wordless e o k l = Option·some-ne-none (record { number = k; place = l .word .place }) (sym (means-word f b o k l) ∙ e)
+          useless : leadsFrom ss (s .head .number) (stoodBy same all f) ≡ none → ¬ UsefulBy One all s f
+          useless e u = Option·some-ne-none (record { number = u .number; place = u .leads .word .place }) (sym (means-word f (b .0) (u .one) (u .number) (u .leads)) ∙ e)
 
           go : (o : Option See) → leadsFrom ss (s .head .number) (stoodBy same all f) ≡ o
               → elim o as (λ o. Option See) [ none ↦ firstGiven (leadsFrom ss (s .head .number)) (map (stoodBy same all) fs) | some v ↦ some v ] ≡ some w
-              → (Wordless f → firstGiven (leadsFrom ss (s .head .number)) (map (stoodBy same all) fs) ≡ some w → CarriesBy One all s (w .number)) → CarriesBy One all s (w .number)
-          go (some v) e h more = let m = word-means f b w (e ∙ h) in record { before = past; entry = f; after = fs; split = sym q; one = m .0; leads = m .1; none = p }
-          go none e h more = more (wordless e) h
+              → (firstGiven (leadsFrom ss (s .head .number)) (map (stoodBy same all) fs) ≡ some w → FirstWord fs (w .number)) → FirstWord (f ∷ fs) (w .number)
+          go (some v) e h more =
+              let m = word-means f (b .0) w (e ∙ h) in
+              record { entry = f; first = first-here f fs (record { one = m .0; number = w .number; leads = m .1 }); leads = m .1 }
+          go none e h more = let r = more h in record { entry = r .entry; first = first-later f (useless e) (r .first); leads = r .leads }
+
+      -- ---- the own word before them
+      own-word : leads ss (stoodBy same all s) ≡ followed ss own (s .see)
+      own-word = ap (λ g. followed ss (g .head .number) (s .see)) itself
+
+      own-none : ((k : ℕ) → ¬ LeadsBy One all s s k) → leads ss (stoodBy same all s) ≡ none
+      own-none n = own-word ∙ go (followed ss own (s .see)) refl
+        where
+          go : (o : Option See) → followed ss (s .head .number) (s .see) ≡ o → o ≡ none
+          go none q = refl
+          go (some w) q = absurd (n (w .number) (followed-means s w q))
+
+      abbrev rest : Option See
+      rest = firstGiven word ss
+
+      -- the word that is carried, and the number that it names
+      pub record Carried (n : ℕ) : Type 0 where
+        pub word : See
+        pub is : carried ss (stoodBy same all s) ≡ some word
+        pub number : word .number ≡ n
+
+      pub means-carried : (n : ℕ) → CarriesBy One all s n → Carried n
+      means-carried n (its-own l) = record { word = record { number = n; place = l .word .place }; is = ap (λ o. orElse o rest) (own-word ∙ means-followed s n l); number = refl }
+      means-carried n (folded-in useless f first l) =
+          record { word = record { number = n; place = l .word .place }; is = ap (λ o. orElse o rest) (own-none useless) ∙ first-given f n first l; number = refl }
 
       pub carried-means : (w : See) → carried ss (stoodBy same all s) ≡ some w → CarriesBy One all s (w .number)
-      carried-means w h = first-means [] tt all refl w h
+      carried-means w h = go (leads ss (stoodBy same all s)) refl h
+        where
+          go : (o : Option See) → leads ss (stoodBy same all s) ≡ o → orElse o (firstGiven (leadsFrom ss (s .head .number)) ss) ≡ some w → CarriesBy One all s (w .number)
+          go (some v) q h = its-own (followed-means s w (sym own-word ∙ q ∙ h))
+          go none q h =
+              let r = first-means all (all-self all) w h in
+              folded-in (λ k l. Option·some-ne-none (record { number = k; place = l .word .place }) (sym (means-followed s k l) ∙ sym own-word ∙ q)) (r .entry) (r .first) (r .leads)

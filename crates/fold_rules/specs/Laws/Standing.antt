@@ -1,21 +1,21 @@
--- The standing entry is the first of the file of its lattice; entries of one lattice share it, and it stands itself. All of it for any test that
--- decides an equivalence.
-use mathlib.Core.Path.{_≡_, refl, sym, ap, _∙_, subst}
+-- The first entry of a lattice and the standing one are what the meaning says; entries of one lattice share both, and the standing one stands itself.
+-- All of it for any test that decides an equivalence.
+use mathlib.Core.Path.{_≡_, refl, sym, ap, ap₂, _∙_, subst}
 use mathlib.Core.Logic.{_↔_, inl, inr}
-use mathlib.Core.Bool.{Bool, true, false, true≢false}
-use mathlib.Core.List.{List, [], _∷_, _++_, tail}
+use mathlib.Core.Bool.{Bool, true, false, not, _&&_, true≢false}
+use mathlib.Core.List.{List, [], _∷_}
 use Prim.Native.Nat.{ℕ}
-use lib.ListN.{getD}
 use borrow.Author.Tests.{eqb-true, eq-eqb}
 use Rattle.integers.specs.All.{All}
 use Rattle.integers.specs.AllLaws.{all-imp}
-use Rattle.integers.specs.Tests.{neither}
+use Rattle.integers.specs.Tests.{neither, both}
 use Rattle.integers.specs.Every.{any}
 use Rattle.catalogue_rules.specs.Catalogue.{Entry}
 use Rattle.catalogue_rules.specs.Read.{isNumbered}
 use Rattle.catalogue_rules.specs.Form.{Distinct}
-use Rattle.fold_rules.specs.Fold.{firstEntry, standingBy, stoodBy, stands}
-use Rattle.fold_rules.specs.Meaning.{Among, StandsBy}
+use Rattle.fold_rules.specs.Fold.{firstBy, standingBy, stoodBy, stands}
+use Rattle.fold_rules.specs.Meaning.{Among, First, StandsBy, checked, drafts}
+use Rattle.fold_rules.specs.Laws.First.{all-among, first-among, first-once, Found, found, missing, searched}
 
 -- one lattice is an equivalence, and the test decides it for entries that are sound
 pub record Decides (same : Entry → Entry → Bool) (One : Entry → Entry → Type 0) (Sound : Entry → Type 0) : Type 0 where
@@ -24,24 +24,9 @@ pub record Decides (same : Entry → Entry → Bool) (One : Entry → Entry → 
   pub one-trans : {e f g : Entry} → One e f → One f g → One e g
   pub exactly : (e f : Entry) → Sound e → Sound f → (same e f ≡ true) ↔ One e f
 
--- ---- entries of a list
-
--- every entry of a list is among its entries
-pub all-self : (es : List Entry) → All (λ e. Among e es) es
-all-self [] = tt
-all-self (e ∷ es) = (inl refl, all-imp (λ f a. inr a) es (all-self es))
-
-pub all-among : (P : Entry → Type 0) (es : List Entry) → All P es → (e : Entry) → Among e es → P e
-all-among P [] p e a = absurd a
-all-among P (f ∷ es) p e (inl q) = subst P q (p .0)
-all-among P (f ∷ es) p e (inr a) = all-among P es (p .1) e a
-
-pub among-middle : (before : List Entry) (f : Entry) (after : List Entry) → Among f (before ++ (f ∷ after))
-among-middle [] f after = inl refl
-among-middle (g ∷ before) f after = inr (among-middle before f after)
-
 pub stands-among : {One : Entry → Entry → Type 0} {es : List Entry} {e f : Entry} → StandsBy One es e f → Among f es
-stands-among {f = f} s = subst (Among f) (sym (s .split)) (among-middle (s .before) f (s .after))
+stands-among (checked s) = first-among s
+stands-among (drafts n s) = first-among s
 
 -- ---- numbers
 
@@ -63,42 +48,87 @@ module _ {same : Entry → Entry → Bool} {One : Entry → Entry → Type 0} {S
   pub not-same : (e f : Entry) → Sound e → Sound f → same e f ≡ false → ¬ One e f
   not-same e f s t q o = true≢false (sym (D .exactly e f s t .1 o) ∙ q)
 
+  -- of one lattice with e is of one lattice with f
+  one-agree : {e f : Entry} → One e f → (g : Entry) → One g e ↔ One g f
+  one-agree o g = (λ p. D .one-trans p o, λ p. D .one-trans p (D .one-sym o))
+
+  good-agree : {e f : Entry} → One e f → (g : Entry) → (One g e × (g .draft ≡ false)) ↔ (One g f × (g .draft ≡ false))
+  good-agree o g = (λ p. (one-agree o g .0 (p .0), p .1), λ p. (one-agree o g .1 (p .0), p .1))
+
+  -- one that is no draft, where all are drafts
+  clash : {es : List Entry} {e f a : Entry} → One e f → First (λ g. One g e × (g .draft ≡ false)) es a → All (λ g. One g f → g .draft ≡ true) es → ⊥
+  clash {es} {e} {f} {a} o s n = true≢false (sym (all-among (λ g. One g f → g .draft ≡ true) es n a (first-among s) (one-agree o a .0 (s .has .0))) ∙ s .has .1)
+
   -- two entries of one lattice have one standing entry
   pub stands-once : {es : List Entry} {e f a b : Entry} → One e f → StandsBy One es e a → StandsBy One es f b → a ≡ b
-  stands-once {es} {e} {f} {a} {b} o s t = go (s .before) (s .none) (t .before) (t .none) (sym (s .split) ∙ t .split)
-    where
-      go : (k : List Entry) → All (λ g. ¬ One g e) k → (l : List Entry) → All (λ g. ¬ One g f) l → k ++ (a ∷ s .after) ≡ l ++ (b ∷ t .after) → a ≡ b
-      go [] n [] m r = ap (λ l. getD l 0 a) r
-      go [] n (g ∷ l) m r = absurd (m .0 (subst (λ h. One h f) (ap (λ l. getD l 0 a) r) (D .one-trans (s .one) o)))
-      go (g ∷ k) n [] m r = absurd (n .0 (subst (λ h. One h e) (sym (ap (λ l. getD l 0 b) r)) (D .one-trans (t .one) (D .one-sym o))))
-      go (g ∷ k) n (h ∷ l) m r = go k (n .1) l (m .1) (ap tail r)
+  stands-once o (checked s) (checked t) = first-once (good-agree o) s t
+  stands-once o (checked s) (drafts n t) = absurd (clash o s n)
+  stands-once o (drafts n s) (checked t) = absurd (clash (D .one-sym o) t n)
+  stands-once o (drafts n s) (drafts m t) = first-once (one-agree o) s t
 
-  module _ (e : Entry) (s : Sound e) where
-    first-stands : (es : List Entry) → All Sound es → Among e es → StandsBy One es e (firstEntry (λ f. same f e) e es)
-    first-stands [] p a = absurd a
-    first-stands (g ∷ es) p a = go (same g e) refl a (first-stands es (p .1))
-      where
-        later : ¬ One g e → StandsBy One es e (firstEntry (λ f. same f e) e es) → StandsBy One (g ∷ es) e (firstEntry (λ f. same f e) e es)
-        later n r = record { before = g ∷ r .before; after = r .after; split = ap (λ l. g ∷ l) (r .split); one = r .one; none = (n, r .none) }
-
-        go : (b : Bool) → same g e ≡ b → Among e (g ∷ es) → (Among e es → StandsBy One es e (firstEntry (λ f. same f e) e es))
-            → StandsBy One (g ∷ es) e (elim b [ true ↦ g | false ↦ firstEntry (λ f. same f e) e es ])
-        go true q a more = record { before = []; after = es; split = refl; one = D .exactly g e (p .0) s .0 q; none = tt }
-        go false q (inl r) more = absurd (not-same g e (p .0) s q (subst (One g) r (D .one-refl g)))
-        go false q (inr a) more = later (not-same g e (p .0) s q) (more a)
+  pub stands-one : {es : List Entry} {e f : Entry} → StandsBy One es e f → One f e
+  stands-one (checked s) = s .has .0
+  stands-one (drafts n s) = s .has
 
   -- ---- a file of sound entries
   module _ (es : List Entry) (sound : All Sound es) where
-    -- every entry has a standing entry, as the definition finds it
-    pub standing-is : (e : Entry) → Among e es → StandsBy One es e (standingBy same es e)
-    unfolding standingBy
-    standing-is e a = first-stands e (all-among Sound es sound e a) es sound a
+    module _ (e : Entry) (a : Among e es) where
+      here : Sound e
+      here = all-among Sound es sound e a
+
+      decided : (g : Entry) → Sound g → (same g e ≡ true) ↔ One g e
+      decided g s = D .exactly g e s here
+
+      -- the first of its lattice, as the definition finds it
+      pub first-is : First (λ g. One g e) es (firstBy same es e)
+      unfolding firstBy
+      first-is = go (searched (λ g. same g e) (λ g. One g e) e es (all-imp decided es sound))
+        where
+          go : {f : Entry} → Found (λ g. One g e) es e f → First (λ g. One g e) es f
+          go (found s) = s
+          go (missing n q) = absurd (all-among (λ g. ¬ One g e) es n e a (D .one-refl e))
+
+      good : (g : Entry) → Sound g → (same g e && not (g .draft) ≡ true) ↔ (One g e × (g .draft ≡ false))
+      good g s = (
+        λ h. (let p = both (same g e) (not (g .draft)) h in (decided g s .0 (p .0), not-true (g .draft) (p .1))),
+        λ p. ap₂ (λ b d. b && not d) (decided g s .1 (p .0)) (p .1),
+      )
+        where
+          not-true : (b : Bool) → not b ≡ true → b ≡ false
+          not-true true h = sym h
+          not-true false h = refl
+
+      -- every entry has a standing entry, as the definition finds it
+      pub standing-is : StandsBy One es e (standingBy same es e)
+      unfolding standingBy
+      standing-is = go (searched (λ g. same g e && not (g .draft)) (λ g. One g e × (g .draft ≡ false)) (firstBy same es e) es (all-imp good es sound))
+        where
+          a-draft : (g : Entry) → ¬ (One g e × (g .draft ≡ false)) → One g e → g .draft ≡ true
+          a-draft g n o = or-draft (g .draft) refl
+            where
+              or-draft : (b : Bool) → g .draft ≡ b → b ≡ true
+              or-draft true q = refl
+              or-draft false q = absurd (n (o, q))
+
+          go : {f : Entry} → Found (λ g. One g e × (g .draft ≡ false)) es (firstBy same es e) f → StandsBy One es e f
+          go (found s) = checked s
+          go (missing n q) = drafts (all-imp a-draft es n) (subst (First (λ g. One g e) es) (sym q) first-is)
+
+    pub first-among-them : (e : Entry) → Among e es → Among (firstBy same es e) es
+    first-among-them e a = first-among (first-is e a)
+
+    pub first-one : (e : Entry) → Among e es → One (firstBy same es e) e
+    first-one e a = first-is e a .has
+
+    -- entries of one lattice have one first
+    pub first-same : (e f : Entry) → Among e es → Among f es → One e f → firstBy same es e ≡ firstBy same es f
+    first-same e f a b o = first-once (one-agree o) (first-is e a) (first-is f b)
 
     pub standing-among : (e : Entry) → Among e es → Among (standingBy same es e) es
     standing-among e a = stands-among (standing-is e a)
 
     pub standing-one : (e : Entry) → Among e es → One (standingBy same es e) e
-    standing-one e a = standing-is e a .one
+    standing-one e a = stands-one (standing-is e a)
 
     -- entries of one lattice share it
     pub standing-same : (e f : Entry) → Among e es → Among f es → One e f → standingBy same es e ≡ standingBy same es f

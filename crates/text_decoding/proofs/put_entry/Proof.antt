@@ -1,4 +1,4 @@
--- The head, the coordinates, and what follows them.
+-- The head, the coordinates, the mark, and what stands last.
 use mathlib.Core.Path.{_≡_, sym, subst}
 use Prim.Native.Nat.{_*_, _≤_}
 use native.Mathlib.Omega.{arith}
@@ -42,12 +42,9 @@ put-coordinates-requires c κs =
     let s = h .before .before .before .before .before in
     omega (arith, s .pre .1, entry-length (s .args .e) (s .pre .0) (long s), h .put-head .ensures .place, h .put-head .kept .0)
 
-cast-put-last : tie.Need-cast-put-last
-cast-put-last c = search needs
-
-put-last-requires : tie.Need-put-last-requires
-put-last-requires c κs =
-    let p = c .before .before .before .before in
+put-draft-requires : tie.Need-put-draft-requires
+put-draft-requires c κs =
+    let p = c .before .before .before in
     let h = p .before .before .before .before .before .before in
     let s = h .before .before .before .before .before in
     omega (
@@ -60,18 +57,40 @@ put-last-requires c κs =
       p .put-coordinates .kept .0,
     )
 
+cast-put-last : tie.Need-cast-put-last
+cast-put-last c = search needs
+
+put-last-requires : tie.Need-put-last-requires
+put-last-requires c κs =
+    let d = c .before .before .before .before in
+    let p = d .before .before .before .before in
+    let h = p .before .before .before .before .before .before in
+    let s = h .before .before .before .before .before in
+    omega (
+      arith,
+      s .pre .1,
+      entry-length (s .args .e) (s .pre .0) (long s),
+      h .put-head .ensures .place,
+      h .put-head .kept .0,
+      p .put-coordinates .ensures .place,
+      p .put-coordinates .kept .0,
+      d .put-draft .ensures .place,
+      d .put-draft .kept .0,
+    )
+
 same-length : tie.Need-same-length
 same-length c = search needs
 
 returns : tie.Need-returns
 returns c =
     let l = c .before .before in
-    let p = l .before .before .before .before .before in
+    let d = l .before .before .before .before .before in
+    let p = d .before .before .before .before in
     let h = p .before .before .before .before .before .before in
     let s = h .before .before .before .before .before in
     let a = s .args in
     subst (λ text. Puts text (a .out .now) (a .at) (l .put-last .last .0) (l .put-last .result)) (entry-text (a .e) (s .pre .0) (long s))
-    (puts-then (puts-then (h .put-head .ensures) (p .put-coordinates .ensures)) (l .put-last .ensures))
+    (puts-then (puts-then (puts-then (h .put-head .ensures) (p .put-coordinates .ensures)) (d .put-draft .ensures)) (l .put-last .ensures))
 
 pub put-entry-spec : {M : Type 1} → statement M
 put-entry-spec =
@@ -83,6 +102,7 @@ put-entry-spec =
     array-share-prefix-coordinates
     slice-aggregate-put-coordinates
     put-coordinates-requires
+    put-draft-requires
     cast-put-last
     put-last-requires
     same-length

@@ -1,44 +1,61 @@
--- The head, the coordinates, and a see word or none.
-use mathlib.Core.Path.{_≡_, ap}
-use mathlib.Core.Bool.{cond}
+-- The head, the coordinates, one for a mark, one for a see word.
+use mathlib.Core.Path.{_≡_, refl}
+use mathlib.Core.Bool.{Bool, true, false, cond, not}
 use mathlib.Core.List.{[], _∷_}
-use Prim.Native.Nat.{_≤_}
+use Prim.Native.Nat.{ℕ, _+_, _≤_}
 use native.Mathlib.Omega.{arith}
+use lib.Dec.{eqb}
 use lib.ListN.{length}
+use mir.Val.{boolByte}
 use borrow.Author.Needs.{needs}
-use borrow.Author.Tests.{eq-eqb, ne-eqb}
-use Rattle.text_lines.specs.Told.{seeTold}
+use Rattle.text_lines.specs.Told.{draftTold, wordsIn}
 use Rattle.text_encoding.specs.Counts.{words-count}
 use Rattle.text_encoding.proofs.count_words.Statement.{statement}
 use Rattle.text_encoding.proofs.count_words.Tie as tie
 
+one-most : (b : Bool) → boolByte b ≤ 1
+one-most true = omega arith
+one-most false = omega arith
+
+mark-counted : (b : Bool) → length (draftTold b) ≡ boolByte b
+mark-counted true = refl
+mark-counted false = refl
+
+see-counted : (b : Bool) (n : ℕ) → length (cond b [] (n ∷ [])) ≡ boolByte (not b)
+see-counted true n = refl
+see-counted false n = refl
+
 wide : (c : tie.Start) → length (c .args .l .coordinates) ≡ 225
 wide c = search needs
 
-within : (c : tie.Start) → c .args .l .count ≤ length (c .args .l .coordinates)
-within c = omega (arith, wide c, c .pre)
+counted : (c : tie.Start) → let l = c .args .l in 1 + l .count + boolByte (l .draft) + boolByte (not (eqb (l .see) 0)) ≡ length (wordsIn l)
+counted c =
+    let l = c .args .l in
+    omega (arith, words-count l (omega (arith, wide c, c .pre)), mark-counted (l .draft), see-counted (eqb (l .see) 0) (l .see))
 
 add-result : tie.Need-add-result
 add-result c = search needs
 
-returns : tie.Need-returns
-returns c =
-    let t = c .before in
-    let s = t .before .before in
-    let l = s .args .l in
-    let see : length (seeTold (l .see)) ≡ 0 = ap (λ b. length (cond b [] (l .see ∷ []))) (eq-eqb (l .see) 0 (t .if1 .taken)) in
-    omega (arith, words-count l (within s) see)
+cast-result : tie.Need-cast-result
+cast-result c = search needs
 
 add-result-2 : tie.Need-add-result-2
-add-result-2 c = search needs
+add-result-2 c =
+    let s = c .before .before in
+    omega (arith, s .pre, one-most (s .args .l .draft))
 
-returns-2 : tie.Need-returns-2
-returns-2 c =
-    let t = c .before in
-    let s = t .before .before in
+cast-result-2 : tie.Need-cast-result-2
+cast-result-2 c = search needs
+
+add-result-3 : tie.Need-add-result-3
+add-result-3 c =
+    let s = c .before .before .before in
     let l = s .args .l in
-    let see : length (seeTold (l .see)) ≡ 1 = ap (λ b. length (cond b [] (l .see ∷ []))) (ne-eqb (l .see) 0 (t .if1 .left)) in
-    omega (arith, words-count l (within s) see)
+    omega (arith, s .pre, one-most (l .draft), one-most (not (eqb (l .see) 0)))
+
+returns : tie.Need-returns
+returns c = counted (c .before .before .before)
 
 pub count-words-spec : {M : Type 1} → statement M
-count-words-spec = tie.close (tie.spec add-result returns add-result-2 returns-2)
+count-words-spec =
+    tie.close (tie.spec add-result cast-result add-result-2 cast-result-2 add-result-3 returns)

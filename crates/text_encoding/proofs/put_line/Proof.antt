@@ -1,4 +1,4 @@
--- The head, the coordinates, the see word.
+-- The head, the coordinates, the mark, the see word.
 use mathlib.Core.Path.{_≡_, sym}
 use native.Mathlib.Omega.{arith}
 use lib.ListN.{length}
@@ -28,10 +28,17 @@ first c = stores-room (c .before .before .before .pre .0) (c .put .ensures)
 put-words-requires : tie.Need-put-words-requires
 put-words-requires c κs = first (c .before .before .before .before .before)
 
+second : (c : tie.After-put-words) → Room (c .put-words .last .0) (c .put-words .result)
+second c = stores-room (first (c .before .before .before .before .before .before)) (c .put-words .ensures)
+
+put-draft-requires : tie.Need-put-draft-requires
+put-draft-requires c κs = second (c .before .before .before)
+
+third : (c : tie.After-put-draft) → Room (c .put-draft .last .0) (c .put-draft .result)
+third c = stores-room (second (c .before .before .before .before)) (c .put-draft .ensures)
+
 put-see-requires : tie.Need-put-see-requires
-put-see-requires c κs =
-    let w = c .before .before .before in
-    stores-room (first (w .before .before .before .before .before .before)) (w .put-words .ensures)
+put-see-requires c κs = third (c .before .before .before)
 
 same-length : tie.Need-same-length
 same-length c = search needs
@@ -39,9 +46,10 @@ same-length c = search needs
 returns : tie.Need-returns
 returns c =
     let e = c .before .before in
-    let w = e .before .before .before .before in
+    let d = e .before .before .before .before in
+    let w = d .before .before .before .before in
     let p = w .before .before .before .before .before .before in
-    stores-then (p .before .before .before .pre .0) (p .put .ensures) (stores-then (first p) (w .put-words .ensures) (e .put-see .ensures))
+    stores-then (p .before .before .before .pre .0) (p .put .ensures) (stores-then (first p) (w .put-words .ensures) (stores-then (second w) (d .put-draft .ensures) (e .put-see .ensures)))
 
 pub put-line-spec : {M : Type 1} → statement M
 put-line-spec =
@@ -51,6 +59,7 @@ put-line-spec =
     array-share-prefix-words
     slice-aggregate-put-words
     put-words-requires
+    put-draft-requires
     put-see-requires
     same-length
     returns)

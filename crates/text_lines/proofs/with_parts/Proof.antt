@@ -12,23 +12,23 @@ use borrow.Author.Tests.{not-true, not-false, eq-eqb, ne-eqb}
 use Rattle.integers.specs.Every.{any}
 use Rattle.catalogue_rules.specs.Write.{encodedCoordinates}
 use Rattle.input_checks.specs.Any.{beyond}
-use Rattle.text_parts.specs.Parts.{isEnd, Taken, takenAt}
-use Rattle.text_lines.specs.declared.Mistake.{Mistake}
+use Rattle.text_parts.specs.Parts.{Taken, takenAt}
 use Rattle.text_lines.specs.declared.Mistake.the-variants.{None, NotAll, Beyond, NoSee}
 use Rattle.text_lines.specs.declared.Line.{Line}
-use Rattle.text_lines.specs.Told.{wrongLine, rightLine, stopMistake, isLast, lastSee, seeRead}
+use Rattle.text_lines.specs.declared.Rest.{Rest}
+use Rattle.text_lines.specs.Told.{wrongLine, rightLine, stopMistake, isLast, restRead}
 use Rattle.text_lines.specs.Fields.{to-end}
 use Rattle.text_lines.proofs.with_parts.Statement.{statement}
 use Rattle.text_lines.proofs.with_parts.Tie as tie
 
 -- the definition, of its tests
-abbrev tests : ℕ → Taken → (last all far ended none : Bool) → ℕ → Line
-tests head p last all far ended none see =
-    cond last (cond all (cond far (wrongLine Beyond) (cond ended (rightLine head (p .numbers) 0) (cond none (wrongLine NoSee) (rightLine head (p .numbers) see)))) (wrongLine NotAll)) (wrongLine (stopMistake (p .stop)))
+abbrev tests : ℕ → Taken → (last all far right : Bool) → Rest → Line
+tests head p last all far right rest =
+    cond last (cond all (cond far (wrongLine Beyond) (cond right (rightLine head (p .numbers) rest) (wrongLine NoSee))) (wrongLine NotAll)) (wrongLine (stopMistake (p .stop)))
 
--- the last part
-abbrev seeIn : Taken → List ℕ → ℕ
-seeIn p s = lastSee (takenAt 1 (drop (p .length) s))
+-- what follows the coordinates
+abbrev restIn : Taken → List ℕ → Rest
+restIn p s = restRead (p .stop) (drop (p .length) s)
 
 slice-aggregate-read-part : tie.Need-slice-aggregate-read-part
 slice-aggregate-read-part c = search needs
@@ -55,10 +55,10 @@ returns c =
     let r = t .before .before .before in
     let a = r .before .before .before .args in
     let p = takenAt 225 (a .s .now) in
-    let see = seeIn p (a .s .now) in
+    let rest = restIn p (a .s .now) in
     let mistake : c .before .wrong-stop .result ≡ stopMistake (p .stop) = c .before .wrong-stop .ensures ∙ (λ i. stopMistake (r .read-part .ensures .0 i .stop)) in
     let no : isLast (p .stop) ≡ false = sym (stop (t .before)) ∙ not-true (t .before .is-last .result) (t .if1 .taken) in (
-      c .wrong .ensures ∙ ap wrongLine mistake ∙ sym (λ i. tests (a .head) p (no i) (eqb (length (p .numbers)) (a .n)) (any beyond (p .numbers)) (isEnd (p .stop)) (eqb see 0) see),
+      c .wrong .ensures ∙ ap wrongLine mistake ∙ sym (λ i. tests (a .head) p (no i) (eqb (length (p .numbers)) (a .n)) (any beyond (p .numbers)) (rest .right) rest),
       omega (arith, ap (λ l. l .count) (c .wrong .ensures)),
     )
 
@@ -89,9 +89,9 @@ returns-2 c =
     let r = t .before .before .before .before in
     let a = r .before .before .before .args in
     let p = takenAt 225 (a .s .now) in
-    let see = seeIn p (a .s .now) in
+    let rest = restIn p (a .s .now) in
     let other = ne-eqb (length (p .numbers)) (a .n) (λ h. t .if2 .taken (counted r ∙ h)) in (
-      c .wrong2 .ensures ∙ sym (λ i. tests (a .head) p (last (t .before) i) (other i) (any beyond (p .numbers)) (isEnd (p .stop)) (eqb see 0) see),
+      c .wrong2 .ensures ∙ sym (λ i. tests (a .head) p (last (t .before) i) (other i) (any beyond (p .numbers)) (rest .right) rest),
       omega (arith, ap (λ l. l .count) (c .wrong2 .ensures)),
     )
 
@@ -120,9 +120,9 @@ returns-3 c =
     let e = w .before .before in
     let a = w .before .before .before .before .before .before .before .before .before .args in
     let p = takenAt 225 (a .s .now) in
-    let see = seeIn p (a .s .now) in
+    let rest = restIn p (a .s .now) in
     let far : any beyond (p .numbers) ≡ true = sym (tested w) ∙ t .if3 .taken in (
-      c .wrong3 .ensures ∙ sym (λ i. tests (a .head) p (last (e .before) i) (all e i) (far i) (isEnd (p .stop)) (eqb see 0) see),
+      c .wrong3 .ensures ∙ sym (λ i. tests (a .head) p (last (e .before) i) (all e i) (far i) (rest .right) rest),
       omega (arith, ap (λ l. l .count) (c .wrong3 .ensures)),
     )
 
@@ -134,78 +134,55 @@ words c =
     let w = c .before in
     w .coordinate-words .ensures .1 (c .if3 .left) ∙ ap (λ zs. encodedCoordinates zs ++ replicate (225 - length zs) 0) (cut (w .before .before .before .before .before .before))
 
-is-end-requires : tie.Need-is-end-requires
-is-end-requires c κs = search needs
+sub-rest-of : tie.Need-sub-rest-of
+sub-rest-of c = search needs
 
-ended : (c : tie.After-is-end) → c .is-end .result ≡ isEnd (takenAt 225 (c .before .before .before .before .before .before .before .before .before .before .before .before .args .s .now) .stop)
-ended c = c .is-end .ensures ∙ (λ i. isEnd (c .before .before .before .before .before .before .before .before .before .read-part .ensures .0 i .stop))
+part-rest-of-start : tie.Need-part-rest-of-start
+part-rest-of-start c = search needs
 
-returns-4 : tie.Need-returns-4
-returns-4 c =
-    let e = c .before in
-    let w = e .before .before in
-    let o = w .before .before .before in
-    let r = o .before .before .before .before in
-    let a = r .before .before .before .args in
-    let p = takenAt 225 (a .s .now) in
-    let see = seeIn p (a .s .now) in
-    let yes : isEnd (p .stop) ≡ true = sym (ended e) ∙ c .if4 .taken in (
-      (λ i. record { mistake = None; blank = false; head = a .head; count = counted r i; coordinates = words w i; see = 0 })
-          ∙ sym (λ i. tests (a .head) p (last (o .before) i) (all o i) (near w i) (yes i) (eqb see 0) see),
-      few r,
-    )
+part-rest-of-end : tie.Need-part-rest-of-end
+part-rest-of-end c = search needs
 
-sub-see-of : tie.Need-sub-see-of
-sub-see-of c = search needs
-
-part-see-of-start : tie.Need-part-see-of-start
-part-see-of-start c = search needs
-
-part-see-of-end : tie.Need-part-see-of-end
-part-see-of-end c = search needs
-
-see-of-requires : tie.Need-see-of-requires
-see-of-requires c κs = search needs
+rest-of-requires : tie.Need-rest-of-requires
+rest-of-requires c κs = search needs
 
 wrong-requires-4 : tie.Need-wrong-requires-4
 wrong-requires-4 c κs = search needs
 
--- the last part
-seen : (c : tie.After-see-of) → let s = c .before .before .before .before .before .before .before .before .before .before .before .before .before .before .before .args .s .now in c .see-of .result ≡ lastSee (takenAt 1 (drop (takenAt 225 s .length) s))
-seen c =
-    let s = c .before .before .before .before .before .before .before .before .before .before .before .before .before .before .before .args .s .now in
-    c .see-of .ensures ∙ ap (λ l. lastSee (takenAt 1 l)) (to-end (c .before .before .before .before .before .before .before .before .before .before .before .before .read-part .result .length) s) ∙ (λ i. lastSee (takenAt 1 (drop (c .before .before .before .before .before .before .before .before .before .before .before .before .read-part .ensures .0 i .length) s)))
+found : (c : tie.After-rest-of) → let s = c .before .before .before .before .before .before .before .before .before .before .before .before .before .args .s .now in c .rest-of .result ≡ restIn (takenAt 225 s) s
+found c =
+    let r = c .before .before .before .before .before .before .before .before .before .before in
+    let s = r .before .before .before .args .s .now in
+    c .rest-of .ensures
+    ∙ ap (restRead (r .read-part .result .stop)) (to-end (r .read-part .result .length) s)
+    ∙ (λ i. restRead (r .read-part .ensures .0 i .stop) (drop (r .read-part .ensures .0 i .length) s))
 
-returns-5 : tie.Need-returns-5
-returns-5 c =
+returns-4 : tie.Need-returns-4
+returns-4 c =
     let t = c .before in
-    let v = t .before in
-    let e = v .before .before in
-    let w = e .before .before .before in
+    let v = t .before .before in
+    let w = v .before .before .before in
     let o = w .before .before .before in
     let a = o .before .before .before .before .before .before .before .args in
     let p = takenAt 225 (a .s .now) in
-    let see = seeIn p (a .s .now) in
-    let more : isEnd (p .stop) ≡ false = sym (ended (e .before)) ∙ e .if4 .left in
-    let none = eq-eqb see 0 (sym (seen v) ∙ t .if5 .taken) in (
-      c .wrong4 .ensures ∙ sym (λ i. tests (a .head) p (last (o .before) i) (all o i) (near w i) (more i) (none i) see),
+    let rest = restIn p (a .s .now) in
+    let no : rest .right ≡ false = sym (ap (λ r. r .right) (found v)) ∙ not-true (v .rest-of .result .right) (t .if4 .taken) in (
+      c .wrong4 .ensures ∙ sym (λ i. tests (a .head) p (last (o .before) i) (all o i) (near w i) (no i) rest),
       omega (arith, ap (λ l. l .count) (c .wrong4 .ensures)),
     )
 
-returns-6 : tie.Need-returns-6
-returns-6 c =
-    let v = c .before in
-    let e = v .before .before in
-    let w = e .before .before .before in
+returns-5 : tie.Need-returns-5
+returns-5 c =
+    let v = c .before .before in
+    let w = v .before .before .before in
     let o = w .before .before .before in
     let r = o .before .before .before .before in
     let a = r .before .before .before .args in
     let p = takenAt 225 (a .s .now) in
-    let see = seeIn p (a .s .now) in
-    let more : isEnd (p .stop) ≡ false = sym (ended (e .before)) ∙ e .if4 .left in
-    let some = ne-eqb see 0 (λ z. c .if5 .left (seen v ∙ z)) in (
-      (λ i. record { mistake = None; blank = false; head = a .head; count = counted r i; coordinates = words w i; see = seen v i })
-          ∙ sym (λ i. tests (a .head) p (last (o .before) i) (all o i) (near w i) (more i) (some i) see),
+    let rest = restIn p (a .s .now) in
+    let yes : rest .right ≡ true = sym (ap (λ r. r .right) (found v)) ∙ not-false (v .rest-of .result .right) (c .if4 .left) in (
+      (λ i. record { mistake = None; blank = false; head = a .head; count = counted r i; coordinates = words w i; draft = found v i .draft; see = found v i .see })
+          ∙ sym (λ i. tests (a .head) p (last (o .before) i) (all o i) (near w i) (yes i) rest),
       few r,
     )
 
@@ -226,12 +203,10 @@ with-parts-spec =
     coordinate-words-requires
     wrong-requires-3
     returns-3
-    is-end-requires
-    returns-4
-    sub-see-of
-    part-see-of-start
-    part-see-of-end
-    see-of-requires
+    sub-rest-of
+    part-rest-of-start
+    part-rest-of-end
+    rest-of-requires
     wrong-requires-4
-    returns-5
-    returns-6)
+    returns-4
+    returns-5)

@@ -1,7 +1,7 @@
 //! Catalogues for comparison tests, the same for the same seed.
 
 use super::damage::{damaged, made_dependent, too_large, too_many, wrong_length, DAMAGES};
-use super::made::{largest, made};
+use super::made::{is_draft, largest, made};
 use super::reader::words;
 use super::writer::{bytes, write};
 use crate::random::Random;
@@ -26,13 +26,16 @@ pub enum Kind {
     TooMany,
     /// About the most bytes.
     TooLarge,
-    /// Accepted, 256 entries of the largest kind.
+    /// Accepted, 256 entries of the largest kind, some drafts.
+    Full,
+    /// The same, all drafts, so that there are no more bytes.
     Largest,
 }
 
 /// How often each kind comes: its turn is where the case's index is a multiple of the number and of none before it.
-const TURNS: [(usize, Kind); 9] = [
+const TURNS: [(usize, Kind); 10] = [
     (12_000, Kind::Largest),
+    (11_000, Kind::Full),
     (501, Kind::TooMany),
     (251, Kind::TooLarge),
     (53, Kind::Longer),
@@ -72,6 +75,13 @@ pub fn case(seed: u64, index: usize) -> Vec<u8> {
         Kind::Noise => noise(random),
         Kind::TooMany => too_many(random),
         Kind::TooLarge => too_large(random),
+        Kind::Full => {
+            let mut entries = largest(random);
+            entries
+                .iter_mut()
+                .for_each(|e| e.draft = is_draft(2, random));
+            write(&entries)
+        }
         Kind::Largest => write(&largest(random)),
     }
 }
@@ -86,12 +96,15 @@ pub fn damaged_times(times: usize, whole: Vec<u8>, random: &mut Random) -> Vec<u
     bytes(&w)
 }
 
-/// Any bytes, or any words of the four kinds.
+/// Any bytes, or any words of the five kinds.
 fn noise(random: &mut Random) -> Vec<u8> {
     let n = random.index(40);
     if random.between(0, 1) == 0 {
         return (0..n).map(|_| random.number() as u8).collect();
     }
-    let word = |random: &mut Random| (1 + random.index(4) as u32) << 28 | random.index(600) as u32;
+    let word = |random: &mut Random| {
+        let most = random.pick(&[3, 600]);
+        (1 + random.index(5) as u32) << 28 | random.index(most) as u32
+    };
     bytes(&(0..n).map(|_| word(random)).collect::<Vec<u32>>())
 }

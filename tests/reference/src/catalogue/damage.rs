@@ -1,8 +1,8 @@
 //! Catalogues made wrong, each in one way.
 
-use super::made::made;
-use super::reader::{kind, load, COORDINATE, END, HEAD, SEE};
-use super::writer::{bytes, end_word, entry_words, head_word, see_word};
+use super::made::{is_draft, made};
+use super::reader::{kind, load, COORDINATE, DRAFT, END, HEAD, MARK, SEE};
+use super::writer::{bytes, end_word, entry_words, head_word, mark_word, see_word};
 use super::{Entry, MOST_BYTES, MOST_ENTRIES};
 use crate::bases::any;
 use crate::random::Random;
@@ -16,6 +16,9 @@ pub enum Damage {
     Number,
     Load,
     Length,
+    Mark,
+    MarkBeside,
+    MarkInstead,
     See,
     Count,
     Behind,
@@ -27,12 +30,15 @@ pub enum Damage {
     Cut,
 }
 
-pub const DAMAGES: [Damage; 14] = [
+pub const DAMAGES: [Damage; 17] = [
     Damage::D,
     Damage::M,
     Damage::Number,
     Damage::Load,
     Damage::Length,
+    Damage::Mark,
+    Damage::MarkBeside,
+    Damage::MarkInstead,
     Damage::See,
     Damage::Count,
     Damage::Behind,
@@ -44,11 +50,16 @@ pub const DAMAGES: [Damage; 14] = [
     Damage::Cut,
 ];
 
+/// Loads of words that are marks or nearly.
+const MARKS: [u32; 7] = [DRAFT, DRAFT, DRAFT, 0, 2, 3, (1 << 28) - 1];
+
 /// The words with one damage; as they were where no word is of the kind that it needs.
 pub fn damaged(mut words: Vec<u32>, damage: Damage, random: &mut Random) -> Vec<u32> {
     let wanted = match damage {
         Damage::D | Damage::M | Damage::Number => Some(HEAD),
         Damage::Load | Damage::Length => Some(COORDINATE),
+        Damage::Mark => Some(MARK),
+        Damage::MarkBeside => Some(random.pick(&[HEAD, COORDINATE, SEE, END, MARK])),
         Damage::See => Some(SEE),
         Damage::Count => Some(END),
         _ => None,
@@ -78,13 +89,16 @@ pub fn damaged(mut words: Vec<u32>, damage: Damage, random: &mut Random) -> Vec<
             words[i] = COORDINATE << 28 | random.pick(&loads);
         }
         Damage::Length => words[i] = COORDINATE << 28 | random.pick(&[0, 40_000, 34_143]),
+        Damage::Mark | Damage::MarkInstead => words[i] = mark_word(random.pick(&MARKS)),
+        Damage::MarkBeside => words.insert(i + random.index(2), mark_word(random.pick(&MARKS))),
         Damage::See => {
             let numbers = [0, 1, 2, 1 << 20, (1 << 28) - 1, random.number() as u32 >> 4];
             words[i] = see_word(random.pick(&numbers));
         }
         Damage::Count => words[i] ^= 1 << random.index(28),
         Damage::Behind => {
-            let behind = [words[other], end_word(0), 0, random.number() as u32];
+            let mark = mark_word(random.pick(&MARKS));
+            let behind = [words[other], end_word(0), mark, 0, random.number() as u32];
             words.push(random.pick(&behind));
         }
         Damage::Kind => words[i] = load(words[i]) | (random.index(16) as u32) << 28,
@@ -121,7 +135,7 @@ pub fn made_dependent(entries: &mut [Entry], random: &mut Random) {
     }
 }
 
-/// More heads than a catalogue may have; the last ones may be wrong in other ways too.
+/// More heads than a catalogue may have, behind entries of all sorts; the first that is too many may be wrong in other ways too.
 pub fn too_many(random: &mut Random) -> Vec<u8> {
     let count = MOST_ENTRIES + 1 + random.index(3);
     let mut words = vec![];
@@ -129,12 +143,14 @@ pub fn too_many(random: &mut Random) -> Vec<u8> {
         let e = Entry {
             number: 1 + i as u32,
             vectors: vec![vec![1 + i as i64]],
-            see: None,
+            draft: is_draft(3, random),
+            see: random.pick(&[None, None, Some(1)]),
         };
+        let head = words.len();
         words.extend(entry_words(&e));
-    }
-    if random.between(0, 1) == 0 {
-        words[2 * MOST_ENTRIES] &= !0xFF;
+        if i == MOST_ENTRIES && random.between(0, 1) == 0 {
+            words[head] &= !0xFF;
+        }
     }
     words.push(end_word(count));
     bytes(&words)
@@ -158,6 +174,7 @@ fn full(random: &mut Random) -> Vec<Entry> {
     let entry = |i| Entry {
         number: 1 + i as u32,
         vectors: any(MOST_VECTORS, MOST_COORDINATES, size, random),
+        draft: true,
         see: Some(1),
     };
     (0..MOST_ENTRIES).map(entry).collect()

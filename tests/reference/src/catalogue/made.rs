@@ -14,19 +14,24 @@ pub fn made(count: usize, random: &mut Random) -> Vec<Entry> {
         .map(|_| independent(random))
         .collect();
     let numbers = numbers(count, random);
+    let drafts = match random.between(0, 2) {
+        0 => vec![0; lattices.len()],
+        _ => drafts(lattices.len(), random),
+    };
     (0..count)
         .map(|i| {
             let chosen = random.index(lattices.len());
             Entry {
                 number: numbers[i],
                 vectors: disguised(lattices[chosen].clone(), random),
+                draft: is_draft(drafts[chosen], random),
                 see: see(i, &numbers, random),
             }
         })
         .collect()
 }
 
-/// The largest catalogue: each entry with four vectors of eight coordinates and a see word.
+/// The largest catalogue: each entry with four vectors of eight coordinates, a mark and a see word.
 pub fn largest(random: &mut Random) -> Vec<Entry> {
     let numbers = numbers(MOST_ENTRIES, random);
     let some = (0..40).map(|_| loop {
@@ -40,19 +45,21 @@ pub fn largest(random: &mut Random) -> Vec<Entry> {
         .map(|i| Entry {
             number: numbers[i],
             vectors: scrambled(lattices[i % lattices.len()].clone(), random),
+            draft: true,
             see: Some(random.pick(&numbers)),
         })
         .collect()
 }
 
-/// A catalogue with many see words on entries that do not stand: up to 32 entries of few lattices of small vectors, most with a see word; the
-/// first of a lattice has one half the time, and often one that leads to itself.
+/// A catalogue with drafts and with many see words on entries that do not stand: up to 32 entries of few lattices of small vectors, most with
+/// a see word; the first of a lattice has one half the time, and often one that leads to itself.
 pub fn referring(random: &mut Random) -> Vec<Entry> {
     let count = 2 + random.index(31);
     let numbers = numbers(count, random);
     let lattices: Vec<(i64, usize)> = (0..1 + random.index(6))
         .map(|k| (k as i64 + 2, 1 + random.index(MOST_COORDINATES)))
         .collect();
+    let drafts = drafts(lattices.len(), random);
     let of: Vec<usize> = (0..count).map(|_| random.index(lattices.len())).collect();
     let alike = |i: usize, random: &mut Random| {
         let others: Vec<u32> = (0..count)
@@ -61,7 +68,7 @@ pub fn referring(random: &mut Random) -> Vec<Entry> {
             .collect();
         random.pick(&others)
     };
-    (0..count)
+    let mut all: Vec<Entry> = (0..count)
         .map(|i| {
             let is_first = (0..i).all(|k| of[k] != of[i]);
             let see = match (is_first, random.between(0, 7)) {
@@ -72,10 +79,18 @@ pub fn referring(random: &mut Random) -> Vec<Entry> {
             Entry {
                 number: numbers[i],
                 vectors: line_or_square(lattices[of[i]], random),
+                draft: is_draft(drafts[of[i]], random),
                 see,
             }
         })
-        .collect()
+        .collect();
+    if !all.iter().any(|e| e.draft) {
+        all[random.index(count)].draft = true;
+    }
+    if all.iter().all(|e| e.see.is_none()) {
+        all[random.index(count)].see = Some(random.pick(&numbers));
+    }
+    all
 }
 
 /// The lattice of the multiples of a, or that of the pairs of them, which is told by whether a is even, in the last of m coordinates.
@@ -123,6 +138,17 @@ pub fn numbers(count: usize, random: &mut Random) -> Vec<u32> {
         all[count - 1] = MOST_NUMBER;
     }
     all
+}
+
+/// For each lattice how many of six entries are drafts: none, a third, most or all.
+fn drafts(lattices: usize, random: &mut Random) -> Vec<i64> {
+    let of_six = |_| random.pick(&[0, 2, 2, 2, 4, 6]);
+    (0..lattices).map(of_six).collect()
+}
+
+/// True for so many of six.
+pub fn is_draft(of_six: i64, random: &mut Random) -> bool {
+    random.between(1, 6) <= of_six
 }
 
 /// None, its own number, or that of any entry.

@@ -2,6 +2,7 @@
 
 pub mod cases;
 pub mod damage;
+pub mod drafts;
 pub mod fold;
 pub mod hermite;
 pub mod listing;
@@ -14,15 +15,16 @@ pub mod text;
 pub mod writer;
 
 pub const MOST_ENTRIES: usize = 256;
-pub const MOST_BYTES: usize = 34_820;
+pub const MOST_BYTES: usize = 35_844;
 /// The greatest entry number.
 pub const MOST_NUMBER: u32 = 1_048_575;
 
-/// An entry: its number, d vectors of m coordinates each, and the number in its see word.
+/// An entry: its number, d vectors of m coordinates each, whether it is a draft, and the number in its see word.
 #[derive(Clone, Debug, PartialEq, Eq)]
 pub struct Entry {
     pub number: u32,
     pub vectors: Vec<Vec<i64>>,
+    pub draft: bool,
     pub see: Option<u32>,
 }
 

@@ -2,7 +2,7 @@
 
 use super::cases::damaged_times;
 use super::damage::{made_dependent, wrong_length};
-use super::made::{independent, largest, numbers, see};
+use super::made::{independent, is_draft, largest, numbers, see};
 use super::related;
 use super::writer::write;
 use super::Entry;
@@ -128,6 +128,7 @@ fn among_others(two: [Vec<Vec<i64>>; 2], random: &mut Random) -> (Vec<Entry>, us
     let entry = |(k, vectors)| Entry {
         number: numbers[k],
         vectors,
+        draft: is_draft(2, random),
         see: see(k, &numbers, random),
     };
     (all.into_iter().enumerate().map(entry).collect(), i, j)

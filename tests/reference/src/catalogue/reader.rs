@@ -9,6 +9,10 @@ pub const HEAD: u32 = 1;
 pub const COORDINATE: u32 = 2;
 pub const SEE: u32 = 3;
 pub const END: u32 = 4;
+pub const MARK: u32 = 5;
+
+/// The load of a draft's mark.
+pub const DRAFT: u32 = 1;
 
 pub fn kind(word: u32) -> u32 {
     word >> 28
@@ -90,6 +94,7 @@ impl Reader {
         for _ in 0..d {
             vectors.push(self.vector(m)?);
         }
+        let draft = self.mark()?;
         let mut see = None;
         let see_place = self.at;
         if self.is_next(SEE) {
@@ -98,6 +103,7 @@ impl Reader {
         self.entries.push(Entry {
             number,
             vectors,
+            draft,
             see,
         });
         self.heads.push(place);
@@ -116,6 +122,18 @@ impl Reader {
             }
         }
         Ok(v)
+    }
+
+    /// Whether a draft's mark comes next. It is taken then.
+    fn mark(&mut self) -> Result<bool, Refused> {
+        let place = self.at;
+        if !self.is_next(MARK) {
+            return Ok(false);
+        }
+        match self.take(MARK)? {
+            DRAFT => Ok(true),
+            _ => refuse(18, place),
+        }
     }
 
     fn end(&mut self) -> Result<(), Refused> {

@@ -1,8 +1,11 @@
-//! Catalogues as text, one entry to a line: `number d m ; coordinates`, vector by vector, and where there is a see word `; see` behind.
-//! What stands behind a `#` is a comment, and lines that hold nothing else are passed over.
+//! Catalogues as text, one entry to a line: `number d m ; coordinates`, vector by vector; where it is a draft `; draft` behind, and where
+//! there is a see word `; see` last. What stands behind a `#` is a comment, and lines that hold nothing else are passed
+//! over.
 
 use super::Entry;
 use crate::random::Random;
+
+const DRAFT: &str = "draft";
 
 /// The entries of a text, or the number of the first line that is none, from 1.
 pub fn entries(text: &str) -> Result<Vec<Entry>, usize> {
@@ -18,22 +21,28 @@ fn content(line: &str) -> &str {
 }
 
 fn entry(line: &str) -> Option<Entry> {
-    let parts: Vec<Vec<i64>> = line.split(';').map(numbers).collect::<Option<_>>()?;
-    let (head, coordinates, see) = match &parts[..] {
-        [head, coordinates] => (head, coordinates, None),
-        [head, coordinates, see] => (head, coordinates, Some(see)),
+    let parts: Vec<&str> = line.split(';').collect();
+    let is_draft = |part: &str| part.trim() == DRAFT;
+    let (head, coordinates, draft, see) = match parts[..] {
+        [head, coordinates] => (head, coordinates, false, None),
+        [head, coordinates, last] if is_draft(last) => (head, coordinates, true, None),
+        [head, coordinates, see] => (head, coordinates, false, Some(see)),
+        [head, coordinates, mark, see] if is_draft(mark) => (head, coordinates, true, Some(see)),
         _ => return None,
     };
-    let &[number, d, m] = &head[..] else {
+    let [number, d, m] = numbers(head)?[..] else {
         return None;
     };
+    let coordinates = numbers(coordinates)?;
     if d < 1 || m < 1 || coordinates.len() as i64 != d * m {
         return None;
     }
-    let see = match see.map(|s| &s[..]) {
+    let see = match see {
         None => None,
-        Some(&[see]) => Some(u32::try_from(see).ok()?),
-        Some(_) => return None,
+        Some(see) => match numbers(see)?[..] {
+            [see] => Some(u32::try_from(see).ok()?),
+            _ => return None,
+        },
     };
     Some(Entry {
         number: u32::try_from(number).ok()?,
@@ -41,6 +50,7 @@ fn entry(line: &str) -> Option<Entry> {
             .chunks(m as usize)
             .map(<[i64]>::to_vec)
             .collect(),
+        draft,
         see,
     })
 }
@@ -54,14 +64,16 @@ pub fn text(entries: &[Entry]) -> String {
     entries.iter().map(line).collect()
 }
 
-/// The same text with comments behind some lines, and with empty lines and comments between them.
+/// The same text with other blanks in some lines, with comments behind some, and with empty lines and comments between them.
 pub fn commented(entries: &[Entry], random: &mut Random) -> String {
     let with_comment = |e| {
         let line = line(e);
-        match random.index(4) {
+        match random.index(6) {
             0 => line,
             1 => format!("{} # {line}", line.trim_end()),
             2 => format!("\n{line}"),
+            3 => line.replace(" ; ", ";"),
+            4 => line.replace(' ', "\t "),
             _ => format!(" \t#; 1 x\n{line}"),
         }
     };
@@ -71,9 +83,10 @@ pub fn commented(entries: &[Entry], random: &mut Random) -> String {
 fn line(e: &Entry) -> String {
     let coordinates = e.vectors.concat();
     let coordinates: Vec<String> = coordinates.iter().map(i64::to_string).collect();
+    let draft = if e.draft { " ; draft" } else { "" };
     let see = e.see.map_or(String::new(), |n| format!(" ; {n}"));
     format!(
-        "{} {} {} ; {}{see}\n",
+        "{} {} {} ; {}{draft}{see}\n",
         e.number,
         e.d(),
         e.m(),

@@ -1,6 +1,6 @@
 //! Entries to bytes.
 
-use super::reader::{COORDINATE, END, HEAD, SEE};
+use super::reader::{COORDINATE, DRAFT, END, HEAD, MARK, SEE};
 use super::Entry;
 use crate::MOST_SIZE;
 
@@ -16,14 +16,20 @@ pub fn see_word(number: u32) -> u32 {
     SEE << 28 | number
 }
 
+/// A draft's mark where the load is 1.
+pub fn mark_word(load: u32) -> u32 {
+    MARK << 28 | load
+}
+
 pub fn end_word(count: usize) -> u32 {
     END << 28 | count as u32
 }
 
-/// A head, the coordinates, and a see word if there is one.
+/// A head, the coordinates, a mark if it is a draft, and a see word if there is one.
 pub fn entry_words(e: &Entry) -> Vec<u32> {
     let mut all = vec![head_word(e.number, e.d(), e.m())];
     all.extend(e.vectors.concat().iter().map(|&x| coordinate_word(x)));
+    all.extend(e.draft.then_some(mark_word(DRAFT)));
     all.extend(e.see.map(see_word));
     all
 }

@@ -13,7 +13,7 @@ use Rattle.catalogue_fold.proofs.carrying.carried_ways.Statement.{state
 use Rattle.catalogue_fold.proofs.carrying.carried_ways.Tie as tie
 
 abbrev Inv-loop : tie.InvT-loop
-Inv-loop numbers standing c ways₀ k₀ k-end ways k = (k ≤ k-end) × Carrying (entriesIn c) (entryIn beyond) k ways
+Inv-loop numbers standing c ways₀ k₀ k-end ways k = (k ≤ k-end) × Carrying (entriesIn c) (entryIn beyond) standing k ways
 
 abbrev μ-loop : tie.MeasureT-loop
 μ-loop numbers standing c ways₀ k₀ k-end ways k = k-end - k
@@ -25,7 +25,7 @@ loop-holds : tie.Need-loop-holds Inv-loop μ-loop
 loop-holds c =
     let s = c .before .before .before in
     let es = entriesIn (s .args .t1) in
-    (search needs, subst (λ w. Carrying es (entryIn beyond) 0 (replicate mostEntries w)) (sym (c .nowhere .ensures)) (carrying-none es (entryIn beyond) (s .pre .0 .formed .entered .few)))
+    (search needs, subst (λ w. Carrying es (entryIn beyond) (s .args .standing .now) 0 (replicate mostEntries w)) (sym (c .nowhere .ensures)) (carrying-none es (entryIn beyond) (s .args .standing .now) (s .pre .0 .formed .entered .few)))
 
 -- place k is one of the arrays', and so is that of the standing entry
 small : (c : tie.In-loop Inv-loop μ-loop) → c .before .loop .k < mostEntries
@@ -75,8 +75,8 @@ mul-before c = let i = c .before .before .before .before in omega (arith, place 
 array-copy-out-before : tie.Need-array-copy-out-before Inv-loop μ-loop
 array-copy-out-before c = let i = c .before .before .before .before in omega (arith, place i, few i)
 
-earlier-requires : tie.Need-earlier-requires Inv-loop μ-loop
-earlier-requires c κs = search needs
+considered-requires : tie.Need-considered-requires Inv-loop μ-loop
+considered-requires c κs = search needs
 
 mul-ways : tie.Need-mul-ways Inv-loop μ-loop
 mul-ways c = let i = c .before .before .before .before .before .before in omega (arith, small i, place i, few i)
@@ -96,13 +96,13 @@ loop-again c =
     let i = w .before .before .before .before in
     let l = i .before in
     let s = l .before .before .before .before in
-    (search needs, carrying-step (s .args .t1) (s .pre .0) (s .pre .1 .1 .1) (s .pre .1 .0) (l .loop .k) (i .loop-test .taken) (l .loop .inv .1) (w .way-of .ensures) (c .earlier .ensures))
+    (search needs, carrying-step (s .args .t1) (s .pre .0) (s .pre .1 .1 .1) (s .pre .1 .0) (l .loop .k) (i .loop-test .taken) (l .loop .inv .1) (w .way-of .ensures) (c .considered .ensures))
 
 returns : tie.Need-returns Inv-loop μ-loop
 returns c =
     let l = c .before in
     let s = l .before .before .before .before in
-    carrying-all (entriesIn (s .args .t1)) (entryIn beyond) (l .loop .inv .1) (omega (arith, ready-length (s .args .t1) (s .pre .0), c .loop-test .left))
+    carrying-all (entriesIn (s .args .t1)) (entryIn beyond) (s .args .standing .now) (l .loop .inv .1) (omega (arith, ready-length (s .args .t1) (s .pre .0), c .loop-test .left))
 
 pub carried-ways-spec : {M : Type 1} → statement M
 carried-ways-spec =
@@ -121,7 +121,7 @@ carried-ways-spec =
     way-of-requires
     mul-before
     array-copy-out-before
-    earlier-requires
+    considered-requires
     mul-ways
     array-set-from-ways
     add-k

@@ -10,10 +10,10 @@ use Rattle.catalogue_fold.proofs.printing.printed.Statement.{statement}
 use Rattle.catalogue_fold.proofs.printing.printed.Tie as tie
 
 -- all else being the same, an entry is printed as it should be when its coordinates are
-with-coordinates : {number d m place see at : ℕ} {sees : Bool} {l r : List ℤ} → l ≡ r
-    → _≡_ {A = Entry} (record { number = number; d = d; m = m; place = place; sees = sees; see = see; at = at; coordinates = l })
-    (record { number = number; d = d; m = m; place = place; sees = sees; see = see; at = at; coordinates = r })
-with-coordinates {number} {d} {m} {place} {see} {at} {sees} h = ap (λ (l : List ℤ). record { number = number; d = d; m = m; place = place; sees = sees; see = see; at = at; coordinates = l }) h
+with-coordinates : {number d m place see at : ℕ} {draft sees : Bool} {l r : List ℤ} → l ≡ r
+    → _≡_ {A = Entry} (record { number = number; d = d; m = m; place = place; draft = draft; sees = sees; see = see; at = at; coordinates = l })
+    (record { number = number; d = d; m = m; place = place; draft = draft; sees = sees; see = see; at = at; coordinates = r })
+with-coordinates {number} {d} {m} {place} {see} {at} {draft} {sees} h = ap (λ (l : List ℤ). record { number = number; d = d; m = m; place = place; draft = draft; sees = sees; see = see; at = at; coordinates = l }) h
 
 returns : tie.Need-returns
 returns c = with-coordinates (search needs)

@@ -6,7 +6,6 @@ use lib.ListN.{length, length-append}
 use Rattle.fold_rules.specs.Fold.{standingIn, closedList}
 use Rattle.fold_rules.specs.Listing.{entryLines}
 use Rattle.catalogue_records.specs.EntriesIn.{entriesIn}
-use Rattle.catalogue_standing.specs.ReducedEntries.{keeps-fair}
 use Rattle.text_output.specs.Puts.{Puts, puts-then}
 use Rattle.catalogue_listing.specs.Counts.{countsLine, counts-text}
 use borrow.Author.Needs.{needs}
@@ -17,15 +16,13 @@ lattices-of-requires : tie.Need-lattices-of-requires
 lattices-of-requires c κs = search needs
 
 closed-requires : tie.Need-closed-requires
-closed-requires c κs =
-    let s = c .before .before in
-    (s .pre .0 .few, keeps-fair _ (s .pre .0) (c .lattices-of .ensures))
+closed-requires c κs = (c .before .before .pre .0, c .lattices-of .ensures)
 
 slice-aggregate-count-standing : tie.Need-slice-aggregate-count-standing
 slice-aggregate-count-standing c = search needs
 
 count-standing-requires : tie.Need-count-standing-requires
-count-standing-requires c κs = omega (arith, c .before .before .before .before .pre .0 .few, c .before .closed .ensures .long)
+count-standing-requires c κs = omega (arith, c .before .before .before .before .pre .0 .few, c .before .closed .ensures .1)
 
 -- the first line
 first : (c : tie.After-count-standing) → let a = c .before .before .before .before .before .args in let ss = closedList (entriesIn (a .c)) in countsLine (a .c .count) (c .count-standing .result) ≡ countsLine (length ss) (length (standingIn ss))
@@ -33,7 +30,7 @@ first c =
     let d = c .before .before in
     let k = d .before in
     let s = k .before .before in
-    counts-text (s .args .c) (s .pre .0) (k .lattices-of .ensures) (d .closed .ensures) (c .count-standing .ensures)
+    counts-text (s .args .c) (s .pre .0) (d .closed .ensures .0) (c .count-standing .ensures)
 
 returns : tie.Need-returns
 returns c =
@@ -63,7 +60,7 @@ put-entries-requires c κs =
     let d = w .before .before in
     let k = d .before in
     let s = k .before .before in
-    (s .pre .0, (k .lattices-of .ensures, (d .closed .ensures, omega (arith, room w, n .put-counts .ensures .place, n .put-counts .kept .0))))
+    (s .pre .0, (k .lattices-of .ensures, (omega (arith, s .pre .0 .few, d .closed .ensures .1), (d .closed .ensures .0, omega (arith, room w, n .put-counts .ensures .place, n .put-counts .kept .0)))))
 
 same-length : tie.Need-same-length
 same-length c = search needs

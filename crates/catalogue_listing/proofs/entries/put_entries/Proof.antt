@@ -48,7 +48,8 @@ shared-slice-read-s c = search needs
 place : (c : tie.In-loop Inv-loop μ-loop) → getD (c .before .before .before .before .before .args .standing .now) (c .before .loop .k) 0 < 256
 place c =
     let s = c .before .before .before .before .before in
-    omega (arith, s .pre .1 .1 .0 .first (c .before .loop .k) (c .loop-test .taken) .within, s .pre .0 .few, c .loop-test .taken)
+    let n = ready-length (s .args .t3) (s .pre .0) in
+    omega (arith, n, s .pre .1 .1 .1 .0 .within (c .before .loop .k) (omega (arith, n, c .loop-test .taken)), s .pre .0 .few)
 
 mul-own : tie.Need-mul-own Inv-loop μ-loop
 mul-own c = omega (arith, place (c .before .before .before))
@@ -66,8 +67,8 @@ way-of-requires : tie.Need-way-of-requires Inv-loop μ-loop
 way-of-requires c κs =
     let l = c .before .before .before .before .before in
     let s = l .before .before .before .before in
-    let closed = s .pre .1 .1 .0 in
-    ((omega (arith, s .pre .0 .few, all (l .before)), omega (arith, s .pre .0 .few, closed .long)), (s .pre .0 .few, λ k h. omega (arith, closed .first k h .within, h)))
+    let n = ready-length (s .args .t3) (s .pre .0) in
+    ((omega (arith, s .pre .0 .few, all (l .before)), s .pre .1 .1 .0), (s .pre .0 .few, λ k h. omega (arith, n, s .pre .1 .1 .1 .0 .within k (omega (arith, n, h)))))
 
 -- the output is as long as at first
 long : (c : tie.At-loop Inv-loop μ-loop) → length (c .loop .out) ≡ length (c .before .before .before .before .args .out .now)
@@ -85,12 +86,12 @@ put-entry-requires c κs =
     let es = entriesIn (s .args .t3) in
     let named = l .before .numbers .ensures in
     let here = i .loop-test .taken in
-    let text = entry-shown (s .args .t3) (s .pre .0) (s .pre .1 .0) (s .pre .1 .1 .0) named (l .loop .k) here (c .before .way-of .ensures) in (
-      kept-entry (s .args .t3) (s .pre .0) (s .pre .1 .0) (s .pre .1 .1 .0) named (l .loop .k) here,
+    let text = entry-shown (s .args .t3) (s .pre .0) (s .pre .1 .0) (s .pre .1 .1 .1 .0) named (l .loop .k) here (c .before .way-of .ensures) in (
+      kept-entry (s .args .t3) (s .pre .0) (s .pre .1 .0) (s .pre .1 .1 .1 .0) named (l .loop .k) here,
       omega (
         arith,
         long l,
-        s .pre .1 .1 .1,
+        s .pre .1 .1 .1 .1,
         ap length (entries-joined (closedList es) (closedList es)),
         l .loop .inv .1 .place,
         joined-room (shown (closedList es)) (closedList es) (l .loop .k) (stoodOf es (entryIn beyond)) (omega (arith, here, count s)),
@@ -114,7 +115,7 @@ loop-again c =
     let es = entriesIn (s .args .t3) in
     let ss = closedList es in
     let here = i .loop-test .taken in
-    let text = entry-shown (s .args .t3) (s .pre .0) (s .pre .1 .0) (s .pre .1 .1 .0) (l .before .numbers .ensures) (l .loop .k) here (w .way-of .ensures) in (
+    let text = entry-shown (s .args .t3) (s .pre .0) (s .pre .1 .0) (s .pre .1 .1 .1 .0) (l .before .numbers .ensures) (l .loop .k) here (w .way-of .ensures) in (
       search needs,
       puts-next (shown ss) ss (l .loop .k) (stoodOf es (entryIn beyond)) (omega (arith, here, count s)) (l .loop .inv .1)
           (subst (λ t. Puts t (l .loop .out) (l .loop .n) (p .put-entry .last .0) (p .put-entry .result)) text (p .put-entry .ensures)),

@@ -29,9 +29,13 @@ returns-4 c = rw (c .match .keys4)
 
 returns-5 : tie.Need-returns-5
 unfolding words.decode
-returns-5 c =
+returns-5 c = rw (c .match .keys5)
+
+returns-6 : tie.Need-returns-6
+unfolding words.decode
+returns-6 c =
     let r = c .match .rest in
-    other-word _ _ (r .0 .0 .0 .1) (r .0 .0 .1) (r .0 .1) (r .1)
+    other-word _ _ (r .0 .0 .0 .0 .1) (r .0 .0 .0 .1) (r .0 .0 .1) (r .0 .1) (r .1)
 
 pub decode-spec : {M : Type 1} → statement M
-decode-spec = tie.close (tie.spec cast-t8 cast-t10 returns returns-2 returns-3 returns-4 returns-5)
+decode-spec = tie.close (tie.spec cast-t8 cast-t10 returns returns-2 returns-3 returns-4 returns-5 returns-6)

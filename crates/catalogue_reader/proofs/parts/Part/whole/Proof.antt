@@ -36,6 +36,12 @@ enum-told-4 c = search needs
 entry-requires-5 : tie.Need-entry-requires-5
 entry-requires-5 c κs = search needs
 
+enum-told-5 : tie.Need-enum-told-5
+enum-told-5 c = search needs
+
+entry-requires-6 : tie.Need-entry-requires-6
+entry-requires-6 c κs = search needs
+
 returns : tie.Need-returns
 returns c =
     let a = c .before .before .before .args in
@@ -61,6 +67,11 @@ returns-5 c =
     let a = c .before .before .before .args in
     c .entry5 .ensures ∙ sym (ap (λ w. wholeAt (a .self) (a .coordinates) (a .i) (wordIn w)) (c .before .enum-told4 .given .1))
 
+returns-6 : tie.Need-returns-6
+returns-6 c =
+    let a = c .before .before .before .args in
+    c .entry6 .ensures ∙ sym (ap (λ w. wholeAt (a .self) (a .coordinates) (a .i) (wordIn w)) (c .before .enum-told5 .given .1))
+
 pub whole-spec : {M : Type 1} → statement M
 whole-spec =
     tie.close
@@ -75,8 +86,11 @@ whole-spec =
     entry-requires-4
     enum-told-4
     entry-requires-5
+    enum-told-5
+    entry-requires-6
     returns
     returns-2
     returns-3
     returns-4
-    returns-5)
+    returns-5
+    returns-6)

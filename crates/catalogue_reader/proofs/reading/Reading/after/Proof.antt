@@ -40,6 +40,12 @@ with-entry-requires-3 c κs = search needs
 at-end-requires : tie.Need-at-end-requires
 at-end-requires c κs = search needs
 
+enum-known-w-3 : tie.Need-enum-known-w-3
+enum-known-w-3 c = search needs
+
+at-draft-requires : tie.Need-at-draft-requires
+at-draft-requires c κs = search needs
+
 enum-told-3 : tie.Need-enum-told-3
 enum-told-3 c = search needs
 
@@ -69,6 +75,11 @@ returns-4 c =
 
 returns-5 : tie.Need-returns-5
 returns-5 c =
+    let s = c .before .before .before .before .before in
+    c .at-draft .ensures ∙ sym (ap (λ w. afterRead (s .args .numbers .now) (s .args .self) (s .args .i) (wordIn w)) (c .before .before .w3 .given .1))
+
+returns-6 : tie.Need-returns-6
+returns-6 c =
     let s = c .before .before .before .before in
     c .stop2 .ensures ∙ sym (ap (λ w. afterRead (s .args .numbers .now) (s .args .self) (s .args .i) (wordIn w)) (c .before .enum-told3 .given .1))
 
@@ -86,10 +97,13 @@ after-spec =
     enum-known-w-2
     with-entry-requires-3
     at-end-requires
+    enum-known-w-3
+    at-draft-requires
     enum-told-3
     stop-requires-2
     returns
     returns-2
     returns-3
     returns-4
-    returns-5)
+    returns-5
+    returns-6)

@@ -36,6 +36,12 @@ enum-told-4 c = search needs
 stop-requires-4 : tie.Need-stop-requires-4
 stop-requires-4 c κs = search needs
 
+enum-told-5 : tie.Need-enum-told-5
+enum-told-5 c = search needs
+
+stop-requires-5 : tie.Need-stop-requires-5
+stop-requires-5 c κs = search needs
+
 returns : tie.Need-returns
 returns c = c .stop .ensures ∙ sym (ap (λ w. insideRead (c .before .before .before .args .self) (wordIn w)) (c .before .enum-told .given .1))
 
@@ -51,6 +57,9 @@ returns-4 c = c .stop3 .ensures ∙ sym (ap (λ w. insideRead (c .before .before
 returns-5 : tie.Need-returns-5
 returns-5 c = c .stop4 .ensures ∙ sym (ap (λ w. insideRead (c .before .before .before .args .self) (wordIn w)) (c .before .enum-told4 .given .1))
 
+returns-6 : tie.Need-returns-6
+returns-6 c = c .stop5 .ensures ∙ sym (ap (λ w. insideRead (c .before .before .before .args .self) (wordIn w)) (c .before .enum-told5 .given .1))
+
 pub inside-spec : {M : Type 1} → statement M
 inside-spec =
     tie.close
@@ -65,8 +74,11 @@ inside-spec =
     stop-requires-3
     enum-told-4
     stop-requires-4
+    enum-told-5
+    stop-requires-5
     returns
     returns-2
     returns-3
     returns-4
-    returns-5)
+    returns-5
+    returns-6)

@@ -36,6 +36,12 @@ enum-told-3 c = search needs
 stop-requires-3 : tie.Need-stop-requires-3
 stop-requires-3 c κs = search needs
 
+enum-told-4 : tie.Need-enum-told-4
+enum-told-4 c = search needs
+
+stop-requires-4 : tie.Need-stop-requires-4
+stop-requires-4 c κs = search needs
+
 returns : tie.Need-returns
 returns c =
     let s = c .before .before .before .before .before in
@@ -61,6 +67,11 @@ returns-5 c =
     let s = c .before .before .before .before in
     c .stop3 .ensures ∙ sym (ap (λ w. outsideRead (s .args .numbers .now) (s .args .self) (s .args .i) (wordIn w)) (c .before .enum-told3 .given .1))
 
+returns-6 : tie.Need-returns-6
+returns-6 c =
+    let s = c .before .before .before .before in
+    c .stop4 .ensures ∙ sym (ap (λ w. outsideRead (s .args .numbers .now) (s .args .self) (s .args .i) (wordIn w)) (c .before .enum-told4 .given .1))
+
 pub outside-spec : {M : Type 1} → statement M
 outside-spec =
     tie.close
@@ -75,8 +86,11 @@ outside-spec =
     at-end-requires
     enum-told-3
     stop-requires-3
+    enum-told-4
+    stop-requires-4
     returns
     returns-2
     returns-3
     returns-4
-    returns-5)
+    returns-5
+    returns-6)
