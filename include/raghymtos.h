@@ -18,9 +18,9 @@ extern "C" {
 #endif
 
 #define RAGHYMTOS_VERSION_MAJOR 0
-#define RAGHYMTOS_VERSION_MINOR 7
+#define RAGHYMTOS_VERSION_MINOR 8
 #define RAGHYMTOS_VERSION_PATCH 0
-#define RAGHYMTOS_VERSION "0.7.0"
+#define RAGHYMTOS_VERSION "0.8.0"
 
 /* A name that ends in _AT is an index into an answer, one that ends in _COUNT a number of numbers,
  * one that begins with MOST a limit. */
@@ -31,9 +31,10 @@ extern "C" {
 #define RAGHYMTOS_MOST_SIZE 20000              /* a coordinate, without its sign */
 #define RAGHYMTOS_MOST_SQUARE 400000000        /* a squared length */
 #define RAGHYMTOS_MOST_ENTRIES 256             /* entries of a catalogue */
-#define RAGHYMTOS_MOST_NUMBER 1048575          /* an entry's number; the least is 1 */
-#define RAGHYMTOS_MOST_CATALOGUE_BYTES 35844   /* an output that is never too short for one */
-#define RAGHYMTOS_MOST_LISTING_BYTES 70000     /* an output that is never too short for a listing */
+#define RAGHYMTOS_MOST_NUMBER 268435455        /* an entry's number; the least is 1 */
+#define RAGHYMTOS_MOST_OLD_NUMBER 1048575      /* the same in the old form */
+#define RAGHYMTOS_MOST_CATALOGUE_BYTES 36868   /* an output that is never too short for one */
+#define RAGHYMTOS_MOST_LISTING_BYTES 71000     /* an output that is never too short for a listing */
 
 /* Where all answers begin. */
 #define RAGHYMTOS_REFUSAL_AT 0 /* 0, or the number of the refusal: then all else but the place is 0 */
@@ -82,12 +83,14 @@ enum raghymtos_separation {
 };
 
 /* The refusals. The first that applies is given. A reduction gives 1 to 5, a nearest vector and
- * a membership 1 to 7, a catalogue 1, 2, 4, 5, 8 to 15 and 18; a writing gives 16 besides, a lookup
- * and a separation 17. Later versions may have more: whatever is not 0 is a refusal. */
+ * a membership 1 to 7, a catalogue 1, 2, 4, 5, 8 to 15, 18 and 20; a writing gives 16 besides, a lookup
+ * and a separation 17, the move to the old form 19. Later versions may have more: whatever is not 0 is a
+ * refusal. In the new form a head is two words, its number and its size: 5, 11, 15 and 19 stand at the
+ * number, 1, 2 and 20 at the size. */
 enum raghymtos_refusal {
     RAGHYMTOS_ACCEPTED = 0,
-    RAGHYMTOS_BAD_D = 1,         /* place: the head */
-    RAGHYMTOS_BAD_M = 2,         /* place: the head */
+    RAGHYMTOS_BAD_D = 1,         /* place: the head, or its size */
+    RAGHYMTOS_BAD_M = 2,         /* place: the head, or its size */
     RAGHYMTOS_NOT_D_TIMES_M = 3,
     RAGHYMTOS_TOO_LONG = 4,      /* place: the coordinate */
     RAGHYMTOS_DEPENDENT = 5,     /* place: the head */
@@ -103,7 +106,9 @@ enum raghymtos_refusal {
     RAGHYMTOS_TOO_MANY = 15,     /* place: the head of the 257th entry */
     RAGHYMTOS_OUTPUT_SHORT = 16,
     RAGHYMTOS_NO_ENTRY = 17,
-    RAGHYMTOS_DRAFT_LOAD = 18    /* place: the mark */
+    RAGHYMTOS_DRAFT_LOAD = 18,   /* place: the mark */
+    RAGHYMTOS_NUMBER_LONG = 19,  /* place: the head */
+    RAGHYMTOS_SIZE_BITS = 20     /* place: the head's size */
 };
 
 /* What a refusal says, without its place; never null. */
@@ -118,7 +123,7 @@ static inline const char *raghymtos_refusal_text(int64_t refusal) {
     case RAGHYMTOS_TARGET_NOT_M: return "the target has not m numbers";
     case RAGHYMTOS_TARGET_LONG: return "a coordinate of the target beyond 20000 or its squared length over 400000000";
     case RAGHYMTOS_NOT_WORDS: return "the number of bytes is not a multiple of 4";
-    case RAGHYMTOS_TOO_LARGE: return "more than 35844 bytes";
+    case RAGHYMTOS_TOO_LARGE: return "more than 35844 bytes, or 36868 in the new form";
     case RAGHYMTOS_UNEXPECTED: return "a word that cannot stand here, or none where one must come";
     case RAGHYMTOS_BAD_NUMBER: return "the entry's number is 0 or used before";
     case RAGHYMTOS_LOST: return "the see word names no entry";
@@ -128,6 +133,8 @@ static inline const char *raghymtos_refusal_text(int64_t refusal) {
     case RAGHYMTOS_OUTPUT_SHORT: return "the output is shorter than what is to be written";
     case RAGHYMTOS_NO_ENTRY: return "no entry has the number";
     case RAGHYMTOS_DRAFT_LOAD: return "a draft mark whose load is not 1";
+    case RAGHYMTOS_NUMBER_LONG: return "a number over 1048575 has no place in the old form";
+    case RAGHYMTOS_SIZE_BITS: return "a size word with bits above d and m";
     default: return "a refusal that this header does not know";
     }
 }
@@ -173,6 +180,11 @@ bool raghymtos_nearest(const int64_t *numbers, size_t count, size_t d, size_t m,
 bool raghymtos_member(const int64_t *numbers, size_t count, size_t d, size_t m,
                       const int64_t *target, size_t target_count, int64_t *out, size_t room);
 
+/* A catalogue has one of two forms. In the old form an entry's head is one word, with a number of at most
+ * 1048575, in the new form two, the first with a number of at most 268435455; a catalogue without entries
+ * belongs to both. All functions but the two moves take either form, and a catalogue that they write has
+ * the form that they read. */
+
 /* Reads a catalogue and writes its entries to out, unfolded, drafts with their marks.
  *
  * bytes, count          the catalogue: 32-bit words, lowest byte first; any bytes, any count
@@ -193,6 +205,19 @@ bool raghymtos_write_out(const uint8_t *bytes, size_t count, uint8_t *out, size_
  * or else the first of theirs in the order of the file. Otherwise as raghymtos_write_out. */
 bool raghymtos_fold(const uint8_t *bytes, size_t count, uint8_t *out, size_t room,
                     int64_t *answer, size_t answer_room);
+
+/* Writes the catalogue, which is in the old form, to out in the new form: nothing but the heads changes.
+ * One in the new form is refused with 10 at its first word, after 8 and 9 and before anything else. One
+ * without entries is written as it is. Otherwise as raghymtos_write_out. */
+bool raghymtos_new_form(const uint8_t *bytes, size_t count, uint8_t *out, size_t room,
+                        int64_t *answer, size_t answer_room);
+
+/* Writes the catalogue, which is in the new form, to out in the old form: nothing but the heads changes.
+ * One in the old form is refused with 10 at its first word, after 8 and 9 and before anything else. One
+ * that would be accepted is refused with 19 where a number is over 1048575, at the first such head, before
+ * 16. One without entries is written as it is. Otherwise as raghymtos_write_out. */
+bool raghymtos_old_form(const uint8_t *bytes, size_t count, uint8_t *out, size_t room,
+                        int64_t *answer, size_t answer_room);
 
 /* Writes the listing of the catalogue to out, as text without a final zero: a line with the number of
  * entries and of standing entries; a line for each entry with its number, its standing number, the

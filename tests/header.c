@@ -1,5 +1,5 @@
-/* The header used from C: reductions, nearest vectors, memberships, a catalogue, drafts, what separates two entries, refusals with their
- * texts, lent numbers that are too few, and the version. */
+/* The header used from C: reductions, nearest vectors, memberships, a catalogue, drafts, both forms and the moves between them, what
+ * separates two entries, refusals with their texts, lent numbers that are too few, and the version. */
 #include <stdio.h>
 #include <string.h>
 
@@ -150,16 +150,25 @@ static const uint32_t drafts[] = {
     0x10000111, 0x20004E22, 0x50000001, 0x30000003, 0x10000211, 0x20004E1E, 0x30000004,
     0x10000311, 0x20004E23, 0x50000001, 0x10000411, 0x20004E25, 0x40000004};
 
-/* whether these words, with the one at this index exchanged, are refused with this number there */
-static bool refused_at(size_t i, uint32_t word, int64_t refusal) {
-    uint32_t changed[sizeof drafts / 4];
-    uint8_t bytes[sizeof drafts], out[sizeof drafts];
+/* whether the answer is this refusal at this place */
+static bool is_refused(const int64_t *answer, int64_t refusal, size_t place) {
+    return answer[RAGHYMTOS_REFUSAL_AT] == refusal && answer[RAGHYMTOS_PLACE_AT] == (int64_t)place && answer[RAGHYMTOS_WRITTEN_AT] == 0;
+}
+
+/* whether words, at most 32, with the one at this index exchanged, are refused with this number there */
+static bool exchanged(const uint32_t *from, size_t count, size_t i, uint32_t word, int64_t refusal) {
+    uint32_t changed[32];
+    uint8_t bytes[sizeof changed], out[sizeof changed];
     int64_t answer[RAGHYMTOS_CATALOGUE_COUNT];
-    memcpy(changed, drafts, sizeof drafts);
+    memcpy(changed, from, 4 * count);
     changed[i] = word;
-    put(changed, sizeof drafts / 4, bytes);
-    raghymtos_write_out(bytes, sizeof bytes, out, sizeof out, answer, 3);
-    return answer[RAGHYMTOS_REFUSAL_AT] == refusal && answer[RAGHYMTOS_PLACE_AT] == (int64_t)i && answer[RAGHYMTOS_WRITTEN_AT] == 0;
+    put(changed, count, bytes);
+    raghymtos_write_out(bytes, 4 * count, out, sizeof out, answer, 3);
+    return is_refused(answer, refusal, i);
+}
+
+static bool refused_at(size_t i, uint32_t word, int64_t refusal) {
+    return exchanged(drafts, sizeof drafts / 4, i, word, refusal);
 }
 
 static void draft_entries(void) {
@@ -181,6 +190,78 @@ static void draft_entries(void) {
     expect(refused_at(2, 0x50000000, RAGHYMTOS_DRAFT_LOAD) && refused_at(9, 0x50000002, RAGHYMTOS_DRAFT_LOAD), "other loads than 1");
     expect(refused_at(3, 0x50000001, RAGHYMTOS_UNEXPECTED) && refused_at(3, 0x50000002, RAGHYMTOS_UNEXPECTED), "a second mark");
     expect(refused_at(0, 0x50000001, RAGHYMTOS_UNEXPECTED) && refused_at(1, 0x50000002, RAGHYMTOS_UNEXPECTED), "marks before coordinates");
+}
+
+/* the same four entries in the new form */
+static const uint32_t new_drafts[] = {
+    0x60000001, 0x70000011, 0x20004E22, 0x50000001, 0x30000003, 0x60000002, 0x70000011, 0x20004E1E, 0x30000004,
+    0x60000003, 0x70000011, 0x20004E23, 0x50000001, 0x60000004, 0x70000011, 0x20004E25, 0x40000004};
+
+/* entry 1048575: (2); 1048576: (3); 268435455: (-2) */
+static const uint32_t long_numbers[] = {
+    0x600FFFFF, 0x70000011, 0x20004E22, 0x60100000, 0x70000011, 0x20004E23, 0x6FFFFFFF, 0x70000011, 0x20004E1E, 0x40000003};
+
+static bool refused_in_new(size_t i, uint32_t word, int64_t refusal) {
+    return exchanged(new_drafts, sizeof new_drafts / 4, i, word, refusal);
+}
+
+static void moves(void) {
+    uint8_t old[sizeof drafts], new[sizeof new_drafts], out[RAGHYMTOS_MOST_CATALOGUE_BYTES], folded[sizeof drafts];
+    int64_t answer[RAGHYMTOS_CATALOGUE_COUNT];
+    put(drafts, sizeof drafts / 4, old);
+    put(new_drafts, sizeof new_drafts / 4, new);
+    memset(out, 0x55, sizeof out);
+    expect(raghymtos_new_form(old, sizeof old, out, sizeof new, answer, 3), "3 lent numbers are enough for a move");
+    expect(answer[RAGHYMTOS_REFUSAL_AT] == 0 && answer[RAGHYMTOS_WRITTEN_AT] == sizeof new, "the new form has a word more for each entry");
+    expect(memcmp(out, new, sizeof new) == 0 && out[sizeof new] == 0x55, "the heads are two words, all else is the same");
+    memset(out, 0x55, sizeof out);
+    raghymtos_old_form(new, sizeof new, out, sizeof old, answer, 3);
+    expect(answer[RAGHYMTOS_WRITTEN_AT] == sizeof old && memcmp(out, old, sizeof old) == 0 && out[sizeof old] == 0x55, "and back");
+    memset(out, 0x55, sizeof out);
+    raghymtos_new_form(old, sizeof old, out, sizeof new - 1, answer, 3);
+    expect(is_refused(answer, RAGHYMTOS_OUTPUT_SHORT, 0) && out[0] == 0x55, "a byte too few for the new form");
+    raghymtos_old_form(new, sizeof new, out, sizeof old - 1, answer, 3);
+    expect(is_refused(answer, RAGHYMTOS_OUTPUT_SHORT, 0) && out[0] == 0x55, "a byte too few for the old form");
+    raghymtos_new_form(new, sizeof new - 4, out, sizeof out, answer, 3);
+    expect(is_refused(answer, RAGHYMTOS_UNEXPECTED, 0) && out[0] == 0x55, "the new form is in the new form");
+    raghymtos_old_form(old, sizeof old - 4, out, sizeof out, answer, 3);
+    expect(is_refused(answer, RAGHYMTOS_UNEXPECTED, 0) && out[0] == 0x55, "the old form is in the old form");
+    raghymtos_old_form(old, sizeof old - 1, out, sizeof out, answer, 3);
+    expect(is_refused(answer, RAGHYMTOS_NOT_WORDS, 0), "but the number of bytes comes first");
+    raghymtos_old_form(new, sizeof new - 4, out, sizeof out, answer, 3);
+    expect(is_refused(answer, RAGHYMTOS_UNEXPECTED, sizeof new / 4 - 1), "a move reads its input: the end word is due");
+    expect(!raghymtos_new_form(old, sizeof old, out, sizeof out, answer, 2) && out[0] == 0x55, "2 lent numbers are too few for a move");
+    expect(!raghymtos_old_form(new, sizeof new, out, sizeof out, answer, 2) && out[0] == 0x55, "in either direction");
+    raghymtos_fold(old, sizeof old, folded, sizeof folded, answer, 3);
+    raghymtos_new_form(folded, (size_t)answer[RAGHYMTOS_WRITTEN_AT], new, sizeof new, answer, 3);
+    const int64_t n = answer[RAGHYMTOS_WRITTEN_AT];
+    put(new_drafts, sizeof new_drafts / 4, out);
+    uint8_t fold_of_new[sizeof new_drafts];
+    raghymtos_fold(out, sizeof new, fold_of_new, sizeof fold_of_new, answer, 3);
+    expect(n == 48 && answer[RAGHYMTOS_WRITTEN_AT] == n && memcmp(fold_of_new, new, 48) == 0, "the moved fold is the fold of the moved file");
+    const uint8_t empty[] = {0, 0, 0, 0x40};
+    raghymtos_new_form(empty, 4, out, 4, answer, 3);
+    expect(answer[RAGHYMTOS_WRITTEN_AT] == 4 && memcmp(out, empty, 4) == 0, "no entries are in both forms");
+    raghymtos_old_form(empty, 4, out, 4, answer, 3);
+    expect(answer[RAGHYMTOS_WRITTEN_AT] == 4 && memcmp(out, empty, 4) == 0, "so both moves leave them");
+}
+
+static void new_heads(void) {
+    uint8_t bytes[sizeof long_numbers], out[RAGHYMTOS_MOST_CATALOGUE_BYTES];
+    int64_t answer[RAGHYMTOS_CATALOGUE_COUNT];
+    put(long_numbers, sizeof long_numbers / 4, bytes);
+    raghymtos_lookup(bytes, sizeof bytes, RAGHYMTOS_MOST_NUMBER, answer, 3);
+    expect(answer[RAGHYMTOS_STANDING_AT] == RAGHYMTOS_MOST_OLD_NUMBER, "the first stands for the entry with the greatest number");
+    raghymtos_lookup(bytes, sizeof bytes, RAGHYMTOS_MOST_OLD_NUMBER + 1, answer, 3);
+    expect(answer[RAGHYMTOS_STANDING_AT] == RAGHYMTOS_MOST_OLD_NUMBER + 1, "a number that the old form has no place for");
+    memset(out, 0x55, sizeof out);
+    raghymtos_old_form(bytes, sizeof bytes, out, 0, answer, 3);
+    expect(is_refused(answer, RAGHYMTOS_NUMBER_LONG, 3) && out[0] == 0x55, "is refused before an output that is too short");
+    expect(refused_in_new(0, 0x60000000, RAGHYMTOS_BAD_NUMBER) && refused_in_new(5, 0x60000001, RAGHYMTOS_BAD_NUMBER), "0 and used numbers");
+    expect(refused_in_new(1, 0x70000111, RAGHYMTOS_SIZE_BITS) && refused_in_new(6, 0x78000000, RAGHYMTOS_SIZE_BITS), "bits above d and m");
+    expect(refused_in_new(6, 0x70000051, RAGHYMTOS_BAD_D) && refused_in_new(6, 0x70000019, RAGHYMTOS_BAD_M), "d and m at the size");
+    expect(refused_in_new(1, 0x20004E22, RAGHYMTOS_UNEXPECTED) && refused_in_new(2, 0x70000011, RAGHYMTOS_UNEXPECTED), "one size each");
+    expect(refused_in_new(5, 0x10000211, RAGHYMTOS_UNEXPECTED) && refused_at(4, 0x60000002, RAGHYMTOS_UNEXPECTED), "a head of the other form");
 }
 
 /* entry 1: (4,0),(0,4); 2: (3,3),(0,4); 3: (4,0),(0,8); 4: (4,0); 5: (4) */
@@ -224,11 +305,11 @@ static void separation(void) {
 
 /* every refusal has a text of its own, and a number that is none has one too */
 static void texts(void) {
-    for (int64_t i = RAGHYMTOS_ACCEPTED; i <= RAGHYMTOS_DRAFT_LOAD + 1; i++)
+    for (int64_t i = RAGHYMTOS_ACCEPTED; i <= RAGHYMTOS_SIZE_BITS + 1; i++)
         for (int64_t j = RAGHYMTOS_ACCEPTED; j < i; j++)
             expect(strcmp(raghymtos_refusal_text(i), raghymtos_refusal_text(j)) != 0, raghymtos_refusal_text(i));
     expect(strcmp(raghymtos_refusal_text(RAGHYMTOS_DEPENDENT), "the vectors are dependent") == 0, "5 says dependent");
-    expect(strcmp(raghymtos_refusal_text(-1), raghymtos_refusal_text(RAGHYMTOS_DRAFT_LOAD + 1)) == 0, "-1 is no refusal");
+    expect(strcmp(raghymtos_refusal_text(-1), raghymtos_refusal_text(RAGHYMTOS_SIZE_BITS + 1)) == 0, "-1 is no refusal");
 }
 
 static void version(void) {
@@ -248,6 +329,8 @@ int main(void) {
     catalogue();
     listing();
     draft_entries();
+    moves();
+    new_heads();
     separation();
     return wrong;
 }

@@ -1,11 +1,18 @@
-/* Catalogues in C with the checks of docs/RULES.md: reading, the fold and lookup. One lattice is told by the
-   Hermite normal form, one for each entry. */
+/* Catalogues in C with the checks of docs/RULES.md: reading, the fold, lookup and the moves between the two forms.
+   One lattice is told by the Hermite normal form, one for each entry. */
 #define OWN_ENTRIES 256
 #define OWN_BYTES 35844
+#define OWN_NEW_BYTES 36868
+#define OWN_NUMBER 1048575
+
+/* The kind of a head's first word tells the form: one word, or a number and a size. */
+#define OWN_OLD 1
+#define OWN_NEW 6
 
 /* A catalogue that the code of four coordinates refuses with 2 goes to that of eight. */
 #if OWN_WIDTH == 4
 size_t own8_fold(const uint8_t *bytes, size_t n, uint8_t *out);
+size_t own8_in_form(const uint8_t *bytes, size_t n, uint32_t form, uint8_t *out);
 uint32_t own8_lookup(const uint8_t *bytes, size_t n, uint32_t number);
 #define OWN_WIDER(name, ...) (c.refusal == 2 ? own8_##name(__VA_ARGS__) : 0)
 #else
@@ -20,6 +27,7 @@ typedef struct {
 
 typedef struct {
     int refusal, place, count;
+    uint32_t form;
     own_entry entries[OWN_ENTRIES];
 } own_catalogue;
 
@@ -43,23 +51,49 @@ static int own_find(const own_catalogue *c, uint32_t number) {
     return -1;
 }
 
+/* d and m of the word at i, which is a head or its size: 0, or the refusal. */
+static int own_read_size(uint32_t load, int i, own_catalogue *c, own_entry *e) {
+    e->d = load >> 4 & 15;
+    e->m = load & 15;
+    if (e->d < 1 || e->d > 4)
+        return own_refuse(c, 1, i);
+    if (e->m < 1 || e->m > OWN_WIDTH)
+        return own_refuse(c, 2, i);
+    return 0;
+}
+
+static int own_read_number(uint32_t number, int i, own_catalogue *c, own_entry *e) {
+    e->number = number;
+    e->place = i;
+    return number == 0 || own_find(c, number) >= 0 ? own_refuse(c, 11, i) : 0;
+}
+
+/* A head at word i, of one word or of two: gives the index of its last word, or -1 when it is refused. */
+static int own_read_head(const uint8_t *bytes, int words, int i, own_catalogue *c, own_entry *e) {
+    uint32_t w = own_word(bytes, i), load = w & 0xFFFFFFF;
+    if (c->form == OWN_OLD)
+        return own_read_size(load, i, c, e) || own_read_number(load >> 8, i, c, e) ? -1 : i;
+    if (own_read_number(load, i, c, e))
+        return -1;
+    i++;
+    if (i == words || own_word(bytes, i) >> 28 != 7)
+        return own_refuse(c, 10, i), -1;
+    load = own_word(bytes, i) & 0xFFFFFFF;
+    if (load > 255)
+        return own_refuse(c, 20, i), -1;
+    return own_read_size(load, i, c, e) ? -1 : i;
+}
+
 /* An entry from its head at word i on: gives the index of the word behind it, or -1 when it is refused. */
 static int own_read_entry(const uint8_t *bytes, int words, int i, own_catalogue *c) {
-    uint32_t w = own_word(bytes, i), load = w & 0xFFFFFFF;
+    uint32_t w, load;
     if (c->count == OWN_ENTRIES)
         return own_refuse(c, 15, i), -1;
     own_entry *e = &c->entries[c->count];
-    e->number = load >> 8;
-    e->d = load >> 4 & 15;
-    e->m = load & 15;
-    e->place = i;
+    i = own_read_head(bytes, words, i, c, e);
+    if (i < 0)
+        return -1;
     e->draft = e->sees = 0;
-    if (e->d < 1 || e->d > 4)
-        return own_refuse(c, 1, i), -1;
-    if (e->m < 1 || e->m > OWN_WIDTH)
-        return own_refuse(c, 2, i), -1;
-    if (e->number == 0 || own_find(c, e->number) >= 0)
-        return own_refuse(c, 11, i), -1;
     memset(e->b, 0, sizeof e->b);
     for (int v = 0; v < e->d; v++) {
         i64 square = 0;
@@ -99,9 +133,10 @@ static int own_read_entry(const uint8_t *bytes, int words, int i, own_catalogue 
 /* 2 where an entry has more coordinates than OWN_WIDTH. */
 OWN_API int OWN(read)(const uint8_t *bytes, size_t n, own_catalogue *c) {
     c->refusal = c->place = c->count = 0;
+    c->form = n >= 4 && own_word(bytes, 0) >> 28 == OWN_NEW ? OWN_NEW : OWN_OLD;
     if (n % 4)
         return own_refuse(c, 8, 0);
-    if (n > OWN_BYTES)
+    if (n > (c->form == OWN_NEW ? OWN_NEW_BYTES : OWN_BYTES))
         return own_refuse(c, 9, 0);
     int words = (int)(n / 4), i = 0;
     for (;;) {
@@ -115,7 +150,7 @@ OWN_API int OWN(read)(const uint8_t *bytes, size_t n, own_catalogue *c) {
                 return own_refuse(c, 14, i + 1);
             break;
         }
-        if (w >> 28 != 1)
+        if (w >> 28 != c->form)
             return own_refuse(c, 10, i);
         i = own_read_entry(bytes, words, i, c);
         if (i < 0)
@@ -228,6 +263,13 @@ static uint8_t *own_put(uint8_t *out, uint32_t w) {
     return out + 4;
 }
 
+static uint8_t *own_put_head(uint8_t *out, uint32_t form, const own_entry *e) {
+    uint32_t size = (uint32_t)e->d << 4 | (uint32_t)e->m;
+    if (form == OWN_OLD)
+        return own_put(out, 1u << 28 | e->number << 8 | size);
+    return own_put(own_put(out, 6u << 28 | e->number), 7u << 28 | size);
+}
+
 /* The length written; the output is long enough for any catalogue. */
 OWN_API size_t OWN(fold)(const uint8_t *bytes, size_t n, uint8_t *out) {
     static own_catalogue c;
@@ -246,7 +288,7 @@ OWN_API size_t OWN(fold)(const uint8_t *bytes, size_t n, uint8_t *out) {
         count++;
         own_ans a;
         OWN(reduce)(e->d, e->m, e->b, &a);
-        at = own_put(at, 1u << 28 | e->number << 8 | (uint32_t)e->d << 4 | (uint32_t)e->m);
+        at = own_put_head(at, c.form, e);
         for (int v = 0; v < e->d; v++)
             for (int k = 0; k < e->m; k++)
                 at = own_put(at, 2u << 28 | (uint32_t)(a.b[v][k] + 20000));
@@ -256,6 +298,31 @@ OWN_API size_t OWN(fold)(const uint8_t *bytes, size_t n, uint8_t *out) {
             at = own_put(at, 3u << 28 | carried[i]);
     }
     at = own_put(at, 4u << 28 | (uint32_t)count);
+    return (size_t)(at - out);
+}
+
+/* The catalogue in this form, which it may not have: the length written, 0 where it is refused. What stands between two
+   heads is copied. */
+OWN_API size_t OWN(in_form)(const uint8_t *bytes, size_t n, uint32_t form, uint8_t *out) {
+    static own_catalogue c;
+    if (n >= 4 && own_word(bytes, 0) >> 28 == form)
+        return 0;
+    if (OWN(read)(bytes, n, &c))
+        return OWN_WIDER(in_form, bytes, n, form, out);
+    uint8_t *at = out;
+    int head = c.form == OWN_NEW ? 2 : 1;
+    for (int k = 0; k < c.count && form == OWN_OLD; k++)
+        if (c.entries[k].number > OWN_NUMBER)
+            return 0;
+    for (int k = 0; k < c.count; k++) {
+        const own_entry *e = &c.entries[k];
+        int end = k + 1 < c.count ? c.entries[k + 1].place : (int)(n / 4) - 1;
+        size_t length = 4 * (size_t)(end - e->place - head);
+        at = own_put_head(at, form, e);
+        memcpy(at, bytes + 4 * (e->place + head), length);
+        at += length;
+    }
+    at = own_put(at, 4u << 28 | (uint32_t)c.count);
     return (size_t)(at - out);
 }
 

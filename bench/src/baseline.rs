@@ -100,6 +100,7 @@ extern "C" {
     fn own8_read(bytes: *const u8, n: usize, catalogue: *mut u8) -> i32;
     fn own_fold(bytes: *const u8, n: usize, out: *mut u8) -> usize;
     fn own_lookup(bytes: *const u8, n: usize, number: u32) -> u32;
+    fn own_in_form(bytes: *const u8, n: usize, form: u32, out: *mut u8) -> usize;
 }
 
 /// The C of one width.
@@ -198,4 +199,10 @@ pub fn fold(bytes: &[u8], out: &mut [u8]) -> usize {
 /// The standing number, 0 for none.
 pub fn lookup(bytes: &[u8], number: u32) -> u32 {
     unsafe { own_lookup(bytes.as_ptr(), bytes.len(), number) }
+}
+
+/// How many bytes of the catalogue in the form whose heads begin with this kind of word were written, 0 where it is refused. The output must
+/// be long enough for any.
+pub fn moved(bytes: &[u8], form: u32, out: &mut [u8]) -> usize {
+    unsafe { own_in_form(bytes.as_ptr(), bytes.len(), form, out.as_mut_ptr()) }
 }

@@ -1,4 +1,4 @@
-//! Full catalogues, 256 entries: read, folded and looked up.
+//! Full catalogues, 256 entries: read, folded and looked up, in the old form and in the new one, and moved from one to the other.
 
 use std::hint::black_box;
 use std::time::Instant;
@@ -6,8 +6,9 @@ use std::time::Instant;
 use raghymtos::catalogue::{self as engine, MOST_BYTES};
 use reference::bases::{placed, scrambled};
 use reference::catalogue::fold::standing;
+use reference::catalogue::reader::{HEAD, NUMBER};
 use reference::catalogue::writer::write;
-use reference::catalogue::Entry;
+use reference::catalogue::{Entry, Form};
 use reference::random::Random;
 use reference::vectors::rows;
 
@@ -16,9 +17,16 @@ use crate::{median, narrow, wide, Set};
 
 const ENTRIES: usize = 256;
 
-pub const NAMES: [&str; 12] = [
-    "typical", "equal", "worst", "passes", "index", "planes", "typical8", "worst8", "last8", "passes8", "drafts", "drafts8",
+pub const NAMES: [&str; 15] = [
+    "typical", "equal", "worst", "passes", "index", "planes", "typical8", "worst8", "last8", "passes8", "drafts", "drafts8", "typical-new",
+    "worst-new", "drafts8-new",
 ];
+
+/// Those that are moved.
+pub const MOVED: [&str; 3] = ["typical", "worst", "drafts8"];
+
+/// What ends the name of a catalogue in the new form.
+const NEW: &str = "-new";
 
 /// The entries of a catalogue, with see words to the entry before.
 fn entries(name: &str) -> Vec<Entry> {
@@ -220,6 +228,23 @@ fn timed<T>(mut call: impl FnMut(&mut [u8]) -> T) -> f64 {
     start.elapsed().as_secs_f64()
 }
 
+/// The catalogue in the other form: by the engine, and by the C.
+fn engine_move(to: Form, bytes: &[u8], out: &mut [u8]) -> Option<usize> {
+    let length = match to {
+        Form::Old => engine::old_form_to(bytes, out),
+        Form::New => engine::new_form_to(bytes, out),
+    };
+    length.ok()
+}
+
+fn c_move(to: Form, bytes: &[u8], out: &mut [u8]) -> usize {
+    let head = match to {
+        Form::Old => HEAD,
+        Form::New => NUMBER,
+    };
+    baseline::moved(bytes, head, out)
+}
+
 /// Both must write the same bytes, or the times compare nothing.
 fn same(bytes: &[u8], last: u32) {
     let (mut a, mut b) = (vec![0; MOST_BYTES], vec![0; MOST_BYTES]);
@@ -238,8 +263,11 @@ fn same(bytes: &[u8], last: u32) {
 /// Times both in turn, so that what else the machine does falls on both, and prints a line. Reading is timed by a lookup of a number that
 /// no entry has: the catalogue is read with all checks, and nothing is reduced.
 pub fn measure(name: &str, runs: usize) {
-    let entries = entries(name);
-    let bytes = write(&entries);
+    let (form, entries) = match name.strip_suffix(NEW) {
+        Some(name) => (Form::New, entries(name)),
+        None => (Form::Old, entries(name)),
+    };
+    let bytes = write(form, &entries);
     let last = entries.len() as u32;
     same(&bytes, last);
     let bytes = &bytes[..];
@@ -256,15 +284,20 @@ pub fn measure(name: &str, runs: usize) {
             ]
         })
         .collect();
-    let milliseconds = |i: usize| 1e3 * median(times.iter().map(|t| t[i]).collect());
-    let ratio = |i: usize| median(times.iter().map(|t| t[i] / t[i + 1]).collect());
     let stand = standing(&entries)
         .iter()
         .enumerate()
         .filter(|(i, &s)| *i == s)
         .count();
-    print!("{name:<10} {:>6} {stand:>6}", bytes.len());
-    for i in [0, 2, 4] {
+    print!("{name:<11} {:>5} {stand:>6}", bytes.len());
+    print_times(&times);
+}
+
+/// Of each two calls the milliseconds and the ratio.
+fn print_times<const N: usize>(times: &[[f64; N]]) {
+    let milliseconds = |i: usize| 1e3 * median(times.iter().map(|t| t[i]).collect());
+    let ratio = |i: usize| median(times.iter().map(|t| t[i] / t[i + 1]).collect());
+    for i in (0..N).step_by(2) {
         print!(
             " {:>9.3} {:>8.3} {:>6.2}",
             milliseconds(i),
@@ -277,4 +310,32 @@ pub fn measure(name: &str, runs: usize) {
 
 pub fn print_heading() {
     println!("catalogue   bytes stands      read        C  ratio      fold        C  ratio    lookup        C  ratio");
+}
+
+/// Times both moves of a catalogue, and prints a line.
+pub fn measure_moves(name: &str, runs: usize) {
+    let entries = entries(name);
+    let [old, new] = Form::BOTH.map(|form| write(form, &entries));
+    for (to, from, wanted) in [(Form::New, &old, &new), (Form::Old, &new, &old)] {
+        let (mut a, mut b) = (vec![0; MOST_BYTES], vec![0; MOST_BYTES]);
+        let lengths = (engine_move(to, from, &mut a), c_move(to, from, &mut b));
+        assert_eq!(lengths, (Some(wanted.len()), wanted.len()));
+        assert!(a.starts_with(wanted) && a == b);
+    }
+    let times: Vec<[f64; 4]> = (0..runs)
+        .map(|_| {
+            [
+                timed(|out| engine_move(Form::New, &old, out)),
+                timed(|out| c_move(Form::New, &old, out)),
+                timed(|out| engine_move(Form::Old, &new, out)),
+                timed(|out| c_move(Form::Old, &new, out)),
+            ]
+        })
+        .collect();
+    print!("{name:<11} {:>5} {:>6}", old.len(), new.len());
+    print_times(&times);
+}
+
+pub fn print_heading_of_moves() {
+    println!("moved         old    new    to new        C  ratio    to old        C  ratio");
 }

@@ -225,7 +225,18 @@ fn main() {
     if !names.is_empty() {
         catalogues::print_heading();
     }
+    let runs = runs.min(MOST_CATALOGUE_RUNS);
     names
         .iter()
-        .for_each(|name| catalogues::measure(name, runs.min(MOST_CATALOGUE_RUNS)));
+        .for_each(|name| catalogues::measure(name, runs));
+    let moved: Vec<&str> = catalogues::MOVED
+        .into_iter()
+        .filter(|n| is_wanted(n, "catalogues"))
+        .collect();
+    if !moved.is_empty() {
+        catalogues::print_heading_of_moves();
+    }
+    moved
+        .iter()
+        .for_each(|name| catalogues::measure_moves(name, runs));
 }

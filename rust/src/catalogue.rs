@@ -1,5 +1,5 @@
-//! Catalogues of bases: made from entries and read into them, folded to one entry for each lattice, looked up, listed, and asked what
-//! separates two entries.
+//! Catalogues of bases: made from entries and read into them, folded to one entry for each lattice, looked up, listed, moved from one form
+//! to the other, and asked what separates two entries.
 //!
 //! ```
 //! use raghymtos::catalogue::{entries, fold, from_entries, list, lookup, Entry};
@@ -27,17 +27,35 @@
 //! # Ok::<(), Box<dyn std::error::Error>>(())
 //! ```
 //!
+//! A catalogue has one of two forms ([`Form`]), which differ in the heads of its entries alone: the new one has room for longer numbers.
+//! All functions but the two moves take either form, and a catalogue that they write has the form that they read.
+//!
+//! ```
+//! use raghymtos::catalogue::{form, from_entries, from_entries_in, new_form, old_form, Entry, Form};
+//!
+//! let old = from_entries(&[Entry::new(7, [[1, 0], [4, 1]])])?;
+//! let new = new_form(&old)?;
+//! assert_eq!((form(&old)?, form(&new)?), (Some(Form::Old), Some(Form::New)));
+//! assert_eq!(old_form(&new)?, old);
+//!
+//! // only the new form has room for this number
+//! let long = [Entry::new(1_048_576, [[1, 0], [4, 1]])];
+//! assert!(from_entries(&long).is_err());
+//! assert!(old_form(&from_entries_in(Form::New, &long)?).is_err());
+//! # Ok::<(), Box<dyn std::error::Error>>(())
+//! ```
+//!
 //! A catalogue is bytes, as the engine takes and writes them. Which bytes are accepted, what is refused and where, the fold, the lookup,
-//! the separation and the listing are the engine's and proved. [`from_entries`] and [`entries`] are plain Rust on top: the first writes
-//! words and lets the engine read them, the second lets the engine read and then takes the words apart. So a mistake of theirs could mix
-//! up entries, but could not make a catalogue that the engine does not accept.
+//! the moves, the separation and the listing are the engine's and proved. [`from_entries`], [`from_entries_in`], [`entries`] and [`form`]
+//! are plain Rust on top: the first two write words and let the engine read them, the others let the engine read and then take the words
+//! apart. So a mistake of theirs could mix up entries, but could not make a catalogue that the engine does not accept.
 
 mod entry;
 mod separation;
 
 use std::fmt;
 
-pub use entry::{entries, from_entries, Entry, NoCatalogue};
+pub use entry::{entries, form, from_entries, from_entries_in, Entry, NoCatalogue};
 pub use separation::{separate, Separation};
 
 use crate::answer::OTHER_ARCHIVE;
@@ -47,14 +65,45 @@ use crate::Refusal;
 /// The most entries that a catalogue can have.
 pub const MOST_ENTRIES: usize = 256;
 
-/// The greatest number that an entry can have; the least is 1.
-pub const MOST_NUMBER: u32 = 1_048_575;
+/// The greatest number that an entry can have, in the new form; the least is 1.
+pub const MOST_NUMBER: u32 = Form::New.most_number();
 
-/// The most bytes that a catalogue can have, so the length of an output that is always long enough.
-pub const MOST_BYTES: usize = 35_844;
+/// The greatest number that an entry can have in the old form.
+pub const MOST_OLD_NUMBER: u32 = Form::Old.most_number();
+
+/// The most bytes that a catalogue can have, in the new form, so the length of an output that is always long enough.
+pub const MOST_BYTES: usize = Form::New.most_bytes();
 
 /// The most bytes that a listing can have.
-pub const MOST_LISTING_BYTES: usize = 70_000;
+pub const MOST_LISTING_BYTES: usize = 71_000;
+
+/// The form of a catalogue: how the heads of its entries are written. All of one catalogue have one form; a catalogue without entries
+/// belongs to both.
+#[derive(Clone, Copy, Debug, PartialEq, Eq, Hash)]
+pub enum Form {
+    /// A head is one word.
+    Old,
+    /// A head is two words: its number, and its size, which is d and m.
+    New,
+}
+
+impl Form {
+    /// The greatest number that an entry can have in this form; the least is 1.
+    pub const fn most_number(self) -> u32 {
+        match self {
+            Form::Old => 1_048_575,
+            Form::New => 268_435_455,
+        }
+    }
+
+    /// The most bytes that a catalogue in this form can have.
+    pub const fn most_bytes(self) -> usize {
+        match self {
+            Form::Old => 35_844,
+            Form::New => 36_868,
+        }
+    }
+}
 
 /// Why a catalogue is refused, or a call with one that is accepted.
 #[derive(Clone, Copy, Debug, PartialEq, Eq, Hash)]
@@ -106,6 +155,24 @@ pub fn fold(bytes: &[u8]) -> Result<Vec<u8>, CatalogueRefusal> {
     Ok(out)
 }
 
+/// The catalogue, which is in the old form, in the new form: nothing but the heads changes. One in the new form is refused, one without
+/// entries is given as it is.
+pub fn new_form(bytes: &[u8]) -> Result<Vec<u8>, CatalogueRefusal> {
+    let mut out = vec![0; MOST_BYTES];
+    let n = new_form_to(bytes, &mut out)?;
+    out.truncate(n);
+    Ok(out)
+}
+
+/// The catalogue, which is in the new form, in the old form: nothing but the heads changes. One in the old form is refused, and so is one
+/// with a number over 1,048,575 ([`Refusal::NumberLong`]); one without entries is given as it is.
+pub fn old_form(bytes: &[u8]) -> Result<Vec<u8>, CatalogueRefusal> {
+    let mut out = vec![0; MOST_BYTES];
+    let n = old_form_to(bytes, &mut out)?;
+    out.truncate(n);
+    Ok(out)
+}
+
 /// The listing: a line with the number of entries and of standing entries; a line for each entry with its number, its standing number,
 /// the number that its see word leads to, or 0, and its passes; under a standing entry a line `v` with the coordinates for each reduced
 /// vector.
@@ -131,6 +198,16 @@ pub fn write_out_to(bytes: &[u8], out: &mut [u8]) -> Result<usize, CatalogueRefu
 /// As [`fold`], to `out`. Gives the length written; what is behind it keeps its bytes, and on refusal all does.
 pub fn fold_to(bytes: &[u8], out: &mut [u8]) -> Result<usize, CatalogueRefusal> {
     last(|answer| raw::fold(bytes, out, answer)).map(|n| n as usize)
+}
+
+/// As [`new_form`], to `out`. Gives the length written; what is behind it keeps its bytes, and on refusal all does.
+pub fn new_form_to(bytes: &[u8], out: &mut [u8]) -> Result<usize, CatalogueRefusal> {
+    last(|answer| raw::new_form(bytes, out, answer)).map(|n| n as usize)
+}
+
+/// As [`old_form`], to `out`. Gives the length written; what is behind it keeps its bytes, and on refusal all does.
+pub fn old_form_to(bytes: &[u8], out: &mut [u8]) -> Result<usize, CatalogueRefusal> {
+    last(|answer| raw::old_form(bytes, out, answer)).map(|n| n as usize)
 }
 
 /// As [`list`], to `out`. Gives the length written; what is behind it keeps its bytes, and on refusal all does.

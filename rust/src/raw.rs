@@ -66,6 +66,24 @@ extern "C" {
         answer_room: usize,
     ) -> bool;
 
+    fn raghymtos_new_form(
+        bytes: *const u8,
+        count: usize,
+        out: *mut u8,
+        room: usize,
+        answer: *mut i64,
+        answer_room: usize,
+    ) -> bool;
+
+    fn raghymtos_old_form(
+        bytes: *const u8,
+        count: usize,
+        out: *mut u8,
+        room: usize,
+        answer: *mut i64,
+        answer_room: usize,
+    ) -> bool;
+
     fn raghymtos_list(
         bytes: *const u8,
         count: usize,
@@ -161,6 +179,36 @@ pub fn write_out(bytes: &[u8], out: &mut [u8], answer: &mut [i64]) -> bool {
 pub fn fold(bytes: &[u8], out: &mut [u8], answer: &mut [i64]) -> bool {
     unsafe {
         raghymtos_fold(
+            bytes.as_ptr(),
+            bytes.len(),
+            out.as_mut_ptr(),
+            out.len(),
+            answer.as_mut_ptr(),
+            answer.len(),
+        )
+    }
+}
+
+/// Writes a catalogue in the old form to `out` in the new form, and the answer to the first 3 numbers of `answer`. A shorter `answer` is
+/// left as it is, and so is `out`, and false is given.
+pub fn new_form(bytes: &[u8], out: &mut [u8], answer: &mut [i64]) -> bool {
+    unsafe {
+        raghymtos_new_form(
+            bytes.as_ptr(),
+            bytes.len(),
+            out.as_mut_ptr(),
+            out.len(),
+            answer.as_mut_ptr(),
+            answer.len(),
+        )
+    }
+}
+
+/// Writes a catalogue in the new form to `out` in the old form, and the answer to the first 3 numbers of `answer`. A shorter `answer` is
+/// left as it is, and so is `out`, and false is given.
+pub fn old_form(bytes: &[u8], out: &mut [u8], answer: &mut [i64]) -> bool {
+    unsafe {
+        raghymtos_old_form(
             bytes.as_ptr(),
             bytes.len(),
             out.as_mut_ptr(),

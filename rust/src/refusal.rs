@@ -22,7 +22,7 @@ pub enum Refusal {
     TargetTooLong,
     /// 8: the number of bytes is not a multiple of 4.
     NotWords,
-    /// 9: there are more than 35,844 bytes.
+    /// 9: there are more than 35,844 bytes, or 36,868 in the new form.
     TooLarge,
     /// 10: a word of a kind that cannot stand there, or no word where one must come.
     Unexpected,
@@ -42,12 +42,16 @@ pub enum Refusal {
     NoEntry,
     /// 18: a draft mark whose load is not 1.
     DraftLoad,
+    /// 19: a number over 1,048,575, which the old form has no place for.
+    NumberLong,
+    /// 20: a head's size has bits above d and m.
+    SizeBits,
     /// A number that this version does not know: the archive is newer than the crate.
     Unknown(i64),
 }
 
 /// The refusals in the order of their numbers, with what they say.
-const KNOWN: [(Refusal, &str); 18] = [
+const KNOWN: [(Refusal, &str); 20] = [
     (Refusal::Vectors, "d is not 1 to 4"),
     (Refusal::Coordinates, "m is not 1 to 8"),
     (Refusal::Count, "there are not d times m numbers"),
@@ -65,7 +69,10 @@ const KNOWN: [(Refusal, &str); 18] = [
         Refusal::NotWords,
         "the number of bytes is not a multiple of 4",
     ),
-    (Refusal::TooLarge, "more than 35844 bytes"),
+    (
+        Refusal::TooLarge,
+        "more than 35844 bytes, or 36868 in the new form",
+    ),
     (
         Refusal::Unexpected,
         "a word that cannot stand here, or none where one must come",
@@ -84,6 +91,11 @@ const KNOWN: [(Refusal, &str); 18] = [
     ),
     (Refusal::NoEntry, "no entry has the number"),
     (Refusal::DraftLoad, "a draft mark whose load is not 1"),
+    (
+        Refusal::NumberLong,
+        "a number over 1048575 has no place in the old form",
+    ),
+    (Refusal::SizeBits, "a size word with bits above d and m"),
 ];
 
 impl Refusal {
@@ -99,7 +111,7 @@ impl Refusal {
     pub(crate) fn check(number: i64) -> Result<(), Refusal> {
         match number {
             0 => Ok(()),
-            1..=18 => Err(KNOWN[number as usize - 1].0),
+            1..=20 => Err(KNOWN[number as usize - 1].0),
             _ => Err(Refusal::Unknown(number)),
         }
     }
@@ -130,7 +142,7 @@ mod tests {
                 Err(refusal) => assert_eq!(refusal.number(), number),
             }
         }
-        assert_eq!(Refusal::check(19), Err(Refusal::Unknown(19)));
+        assert_eq!(Refusal::check(21), Err(Refusal::Unknown(21)));
         assert_eq!(Refusal::check(-1), Err(Refusal::Unknown(-1)));
     }
 

@@ -1,8 +1,8 @@
 //! Catalogues made from entries and read back, and what makes none.
 
 use raghymtos::catalogue::{
-    check, entries, fold, fold_to, from_entries, list, list_to, lookup, Entry, NoCatalogue,
-    MOST_BYTES, MOST_ENTRIES, MOST_NUMBER,
+    check, entries, fold, fold_to, from_entries, from_entries_in, list, list_to, lookup, Entry,
+    Form, NoCatalogue, MOST_ENTRIES, MOST_OLD_NUMBER,
 };
 use raghymtos::Refusal;
 
@@ -45,17 +45,17 @@ fn the_largest_catalogue() {
     ];
     let all: Vec<Entry> = (0..MOST_ENTRIES as u32)
         .map(|i| {
-            Entry::new(MOST_NUMBER - i, unit)
+            Entry::new(MOST_OLD_NUMBER - i, unit)
                 .drafted()
-                .seeing(MOST_NUMBER)
+                .seeing(MOST_OLD_NUMBER)
         })
         .collect();
     let made = from_entries(&all).unwrap();
-    assert_eq!(made.len(), MOST_BYTES);
+    assert_eq!(made.len(), Form::Old.most_bytes());
     assert_eq!(entries(&made), Ok(all));
     assert_eq!(
         entries(&fold(&made).unwrap()),
-        Ok(vec![Entry::new(MOST_NUMBER, unit).drafted()])
+        Ok(vec![Entry::new(MOST_OLD_NUMBER, unit).drafted()])
     );
     // one word more
     let more = [&made[..], &[0; 4]].concat();
@@ -71,21 +71,28 @@ fn in_a_megabyte() {
     }
 }
 
-/// Standing entries of the largest kind, all with see words: what [`list`] lends is enough.
+/// Standing entries of the largest kind, all with see words and with the greatest numbers: what [`list`] lends is enough.
 #[test]
 fn a_long_listing() {
     // rows of signs at right angles to each other
     let sign = |i: usize, j: usize| if (i & j).count_ones() % 2 == 0 { -1 } else { 1 };
     let row = |i: usize, size: i64| -> Vec<i64> { (0..8).map(|j| sign(i, j) * size).collect() };
-    let entry = |n: u32| {
-        let vectors = (0..4).map(|i| row(i, 6_000 + i64::from(n)));
-        Entry::new(MOST_NUMBER - n, vectors).seeing(MOST_NUMBER - (n + 1) % 256)
+    let listed = |form: Form| {
+        let number = |n: u32| form.most_number() - n % 256;
+        let entry = |n: u32| {
+            let vectors = (0..4).map(|i| row(i, 6_000 + i64::from(n)));
+            Entry::new(number(n), vectors).seeing(number(n + 1))
+        };
+        let all: Vec<Entry> = (0..MOST_ENTRIES as u32).map(entry).collect();
+        list(&from_entries_in(form, &all).unwrap()).unwrap()
     };
-    let all: Vec<Entry> = (0..MOST_ENTRIES as u32).map(entry).collect();
-    let text = list(&from_entries(&all).unwrap()).unwrap();
-    assert!(text.starts_with("256 256\n1048575 1048575 1048574 3\nv -6000"));
-    assert_eq!(text.lines().count(), 1 + 256 * 5);
-    assert!(text.len() > 50_000, "{}", text.len());
+    let [old, new] = [Form::Old, Form::New].map(listed);
+    assert!(old.starts_with("256 256\n1048575 1048575 1048574 3\nv -6000"));
+    assert!(new.starts_with("256 256\n268435455 268435455 268435454 3\nv -6000"));
+    assert_eq!(new.lines().count(), 1 + 256 * 5);
+    assert!(old.len() > 50_000, "{}", old.len());
+    // two digits more, three times for each entry
+    assert_eq!(new.len(), old.len() + 6 * 256);
 }
 
 /// Entries 3 and 5 are one lattice of five coordinates; 8 has the same vectors with zeros behind.
@@ -281,14 +288,14 @@ fn no_catalogue() {
         refused(Entry::new(9, [[1, 2], [2, 4]])),
         (Refusal::Dependent, one)
     );
-    for number in [0, 7, MOST_NUMBER + 1, (1 << 20) + 9, u32::MAX] {
+    for number in [0, 7, MOST_OLD_NUMBER + 1, (1 << 20) + 9, u32::MAX] {
         assert_eq!(
             refused(Entry::new(number, [[1]])),
             (Refusal::Number, one),
             "{number}"
         );
     }
-    for number in [0, 8, MOST_NUMBER + 1, (1 << 28) + 9, u32::MAX] {
+    for number in [0, 8, MOST_OLD_NUMBER + 1, (1 << 28) + 9, u32::MAX] {
         assert_eq!(
             refused(Entry::new(9, [[1]]).seeing(number)),
             (Refusal::Lost, one),

@@ -22,6 +22,7 @@ fn the_same_numbers() {
         ("MOST_COORDINATES", raghymtos::MOST_COORDINATES),
         ("MOST_ENTRIES", catalogue::MOST_ENTRIES),
         ("MOST_NUMBER", catalogue::MOST_NUMBER as usize),
+        ("MOST_OLD_NUMBER", catalogue::MOST_OLD_NUMBER as usize),
         ("MOST_CATALOGUE_BYTES", catalogue::MOST_BYTES),
         ("MOST_LISTING_BYTES", catalogue::MOST_LISTING_BYTES),
     ];

@@ -1,7 +1,7 @@
 //! What separates two entries: each case, and what is refused.
 
 use raghymtos::catalogue::Separation::{DifferentD, DifferentM, FirstOutside, Same, SecondOutside};
-use raghymtos::catalogue::{from_entries, separate, CatalogueRefusal, Entry, MOST_NUMBER};
+use raghymtos::catalogue::{from_entries, separate, CatalogueRefusal, Entry, MOST_OLD_NUMBER};
 use raghymtos::{raw, Refusal};
 
 /// Entries 1 and 2 have one lattice, and 3 a part of it.
@@ -13,7 +13,7 @@ fn seven() -> Vec<u8> {
         Entry::new(4, [[3, 3], [0, 4]]),
         Entry::new(5, [[4, 0]]).seeing(1),
         Entry::new(6, [[4, 0, 0], [0, 4, 0]]),
-        Entry::new(MOST_NUMBER, [[4]]),
+        Entry::new(MOST_OLD_NUMBER, [[4]]),
     ];
     from_entries(&all).unwrap()
 }
@@ -28,7 +28,7 @@ fn refused(bytes: &[u8], first: u32, second: u32) -> (Refusal, usize) {
 fn one_lattice() {
     assert_eq!(separate(&seven(), 1, 2), Ok(Same));
     assert_eq!(separate(&seven(), 2, 1), Ok(Same));
-    for number in [1, 2, 3, 4, 5, 6, MOST_NUMBER] {
+    for number in [1, 2, 3, 4, 5, 6, MOST_OLD_NUMBER] {
         assert_eq!(separate(&seven(), number, number), Ok(Same), "{number}");
     }
 }
@@ -38,7 +38,7 @@ fn one_lattice() {
 fn other_sizes() {
     assert_eq!(separate(&seven(), 1, 6), Ok(DifferentM));
     assert_eq!(separate(&seven(), 6, 1), Ok(DifferentM));
-    assert_eq!(separate(&seven(), MOST_NUMBER, 1), Ok(DifferentM));
+    assert_eq!(separate(&seven(), MOST_OLD_NUMBER, 1), Ok(DifferentM));
     assert_eq!(separate(&seven(), 1, 5), Ok(DifferentD));
     assert_eq!(separate(&seven(), 5, 1), Ok(DifferentD));
 }
@@ -111,7 +111,7 @@ fn eight_coordinates() {
 
 #[test]
 fn no_entry() {
-    for number in [0, 7, MOST_NUMBER - 1, (1 << 20) + 1, u32::MAX] {
+    for number in [0, 7, MOST_OLD_NUMBER - 1, (1 << 20) + 1, u32::MAX] {
         assert_eq!(refused(&seven(), 1, number), (Refusal::NoEntry, 0));
         assert_eq!(refused(&seven(), number, 1), (Refusal::NoEntry, 0));
         assert_eq!(refused(&seven(), number, number), (Refusal::NoEntry, 0));

@@ -1,12 +1,16 @@
-// The services on catalogues: reading, writing out, fold, lookup, and what separates two entries.
+// The services on catalogues: reading, writing out, the moves between the forms, fold, lookup, and what separates two entries.
 ghost use mathlib.Core.Path.{_≡_};
 ghost use Rattle.catalogue_rules.specs.Read.{read};
+ghost use Rattle.catalogue_rules.specs.Catalogue.{old, new};
 ghost use Rattle.catalogue_rules.specs.Output.{output};
+ghost use Rattle.catalogue_rules.specs.Moving.{moveOf};
 ghost use Rattle.catalogue_records.specs.Catalogues.{catalogueOf, writtenOf};
+ghost use Rattle.catalogue_records.specs.EntriesIn.{formIn};
 ghost use Rattle.fold_rules.specs.Services.{foldOf, lookupOf};
 ghost use Rattle.separation_rules.specs.Separation.{separateOf};
 ghost use Rattle.separation_answers.specs.Said.{saidBy};
 ghost use Rattle.catalogue.specs.Finding.{foundOf};
+use catalogue_records::Form;
 use catalogue_standing::standing_places::place_of;
 use separation_answers::Separation;
 
@@ -38,6 +42,47 @@ pub fn write_out(bytes: &[u8], out: &mut [u8]) -> catalogue_records::Written
         };
     }
     catalogue_writer::write_entries(c, out)
+}
+
+// Reads a catalogue of the other form and writes it in this one.
+fn moved(form: Form, bytes: &[u8], out: &mut [u8]) -> catalogue_records::Written
+    ensures { λ r. ⌜ r ≡ writtenOf (moveOf (formIn form) (now (bytes .entry)) (now (out .entry))) ⌝ }
+    ensures { λ _. ⌜ now (out .exit) ≡ moveOf (formIn form) (now (bytes .entry)) (now (out .entry)) .lent ⌝ }
+{
+    let c = catalogue_reader::read_to_move(form, bytes);
+    if c.refusal != 0 {
+        return catalogue_records::Written {
+            refusal: c.refusal,
+            place: c.place,
+            length: 0,
+        };
+    }
+    let over = catalogue_moves::first_over(c, form);
+    if over.found {
+        return catalogue_records::Written {
+            refusal: 19,
+            place: over.at,
+            length: 0,
+        };
+    }
+    let m = catalogue_moves::in_form(c, form);
+    catalogue_writer::write_entries(m, out)
+}
+
+// A catalogue of the old form, written in the new form to the lent output.
+pub fn new_form(bytes: &[u8], out: &mut [u8]) -> catalogue_records::Written
+    ensures { λ r. ⌜ r ≡ writtenOf (moveOf new (now (bytes .entry)) (now (out .entry))) ⌝ }
+    ensures { λ _. ⌜ now (out .exit) ≡ moveOf new (now (bytes .entry)) (now (out .entry)) .lent ⌝ }
+{
+    moved(Form::New, bytes, out)
+}
+
+// A catalogue of the new form, written in the old form to the lent output; 19 where a number is too large for it.
+pub fn old_form(bytes: &[u8], out: &mut [u8]) -> catalogue_records::Written
+    ensures { λ r. ⌜ r ≡ writtenOf (moveOf old (now (bytes .entry)) (now (out .entry))) ⌝ }
+    ensures { λ _. ⌜ now (out .exit) ≡ moveOf old (now (bytes .entry)) (now (out .entry)) .lent ⌝ }
+{
+    moved(Form::Old, bytes, out)
 }
 
 // The standing number of the entry with this number; the catalogue's own refusals first, then 17 where no entry has it.

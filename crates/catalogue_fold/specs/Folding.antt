@@ -19,12 +19,14 @@ use Rattle.catalogue_rules.specs.Form.{WellFormed}
 use Rattle.fold_rules.specs.Fold.{Stood, stoodOf, closedList, stands, standingIn, carried, printed, printedIn}
 use Rattle.fold_rules.specs.Laws.SameLattice.{Sound}
 use Rattle.catalogue_records.specs.declared.Catalogue.{Catalogue}
+use Rattle.catalogue_records.specs.declared.Form.{Form}
+use Rattle.catalogue_records.specs.declared.Form.the-variants.{Old, New}
 use Rattle.catalogue_records.specs.declared.Entry.{Entry}
-use Rattle.catalogue_records.specs.Stored.{noEntry, sees, seePlace, entryOf}
+use Rattle.catalogue_records.specs.Stored.{noEntry, storedForm, sees, seePlace, entryOf}
 use Rattle.integers.specs.Filled.{filled}
 use Rattle.integers.specs.FilledLaws.{filled-next, map-snoc}
 use Rattle.catalogue_records.specs.Catalogues.{stored, holding}
-use Rattle.catalogue_records.specs.EntriesIn.{entryIn, entriesIn}
+use Rattle.catalogue_records.specs.EntriesIn.{formIn, entryIn, entriesIn}
 use Rattle.lattice_membership.specs.Known.{Left}
 use Rattle.catalogue_fold.specs.declared.printing.Way.{Way}
 use Rattle.catalogue_standing.specs.ReducedEntry.{reducedEntry}
@@ -117,13 +119,17 @@ module _ (es : List definition.Entry) (o : definition.Entry) (w : WellFormed es)
       }
 
 -- ---- an entry as the code prints it
+form-stored : (f : Form) → storedForm (formIn f) ≡ f
+form-stored Old = refl
+form-stored New = refl
+
 module _ (es : List definition.Entry) (e : Entry) (s : Sound (entryIn e)) where
-  made : List ℤ → Option See → Entry
-  made l o = record { number = e .number; d = e .d; m = e .m; place = e .place; draft = e .draft; sees = sees o; see = seeNumber o; at = seePlace o; coordinates = filled (pos 0) mostNumbers l }
+  made : Form → List ℤ → Option See → Entry
+  made f l o = record { form = f; number = e .number; d = e .d; m = e .m; place = e .place; draft = e .draft; sees = sees o; see = seeNumber o; at = seePlace o; coordinates = filled (pos 0) mostNumbers l }
 
   pub printed-is : {k : Left} {w : Way} → k ≡ reducedEntry (entryIn e) → w ≡ wayOf (carried (closedList es) (stoodOf es (entryIn e)))
       → printedAs e k w ≡ entryOf (printed (closedList es) (stoodOf es (entryIn e)))
   unfolding made
   printed-is q r =
       ap₂ (printedAs e) q r
-      ∙ ap (λ l. made l (carried (closedList es) (stoodOf es (entryIn e)))) (ap coordinates (kept-vectors (entryIn e) s))
+      ∙ ap₂ (λ f l. made f l (carried (closedList es) (stoodOf es (entryIn e)))) (sym (form-stored (e .form))) (ap coordinates (kept-vectors (entryIn e) s))

@@ -32,6 +32,7 @@ wayOf o = record { sees = sees o; number = seeNumber o; at = seePlace o }
 -- what is printed of an entry, of what is kept and of the way
 abbrev pub printedAs : Entry → Left → Way → Entry
 printedAs e k w = record {
+  form = e .form;
   number = e .number;
   d = e .d;
   m = e .m;

@@ -98,7 +98,9 @@ pub fn printed(e: catalogue_records::Entry, l: Lattice, w: Way) -> catalogue_rec
     requires { ⌜ Full (leftIn l) ⌝ }
     ensures { λ r. ⌜ r ≡ printedAs e (leftIn l) w ⌝ }
 {
+    let form = e.form;
     catalogue_records::Entry {
+        form: form,
         number: e.number,
         d: e.d,
         m: e.m,

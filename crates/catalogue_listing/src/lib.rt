@@ -9,7 +9,7 @@ mod lines;
 
 // No listing takes more bytes: a line for each entry, one for each of its vectors, and the first. Nor does a catalogue's own text.
 pub const MOST_BYTES: usize = catalogue_records::Catalogue::MOST_ENTRIES
-    * (36 + 4 * (row_operations::WIDTH * 7 + 2))
+    * (42 + 4 * (row_operations::WIDTH * 7 + 2))
     + 8;
 
 // The listing of catalogue bytes. The catalogue's own refusals come first, then 16 where the text does not fit; the output is left as it was

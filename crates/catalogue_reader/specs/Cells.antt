@@ -10,11 +10,11 @@ use lib.IntN.{ℤ}
 use lib.ListN.{length, set, take, length-set, length-append}
 use lib.Seq.{take-suc-set}
 use Rattle.lattices.specs.Vector.{Vec}
-use Rattle.catalogue_rules.specs.Word.{Word, head, coordinate, see, end, draft, other}
+use Rattle.catalogue_rules.specs.Word.{Word, head, coordinate, see, end, draft, headNumber, headSize, other}
 use Rattle.catalogue_rules.specs.Catalogue as definition
 use Rattle.catalogue_rules.specs.Catalogue.{Head, coordinates, mostNumbers}
-use Rattle.catalogue_rules.specs.Read.{State, outside, inside, after, closed, coordinateOf, withVector, withCoordinate}
-use Rattle.catalogue_rules.specs.Laws.Moves.{Moves, by-head, by-coordinate, by-draft, by-see, by-end}
+use Rattle.catalogue_rules.specs.Read.{State, outside, numbered, inside, after, closed, coordinateOf, withVector, withCoordinate}
+use Rattle.catalogue_rules.specs.Laws.Moves.{Moves, by-head, by-number, by-size, by-coordinate, by-draft, by-see, by-end}
 use Rattle.catalogue_rules.specs.Laws.RoundTrip.{coordinates-snoc}
 use Rattle.catalogue_reader.specs.States.{Fine}
 
@@ -25,6 +25,8 @@ placed l n (coordinate load) = set l n (coordinateOf load)
 placed l n (see number) = l
 placed l n (end count) = l
 placed l n (draft load) = l
+placed l n (headNumber number) = l
+placed l n (headSize high d m) = l
 placed l n (other k load) = l
 
 -- there is room for a coordinate, and its load is within the limit
@@ -34,11 +36,14 @@ Place n (coordinate load) = n < mostNumbers
 Place n (see number) = Unit {0}
 Place n (end count) = Unit {0}
 Place n (draft load) = Unit {0}
+Place n (headNumber number) = Unit {0}
+Place n (headSize high d m) = Unit {0}
 Place n (other k load) = Unit {0}
 
 -- the coordinates of the entry being read
 abbrev pub cellsOf : State → List ℤ
 cellsOf (outside es) = []
+cellsOf (numbered es n p) = []
 cellsOf (inside es h vs v) = coordinates vs ++ v
 cellsOf (after es h vs marked) = coordinates vs ++ []
 cellsOf (closed es) = []
@@ -68,7 +73,9 @@ module _ (es : List definition.Entry) (h : Head) (vs : List Vec) (u : Vec) where
 
 -- every step that goes on keeps them there
 pub cells-moves : {s t : State} {i : ℕ} {w : Word} {l : List ℤ} → Moves s i w t → Fine s → Cells s l → Cells t (placed l (length (cellsOf s)) w)
-cells-moves (by-head h b p) fine c = record { long = c .long; first = refl }
+cells-moves (by-head n d m i b p) fine c = record { long = c .long; first = refl }
+cells-moves (by-number n i b p) fine c = record { long = c .long; first = refl }
+cells-moves (by-size es n p d m q) fine c = record { long = c .long; first = refl }
 cells-moves {l = l} (by-coordinate es h vs v load p) fine c =
     let x = coordinateOf load in
     let k = coordinates vs ++ v in

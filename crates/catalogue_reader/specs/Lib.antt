@@ -1,6 +1,8 @@
 -- Reading as code: an entry while it is read and a step of reading (Words to Store), the loop over the words (Progress), the rows
--- after reading and the whole file (Ended, Whole).
+-- after reading and the whole file (Ended to Whole).
 pub mod Words
+pub mod Rows
+pub mod Forms
 pub mod Parts
 pub mod Shown
 pub mod Readings
@@ -11,4 +13,5 @@ pub mod Cells
 pub mod Store
 pub mod Progress
 pub mod Ended
+pub mod Opening
 pub mod Whole

@@ -4,8 +4,9 @@ use mathlib.Core.List.{List}
 use mathlib.Core.Option.{Option, none, some}
 use Prim.Native.Nat.{ℕ, _+_}
 use lib.IntN.{ℤ, pos, _+ℤ_, _*ℤ_}
-use Rattle.catalogue_rules.specs.Word.{Word, head, coordinate, see, end, draft, other}
+use Rattle.catalogue_rules.specs.Word.{Word, head, coordinate, see, end, draft, headNumber, headSize, other}
 use Rattle.catalogue_rules.specs.Catalogue.{See, seeNumber}
+use Rattle.catalogue_records.specs.declared.Form.{Form}
 use Rattle.catalogue_records.specs.declared.Entry.{Entry}
 use Rattle.catalogue_records.specs.Stored.{sees, seePlace}
 use Rattle.catalogue_reader.specs.declared.parts.Part.{Part}
@@ -55,9 +56,10 @@ putMark p = record {
   draft = true;
 }
 
--- with its coordinates; whether it has a see word, its number and where it stands
-abbrev pub whole : Part → List ℤ → Bool → ℕ → ℕ → Entry
-whole p cs t n i = record {
+-- with the form of its head and its coordinates; whether it has a see word, its number and where it stands
+abbrev pub whole : Part → Form → List ℤ → Bool → ℕ → ℕ → Entry
+whole p f cs t n i = record {
+  form = f;
   number = p .number;
   d = p .d;
   m = p .m;
@@ -76,8 +78,10 @@ seeAt i (coordinate l) = none
 seeAt i (see number) = some (record { number = number; place = i })
 seeAt i (end count) = none
 seeAt i (draft l) = none
+seeAt i (headNumber number) = none
+seeAt i (headSize high d m) = none
 seeAt i (other k l) = none
 
 -- the entry that it makes whole
-abbrev pub wholeAt : Part → List ℤ → ℕ → Word → Entry
-wholeAt p cs i w = whole p cs (sees (seeAt i w)) (seeNumber (seeAt i w)) (seePlace (seeAt i w))
+abbrev pub wholeAt : Part → Form → List ℤ → ℕ → Word → Entry
+wholeAt p f cs i w = whole p f cs (sees (seeAt i w)) (seeNumber (seeAt i w)) (seePlace (seeAt i w))

@@ -13,8 +13,8 @@ use borrow.Author.Tests.{lt-ltb, le-ltb}
 use Rattle.catalogue_rules.specs.Word.{Word, decode}
 use Rattle.catalogue_rules.specs.Laws.Word.{InRange, decode-range}
 use Rattle.catalogue_rules.specs.Catalogue.{Outcome, refused, mostEntries, mostNumbers}
-use Rattle.catalogue_rules.specs.Read.{State, outside, inside, after, closed, Step, next, stop, step, atLast, readWords}
-use Rattle.catalogue_rules.specs.Laws.Moves.{Moves, by-head, by-coordinate, by-draft, by-see, by-end, Going, moved}
+use Rattle.catalogue_rules.specs.Read.{State, outside, numbered, inside, after, closed, Step, next, stop, step, atLast, readWords}
+use Rattle.catalogue_rules.specs.Laws.Moves.{Moves, by-head, by-number, by-size, by-coordinate, by-draft, by-see, by-end, Going, moved}
 use Rattle.catalogue_rules.specs.Laws.WellFormed.{Known, known-moves, nothing-read}
 use Rattle.catalogue_records.specs.declared.Entry.{Entry}
 use Rattle.catalogue_reader.specs.declared.reading.Reading.{Reading}
@@ -56,31 +56,37 @@ at-start words coordinates long = record {
 
 goes-on : (s : State) → readingOf s .refusal ≡ 0
 goes-on (outside es) = refl
+goes-on (numbered es n p) = refl
 goes-on (inside es h vs v) = refl
 goes-on (after es h vs marked) = refl
 goes-on (closed es) = refl
 
 whole-count : (s : State) → readingOf s .count ≡ length (wholeIn s)
 whole-count (outside es) = refl
+whole-count (numbered es n p) = refl
 whole-count (inside es h vs v) = refl
 whole-count (after es h vs marked) = refl
 whole-count (closed es) = refl
 
 filled-count : (s : State) → readingOf s .part .filled ≡ length (cellsOf s)
 filled-count (outside es) = refl
+filled-count (numbered es n p) = refl
 filled-count (inside es h vs v) = refl
 filled-count (after es h vs marked) = refl
 filled-count (closed es) = refl
 
 few : (s : State) → Known s → length (wholeIn s) ≤ mostEntries
 few (outside es) k = k .few
-few (inside es h vs v) k = k .0 .entered .few
-few (after es h vs marked) k = k .0 .entered .few
+few (numbered es n p) k = k .entered .few
+few (inside es h vs v) k = k .0 .before .entered .few
+few (after es h vs marked) k = k .0 .before .entered .few
 few (closed es) k = k .few
 
 -- a head has room for its number
 head-few : {s t : State} {i : ℕ} {w : Word} → Moves s i w t → Known t → Space (length (wholeIn t)) w
-head-few (by-head h b p) k = k .0 .few
+head-few (by-head n d m i b p) k = k .0 .before .few
+head-few (by-number n i b p) k = k .few
+head-few (by-size es n p d m q) k = tt
 head-few (by-coordinate es h vs v l p) k = tt
 head-few (by-draft es h vs) k = tt
 head-few (by-see es h vs marked s) k = tt
@@ -88,7 +94,9 @@ head-few (by-end b) k = tt
 
 -- a coordinate has room
 cell-few : {s t : State} {i : ℕ} {w : Word} → Moves s i w t → Fine s → Place (length (cellsOf s)) w
-cell-few (by-head h b p) k = tt
+cell-few (by-head n d m i b p) k = tt
+cell-few (by-number n i b p) k = tt
+cell-few (by-size es n p d m q) k = tt
 cell-few (by-coordinate es h vs v l p) k = k .1
 cell-few (by-draft es h vs) k = tt
 cell-few (by-see es h vs marked s) k = tt
@@ -183,14 +191,14 @@ module _ (words : List ℕ) (i : ℕ) {entries : List Entry} {numbers : List ℕ
 
 -- what is stored, as the code decides it
 module _ (l : List Entry) (s t : Reading) (cs : List ℤ) (i : ℕ) (w : Word) where
-  abbrev new : Entry
-  new = wholeAt (s .part) (filled (pos 0) mostNumbers (take (s .part .filled) cs)) i w
+  abbrev added : Entry
+  added = wholeAt (s .part) (t .form) (filled (pos 0) mostNumbers (take (s .part .filled) cs)) i w
 
-  pub stores-one : s .count < t .count → set l (s .count) new ≡ put l s t cs i w
-  stores-one h = sym (ap (λ b. cond b (set l (s .count) new) l) (lt-ltb _ _ h))
+  pub stores-one : s .count < t .count → set l (s .count) added ≡ put l s t cs i w
+  stores-one h = sym (ap (λ b. cond b (set l (s .count) added) l) (lt-ltb _ _ h))
 
   pub stores-none : t .count ≤ s .count → l ≡ put l s t cs i w
-  stores-none h = sym (ap (λ b. cond b (set l (s .count) new) l) (le-ltb _ _ h))
+  stores-none h = sym (ap (λ b. cond b (set l (s .count) added) l) (le-ltb _ _ h))
 
 -- ---- the end
 
@@ -204,6 +212,7 @@ module _ (words : List ℕ) (i : ℕ) {entries : List Entry} {numbers : List ℕ
     where
       go : (x : State) → isClosed (readingOf x .phase) ≡ false → noCatalogue 10 i ≡ catalogueOf (atLast x i)
       go (outside es) h = refl
+      go (numbered es n p) h = refl
       go (inside es h vs v) e = refl
       go (after es h vs marked) e = refl
       go (closed es) h = absurd (true≢false h)
@@ -216,6 +225,7 @@ module _ (words : List ℕ) (i : ℕ) {entries : List Entry} {numbers : List ℕ
     where
       go : (x : State) → isClosed (readingOf x .phase) ≡ true → holding (readingOf x .count) (stored (wholeIn x)) ≡ catalogueOf (atLast x i)
       go (outside es) h = absurd (true≢false (sym h))
+      go (numbered es n p) e = absurd (true≢false (sym e))
       go (inside es h vs v) e = absurd (true≢false (sym e))
       go (after es h vs marked) e = absurd (true≢false (sym e))
       go (closed es) h = refl

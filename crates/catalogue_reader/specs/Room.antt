@@ -1,7 +1,7 @@
 -- A state reached by steps has room for the next one.
 use mathlib.Core.Path.{_≡_, refl}
 use mathlib.Core.Logic.{_≢_}
-use mathlib.Core.Bool.{Bool, true, false}
+use mathlib.Core.Bool.{Bool, true, false, not}
 use mathlib.Core.List.{List, [], _∷_, _++_}
 use mathlib.Core.Option.{some}
 use Prim.Native.Nat.{ℕ, _≤_, _<_}
@@ -15,8 +15,8 @@ use Rattle.lattices.specs.Laws.Refusal.{one-to}
 use Rattle.catalogue_rules.specs.Word.{Word}
 use Rattle.catalogue_rules.specs.Catalogue as definition
 use Rattle.catalogue_rules.specs.Catalogue.{Head, coordinates, mostEntries, mostNumbers}
-use Rattle.catalogue_rules.specs.Read.{State, outside, inside, after, closed, coordinateOf, withVector, withCoordinate}
-use Rattle.catalogue_rules.specs.Laws.Moves.{Moves, by-head, by-coordinate, by-draft, by-see, by-end}
+use Rattle.catalogue_rules.specs.Read.{State, outside, numbered, inside, after, closed, coordinateOf, withVector, withCoordinate}
+use Rattle.catalogue_rules.specs.Laws.Moves.{Moves, by-head, by-number, by-size, by-coordinate, by-draft, by-see, by-end}
 use Rattle.catalogue_rules.specs.Laws.WellFormed.{Known}
 use Rattle.catalogue_rules.specs.Laws.EntriesAccepted.{length-coordinates}
 use Rattle.integers.specs.Filled.{filled}
@@ -25,11 +25,12 @@ use Rattle.integers.specs.Size.{within-le}
 use Rattle.catalogue_reader.specs.Shown.{square-within}
 use Rattle.catalogue_reader.specs.Readings.{ReadyFor}
 use Rattle.catalogue_reader.specs.States.{readingOf, numbersOf, Fine}
-use Rattle.lattices.specs.Refusal.{mostVectors, mostCoordinates}
+use Rattle.lattices.specs.Refusal.{oneTo, mostVectors, mostCoordinates}
 
 -- within an entry a vector and a coordinate are still to come
 abbrev pub Due : State → Type 0
 Due (outside es) = Unit {0}
+Due (numbered es n p) = Unit {0}
 Due (inside es h vs v) = (length vs < h .d) × (length v < h .m)
 Due (after es h vs marked) = Unit {0}
 Due (closed es) = Unit {0}
@@ -55,8 +56,14 @@ module _ (es : List definition.Entry) (h : Head) (vs : List Vec) (u : Vec) (some
           let n : length u ≢ h .m = eqb-false _ _ e in
           (rows, omega (arith, columns, n))
 
+-- a head was read
+due-size : (d m : ℕ) → not (oneTo mostVectors d) ≡ false → not (oneTo mostCoordinates m) ≡ false → (0 < d) × (0 < m)
+due-size d m p q = (one-to mostVectors d (not-false _ p) .0, one-to mostCoordinates m (not-false _ q) .0)
+
 pub due-moves : {s t : State} {i : ℕ} {w : Word} → Moves s i w t → Known s → Due s → Due t
-due-moves (by-head h b p) k d = (one-to mostVectors (h .d) (not-false _ (p .1 .0)) .0, one-to mostCoordinates (h .m) (not-false _ (p .1 .1 .0)) .0)
+due-moves (by-head n d m i b p) k due = due-size d m (p .1 .1 .0) (p .1 .1 .1 .0)
+due-moves (by-number n i b p) k due = tt
+due-moves (by-size es n i d m p) k due = due-size d m (p .1 .0) (p .1 .1 .0)
 due-moves (by-coordinate es h vs v l p) k d =
     due-coordinate es h vs (v ++ (coordinateOf l ∷ [])) (one-to mostCoordinates (h .m) (k .0 .head .m) .0) (d .0) (omega (arith, length-append v (coordinateOf l ∷ []), d .1))
 due-moves (by-draft es h vs) k d = tt
@@ -74,12 +81,14 @@ places es h vs v k d =
 
 pub fine : (s : State) → Known s → Due s → Fine s
 fine (outside es) k d = k .few
+fine (numbered es n p) k d = tt
 fine (inside es h vs v) k d = (omega (arith, d .1, one-to mostCoordinates (h .m) (k .0 .head .m) .1), places es h vs v k d, k .2)
-fine (after es h vs marked) k d = k .0 .few
+fine (after es h vs marked) k d = (k .0 .before .few, k .0 .before .one)
 fine (closed es) k d = k .few
 
 pub ready : (s : State) → Known s → Due s → ReadyFor (filled 0 mostEntries (numbersOf s)) (readingOf s)
 ready (outside es) k d = record { room = omega (arith, length-filled 0 mostEntries (numbersOf (outside es)), k .few) }
+ready (numbered es n p) k d = record { room = tt }
 ready (inside es h vs v) k d = record { room = (omega (arith, d .0, one-to mostVectors (h .d) (k .0 .head .d) .1), (omega (arith, d .1, one-to mostCoordinates (h .m) (k .0 .head .m) .1), (places es h vs v k d, within-le (omega (arith, d .1, one-to mostCoordinates (h .m) (k .0 .head .m) .1)) (square-within v (k .2))))) }
-ready (after es h vs marked) k d = record { room = (k .0 .few, omega (arith, length-filled 0 mostEntries (numbersOf (after es h vs marked)), k .0 .few)) }
+ready (after es h vs marked) k d = record { room = (k .0 .before .few, omega (arith, length-filled 0 mostEntries (numbersOf (after es h vs marked)), k .0 .before .few)) }
 ready (closed es) k d = record { room = tt }

@@ -18,7 +18,7 @@ use Rattle.catalogue_rules.specs.Catalogue.{Head, See, coordinates, seeNumber, 
 use Rattle.catalogue_rules.specs.Laws.RoundTrip.{coordinates-snoc}
 use Rattle.catalogue_reader.specs.declared.parts.Part.{Part}
 use Rattle.integers.specs.Filled.{filled}
-use Rattle.catalogue_records.specs.Stored.{sees, seePlace, entryOf}
+use Rattle.catalogue_records.specs.Stored.{storedForm, sees, seePlace, entryOf}
 use Rattle.catalogue_reader.specs.Parts.{putCoordinate, putVector, whole}
 
 -- an entry's head, its whole vectors and the vector being read, and whether its mark was read
@@ -73,5 +73,5 @@ module _ (h : Head) (vs : List Vec) (v : Vec) (marked : Bool) where
   part-vector = ap₂ (λ r n. made r 0 (pos 0) n) (length-snoc vs v) (ap length (sym (append-nil (coordinates (vs ++ (v ∷ []))) ∙ coordinates-snoc vs v)))
 
 -- the entry is whole
-pub whole-entry : (h : Head) (vs : List Vec) (marked : Bool) (s : Option See) → whole (partOf h vs [] marked) (filled (pos 0) mostNumbers (coordinates vs)) (sees s) (seeNumber s) (seePlace s) ≡ entryOf (record { head = h; vectors = vs; draft = marked; see = s })
+pub whole-entry : (h : Head) (vs : List Vec) (marked : Bool) (s : Option See) → whole (partOf h vs [] marked) (storedForm (h .form)) (filled (pos 0) mostNumbers (coordinates vs)) (sees s) (seeNumber s) (seePlace s) ≡ entryOf (record { head = h; vectors = vs; draft = marked; see = s })
 whole-entry h vs marked s = refl

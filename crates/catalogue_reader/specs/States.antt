@@ -12,28 +12,34 @@ use lib.Signed.{ltZ}
 use Rattle.lattices.specs.Vector.{Vec, N, dot}
 use Rattle.integers.specs.Every.{any}
 use Rattle.lattices.specs.Refusal.{oneTo, mostSize, mostSquare, mostVectors, mostCoordinates}
-use Rattle.catalogue_rules.specs.Word.{Word, head, coordinate, see, end, draft, other}
+use Rattle.catalogue_rules.specs.Word.{Word, head, coordinate, see, end, draft, headNumber, headSize, other}
 use Rattle.catalogue_rules.specs.Catalogue as definition
 use Rattle.catalogue_rules.specs.Catalogue.{Head, See, coordinates, mostEntries, mostNumbers}
-use Rattle.catalogue_rules.specs.Read.{State, outside, inside, after, closed, Step, next, stop, checked, isNumbered, withEntry, headRows, atHead, coordinateOf, withVector, atCoordinate, draftRows, atDraft, atEnd, step}
+use Rattle.catalogue_rules.specs.Read.{State, outside, numbered, inside, after, closed, Step, next, stop, checked, isNumbered, formOf, differs, withEntry, headRows, headNumberRows, atHeadNumber, headSizeRows, atHeadSize, coordinateOf, withVector, atCoordinate, draftRows, atDraft, atEnd, step}
 use Rattle.catalogue_reader.specs.declared.reading.Phase.{Phase}
-use Rattle.catalogue_reader.specs.declared.reading.Phase.the-variants.{Outside, Inside, After, Closed}
+use Rattle.catalogue_reader.specs.declared.reading.Phase.the-variants.{Outside, Numbered, Inside, After, Closed}
 use Rattle.catalogue_reader.specs.declared.parts.Part.{Part}
 use Rattle.catalogue_reader.specs.declared.reading.Reading.{Reading}
+use Rattle.catalogue_records.specs.declared.Form.{Form}
+use Rattle.catalogue_records.specs.declared.Form.the-variants.{Old, New}
+use Rattle.catalogue_records.specs.Stored.{storedForm}
 use Rattle.integers.specs.Filled.{filled}
 use Rattle.integers.specs.FilledLaws.{take-filled, map-snoc, any-map}
+use Rattle.catalogue_reader.specs.Forms.{formHeld, differs-held, held-entry}
 use Rattle.catalogue_reader.specs.Parts.{noPart, started}
 use Rattle.catalogue_reader.specs.Shown.{partOf, part-coordinate, part-vector}
-use Rattle.catalogue_reader.specs.Readings.{isNumber, going, stopped, headRead, vectorPhase, vectorRead, columnRead, coordinateRead, draftRead, endRead, stepRead}
+use Rattle.catalogue_reader.specs.Readings.{isNumber, going, stopped, headRead, headNumberRead, headSizeRead, vectorPhase, vectorRead, columnRead, coordinateRead, draftRead, endRead, stepRead}
 
-abbrev pub reading : Phase → List definition.Entry → Part → Reading
-reading phase es p = going phase (length es) p
+abbrev pub reading : Phase → List definition.Entry → Form → Part → Reading
+reading phase es f p = going phase (length es) f p
 
+-- the stored form is that of every head so far
 abbrev pub readingOf : State → Reading
-readingOf (outside es) = reading Outside es noPart
-readingOf (inside es h vs v) = reading Inside es (partOf h vs v false)
-readingOf (after es h vs marked) = reading After es (partOf h vs [] marked)
-readingOf (closed es) = reading Closed es noPart
+readingOf (outside es) = reading Outside es (formHeld es) noPart
+readingOf (numbered es n p) = reading Numbered es New (started n 0 0 p)
+readingOf (inside es h vs v) = reading Inside es (storedForm (h .form)) (partOf h vs v false)
+readingOf (after es h vs marked) = reading After es (storedForm (h .form)) (partOf h vs [] marked)
+readingOf (closed es) = reading Closed es (formHeld es) noPart
 
 abbrev pub stepOf : Step → Reading
 stepOf (next s) = readingOf s
@@ -45,6 +51,7 @@ numbers es = map (λ e. e .head .number) es
 
 abbrev pub numbersOf : State → List ℕ
 numbersOf (outside es) = numbers es
+numbersOf (numbered es n p) = numbers es ++ (n ∷ [])
 numbersOf (inside es h vs v) = numbers es ++ (h .number ∷ [])
 numbersOf (after es h vs marked) = numbers es ++ (h .number ∷ [])
 numbersOf (closed es) = numbers es
@@ -52,8 +59,9 @@ numbersOf (closed es) = numbers es
 -- what a step relies on
 abbrev pub Fine : State → Type 0
 Fine (outside es) = length es ≤ mostEntries
+Fine (numbered es n p) = Unit {0}
 Fine (inside es h vs v) = (length v < mostCoordinates) × (length (coordinates vs ++ v) < mostNumbers) × (any (λ x. ltb mostSize (natAbs x)) v ≡ false)
-Fine (after es h vs marked) = length es < mostEntries
+Fine (after es h vs marked) = (length es < mostEntries) × (differs (formOf es) (h .form) ≡ false)
 Fine (closed es) = length es ≤ mostEntries
 
 -- ---- rows
@@ -81,32 +89,47 @@ used-numbers n es h =
 
 -- ---- a head and the end, after entries
 
-head-step : (es : List definition.Entry) (f : Phase) (p : Part) (number d m i : ℕ) → length es ≤ mostEntries
-    → headRead (filled 0 mostEntries (numbers es)) (reading f es p) number d m i ≡ stepOf (atHead es (record { number = number; d = d; m = m; place = i }))
-unfolding dot
-head-step es f p number d m i h =
-    let rows : Bool → List (Bool × ℕ) = λ t. (leb mostEntries (length es), 15) ∷ (not (oneTo mostVectors d), 1) ∷ (not (oneTo mostCoordinates m), 2) ∷ (eqb number 0 || t, 11) ∷ [] in
-    ap (λ t. checked stopped (rows t) (going Inside (length es) (started number d m i))) (used-numbers number es h)
-    ∙ step-rows (headRows es (record { number = number; d = d; m = m; place = i })) (inside es (record { number = number; d = d; m = m; place = i }) [] [])
+head-step : (es : List definition.Entry) (number d m i : ℕ) → length es ≤ mostEntries
+    → headRead (filled 0 mostEntries (numbers es)) (readingOf (outside es)) number d m i ≡ stepOf (step (outside es) i (head number d m))
+unfolding dot step
+head-step es number d m i h =
+    let rows : Bool → Bool → List (Bool × ℕ) = λ t u. (t, 10) ∷ (leb mostEntries (length es), 15) ∷ (not (oneTo mostVectors d), 1) ∷ (not (oneTo mostCoordinates m), 2) ∷ (eqb number 0 || u, 11) ∷ [] in
+    ap₂ (λ t u. checked stopped (rows t u) (going Inside (length es) Old (started number d m i))) (differs-held es Old) (used-numbers number es h)
+    ∙ step-rows (headRows es number d m) (inside es (record { form = definition.old; number = number; d = d; m = m; place = i }) [] [])
 
-end-step : (es : List definition.Entry) (f : Phase) (p : Part) (count : ℕ) → endRead (reading f es p) count ≡ stepOf (atEnd es count)
-end-step es f p count = step-rows ((not (eqb count (length es)), 13) ∷ []) (closed es)
+number-step : (es : List definition.Entry) (number i : ℕ) → length es ≤ mostEntries
+    → headNumberRead (filled 0 mostEntries (numbers es)) (readingOf (outside es)) number i ≡ stepOf (atHeadNumber es number i)
+number-step es number i h =
+    let rows : Bool → Bool → List (Bool × ℕ) = λ t u. (t, 10) ∷ (leb mostEntries (length es), 15) ∷ (eqb number 0 || u, 11) ∷ [] in
+    ap₂ (λ t u. checked stopped (rows t u) (going Numbered (length es) New (started number 0 0 i))) (differs-held es New) (used-numbers number es h)
+    ∙ step-rows (headNumberRows es number) (numbered es number i)
+
+size-step : (es : List definition.Entry) (n p high d m : ℕ)
+    → headSizeRead (readingOf (numbered es n p)) high d m ≡ stepOf (atHeadSize es high (record { form = definition.new; number = n; d = d; m = m; place = p }))
+unfolding dot
+size-step es n p high d m = step-rows (headSizeRows high d m) (inside es (record { form = definition.new; number = n; d = d; m = m; place = p }) [] [])
+
+end-step : (es : List definition.Entry) (count : ℕ) → endRead (readingOf (outside es)) count ≡ stepOf (atEnd es count)
+end-step es count = step-rows ((not (eqb count (length es)), 13) ∷ []) (closed es)
 
 -- ---- a whole entry
 
-entry-step : (es : List definition.Entry) (h : Head) (vs : List Vec) (marked : Bool) (s : Option See) → going Outside (length es + 1) noPart ≡ readingOf (outside (withEntry es h vs marked s))
-entry-step es h vs marked s = ap (λ n. going Outside n noPart) (sym (length-append es (record { head = h; vectors = vs; draft = marked; see = s } ∷ [])))
+module _ (es : List definition.Entry) (h : Head) (vs : List Vec) (marked : Bool) (s : Option See) (one : differs (formOf es) (h .form) ≡ false) where
+  entry-step : going Outside (length es + 1) (storedForm (h .form)) noPart ≡ readingOf (outside (withEntry es h vs marked s))
+  entry-step =
+      let e : definition.Entry = record { head = h; vectors = vs; draft = marked; see = s } in
+      ap₂ (λ n f. going Outside n f noPart) (sym (length-append es (e ∷ []))) (sym (held-entry es e one))
 
 -- ---- a coordinate
 
 module _ (es : List definition.Entry) (h : Head) (vs : List Vec) where
-  vector-step : (u : Vec) → vectorRead (reading Inside es (partOf h vs u false)) (partOf h vs u false) ≡ stepOf (checked stop ((ltZ (pos mostSquare) (N u), 4) ∷ []) (next (withVector es h (vs ++ (u ∷ [])))))
+  vector-step : (u : Vec) → vectorRead (reading Inside es (storedForm (h .form)) (partOf h vs u false)) (partOf h vs u false) ≡ stepOf (checked stop ((ltZ (pos mostSquare) (N u), 4) ∷ []) (next (withVector es h (vs ++ (u ∷ [])))))
   vector-step u =
-      ap (λ p. checked stopped ((ltZ (pos mostSquare) (N u), 4) ∷ []) (going (vectorPhase (eqb (p .row) (p .d))) (length es) p)) (part-vector h vs u false)
+      ap (λ p. checked stopped ((ltZ (pos mostSquare) (N u), 4) ∷ []) (going (vectorPhase (eqb (p .row) (p .d))) (length es) (storedForm (h .form)) p)) (part-vector h vs u false)
       ∙ ap (λ s. checked stopped ((ltZ (pos mostSquare) (N u), 4) ∷ []) s) (go (eqb (length (vs ++ (u ∷ []))) (h .d)))
       ∙ step-rows ((ltZ (pos mostSquare) (N u), 4) ∷ []) (withVector es h (vs ++ (u ∷ [])))
     where
-      go : (t : Bool) → going (vectorPhase t) (length es) (partOf h (vs ++ (u ∷ [])) [] false) ≡ readingOf (elim t [ true ↦ after es h (vs ++ (u ∷ [])) false | false ↦ inside es h (vs ++ (u ∷ [])) [] ])
+      go : (t : Bool) → going (vectorPhase t) (length es) (storedForm (h .form)) (partOf h (vs ++ (u ∷ [])) [] false) ≡ readingOf (elim t [ true ↦ after es h (vs ++ (u ∷ [])) false | false ↦ inside es h (vs ++ (u ∷ [])) [] ])
       go true = refl
       go false = refl
 
@@ -132,25 +155,42 @@ draft-step es h vs marked l = step-rows (draftRows marked l) (after es h vs true
 
 pub step-shown : (s : State) (i : ℕ) (w : Word) → Fine s → stepRead (filled 0 mostEntries (numbersOf s)) (readingOf s) i w ≡ stepOf (step s i w)
 unfolding step
-step-shown (outside es) i (head number d m) fine = head-step es Outside noPart number d m i fine
+step-shown (outside es) i (head number d m) fine = head-step es number d m i fine
 step-shown (outside es) i (coordinate l) fine = refl
 step-shown (outside es) i (see number) fine = refl
-step-shown (outside es) i (end count) fine = end-step es Outside noPart count
+step-shown (outside es) i (end count) fine = end-step es count
 step-shown (outside es) i (draft l) fine = refl
+step-shown (outside es) i (headNumber number) fine = number-step es number i fine
+step-shown (outside es) i (headSize high d m) fine = refl
 step-shown (outside es) i (other k l) fine = refl
+step-shown (numbered es n p) i (head number d m) fine = refl
+step-shown (numbered es n p) i (coordinate l) fine = refl
+step-shown (numbered es n p) i (see number) fine = refl
+step-shown (numbered es n p) i (end count) fine = refl
+step-shown (numbered es n p) i (draft l) fine = refl
+step-shown (numbered es n p) i (headNumber number) fine = refl
+step-shown (numbered es n p) i (headSize high d m) fine = size-step es n p high d m
+step-shown (numbered es n p) i (other k l) fine = refl
 step-shown (inside es h vs v) i (head number d m) fine = refl
 step-shown (inside es h vs v) i (coordinate l) fine = coordinate-step es h vs v l
 step-shown (inside es h vs v) i (see number) fine = refl
 step-shown (inside es h vs v) i (end count) fine = refl
 step-shown (inside es h vs v) i (draft l) fine = refl
+step-shown (inside es h vs v) i (headNumber number) fine = refl
+step-shown (inside es h vs v) i (headSize high d m) fine = refl
 step-shown (inside es h vs v) i (other k l) fine = refl
 step-shown (after es h vs marked) i (head number d m) fine =
     let e : definition.Entry = record { head = h; vectors = vs; draft = marked; see = none } in
-    ap₂ (λ ns s. headRead (filled 0 mostEntries ns) s number d m i) (map-snoc (λ e. e .head .number) es e) (entry-step es h vs marked none)
-    ∙ head-step (withEntry es h vs marked none) Outside noPart number d m i (omega (arith, length-append es (e ∷ []), fine))
+    ap₂ (λ ns s. headRead (filled 0 mostEntries ns) s number d m i) (map-snoc (λ e. e .head .number) es e) (entry-step es h vs marked none (fine .1))
+    ∙ head-step (withEntry es h vs marked none) number d m i (omega (arith, length-append es (e ∷ []), fine .0))
 step-shown (after es h vs marked) i (coordinate l) fine = refl
-step-shown (after es h vs marked) i (see number) fine = entry-step es h vs marked (some (record { number = number; place = i }))
-step-shown (after es h vs marked) i (end count) fine = ap (λ s. endRead s count) (entry-step es h vs marked none) ∙ end-step (withEntry es h vs marked none) Outside noPart count
+step-shown (after es h vs marked) i (see number) fine = entry-step es h vs marked (some (record { number = number; place = i })) (fine .1)
+step-shown (after es h vs marked) i (end count) fine = ap (λ s. endRead s count) (entry-step es h vs marked none (fine .1)) ∙ end-step (withEntry es h vs marked none) count
 step-shown (after es h vs marked) i (draft l) fine = draft-step es h vs marked l
+step-shown (after es h vs marked) i (headNumber number) fine =
+    let e : definition.Entry = record { head = h; vectors = vs; draft = marked; see = none } in
+    ap₂ (λ ns s. headNumberRead (filled 0 mostEntries ns) s number i) (map-snoc (λ e. e .head .number) es e) (entry-step es h vs marked none (fine .1))
+    ∙ number-step (withEntry es h vs marked none) number i (omega (arith, length-append es (e ∷ []), fine .0))
+step-shown (after es h vs marked) i (headSize high d m) fine = refl
 step-shown (after es h vs marked) i (other k l) fine = refl
 step-shown (closed es) i w fine = refl

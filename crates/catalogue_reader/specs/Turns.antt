@@ -1,29 +1,26 @@
 -- The turns that the code takes, each with what it has tested, against the stored state of reading.
-use mathlib.Core.Path.{_≡_, sym, ap, ap₂, _∙_, subst}
-use mathlib.Core.Bool.{Bool, true, false, not, _||_}
+use mathlib.Core.Path.{_≡_, sym, ap, _∙_, subst}
+use mathlib.Core.Bool.{Bool, true, false, not}
 use mathlib.Core.List.{List, [], _∷_}
 use Prim.Native.Nat.{ℕ, _+_, _^_, _≤_, _<_}
 use native.Mathlib.Omega.{arith}
-use lib.Dec.{leb, ltb, eqb}
+use lib.Dec.{ltb, eqb}
 use lib.IntN.{pos, _-ℤ_}
-use lib.ListN.{take}
 use lib.Signed.{ltZ}
 use mir.Syntax.{w64}
 use mir.Val.{SFits, ofZ, toZ}
 use mir.Facts.{toZ-ofZ, toZ-pos}
 use borrow.Author.Tests.{eq-eqb, ne-eqb, le-ltb, ltb-false}
 use Rattle.integers.specs.Size.{Within, within-sub, fits-within}
-use Rattle.integers.specs.Every.{any}
-use Rattle.lattices.specs.Refusal.{oneTo, mostSize, mostSquare, mostVectors, mostCoordinates}
+use Rattle.lattices.specs.Refusal.{mostSize, mostSquare}
 use Rattle.catalogue_rules.specs.Read.{checked, coordinateOf}
 use Rattle.catalogue_rules.specs.Laws.WellFormed.{load-within}
 use Rattle.catalogue_reader.specs.declared.reading.Phase.{Phase}
 use Rattle.catalogue_reader.specs.declared.reading.Phase.the-variants.{Inside, After}
 use Rattle.catalogue_reader.specs.declared.parts.Part.{Part}
 use Rattle.catalogue_reader.specs.declared.reading.Reading.{Reading}
-use Rattle.catalogue_reader.specs.Parts.{started, putCoordinate, putVector, putMark}
-use Rattle.catalogue_reader.specs.Readings.{isNumber, going, stopped, headRead, vectorPhase, vectorRead, columnRead, coordinateRead, draftRead}
-use Rattle.catalogue_rules.specs.Catalogue.{mostEntries}
+use Rattle.catalogue_reader.specs.Parts.{putCoordinate, putVector, putMark}
+use Rattle.catalogue_reader.specs.Readings.{going, stopped, vectorPhase, vectorRead, columnRead, coordinateRead, draftRead}
 
 -- a row applies, or it does not
 pub applies : {t : Bool} (n : ℕ) (rows : List (Bool × ℕ)) (s : Reading) → t ≡ true → stopped n ≡ checked stopped ((t, n) ∷ rows) s
@@ -32,62 +29,18 @@ applies n rows s e = sym (ap (λ t. checked stopped ((t, n) ∷ rows) s) e)
 pub skips : {t : Bool} (n : ℕ) (rows : List (Bool × ℕ)) (s : Reading) → t ≡ false → checked stopped rows s ≡ checked stopped ((t, n) ∷ rows) s
 skips n rows s e = sym (ap (λ t. checked stopped ((t, n) ∷ rows) s) e)
 
--- the rows of a head, each with what it has tested
-module _ (numbers : List ℕ) (s : Reading) (number d m i : ℕ) where
-  full : Bool
-  full = leb mostEntries (s .count)
-
-  many : Bool
-  many = not (oneTo mostVectors d)
-
-  wide : Bool
-  wide = not (oneTo mostCoordinates m)
-
-  used : Bool
-  used = eqb number 0 || any (isNumber number) (take (s .count) numbers)
-
-  by-rows : Bool → Bool → Bool → Bool → Reading
-  by-rows a b c e = checked stopped ((a, 15) ∷ (b, 1) ∷ (c, 2) ∷ (e, 11) ∷ []) (going Inside (s .count) (started number d m i))
-
-  pub head-15 : leb mostEntries (s .count) ≡ true → stopped 15 ≡ headRead numbers s number d m i
-  unfolding full many wide used by-rows
-  head-15 e = sym (ap (λ a. by-rows a many wide used) e)
-
-  pub head-1 : leb mostEntries (s .count) ≡ false → not (oneTo mostVectors d) ≡ true → stopped 1 ≡ headRead numbers s number d m i
-  unfolding full many wide used by-rows
-  head-1 e f = sym (ap₂ (λ a b. by-rows a b wide used) e f)
-
-  pub head-2 : leb mostEntries (s .count) ≡ false → not (oneTo mostVectors d) ≡ false → not (oneTo mostCoordinates m) ≡ true → stopped 2 ≡ headRead numbers s number d m i
-  unfolding full many wide used by-rows
-  head-2 e f g = sym (ap₂ (λ a b. by-rows a b wide used) e f ∙ ap (λ c. by-rows false false c used) g)
-
-  head-number : {t : Bool} → leb mostEntries (s .count) ≡ false → not (oneTo mostVectors d) ≡ false → not (oneTo mostCoordinates m) ≡ false
-      → (eqb number 0 || any (isNumber number) (take (s .count) numbers)) ≡ t → by-rows false false false t ≡ headRead numbers s number d m i
-  unfolding full many wide used by-rows
-  head-number e f g h = sym (ap₂ (λ a b. by-rows a b wide used) e f ∙ ap₂ (λ c e. by-rows false false c e) g h)
-
-  pub head-11 : leb mostEntries (s .count) ≡ false → not (oneTo mostVectors d) ≡ false → not (oneTo mostCoordinates m) ≡ false
-      → (eqb number 0 || any (isNumber number) (take (s .count) numbers)) ≡ true → stopped 11 ≡ headRead numbers s number d m i
-  unfolding by-rows
-  head-11 e f g h = head-number e f g h
-
-  pub head-goes : leb mostEntries (s .count) ≡ false → not (oneTo mostVectors d) ≡ false → not (oneTo mostCoordinates m) ≡ false
-      → (eqb number 0 || any (isNumber number) (take (s .count) numbers)) ≡ false → going Inside (s .count) (started number d m i) ≡ headRead numbers s number d m i
-  unfolding by-rows
-  head-goes e f g h = head-number e f g h
-
 -- a whole vector
 module _ (s : Reading) (part p : Part) (is : p ≡ putVector part) (short : ltZ (pos mostSquare) (part .square) ≡ false) where
-  to-phase : (f : Phase) → f ≡ vectorPhase (eqb (p .row) (p .d)) → going f (s .count) p ≡ vectorRead s part
+  to-phase : (f : Phase) → f ≡ vectorPhase (eqb (p .row) (p .d)) → going f (s .count) (s .form) p ≡ vectorRead s part
   to-phase f e =
-      ap (λ g. going g (s .count) p) e
-      ∙ ap (λ q. going (vectorPhase (eqb (q .row) (q .d))) (s .count) q) is
+      ap (λ g. going g (s .count) (s .form) p) e
+      ∙ ap (λ q. going (vectorPhase (eqb (q .row) (q .d))) (s .count) (s .form) q) is
       ∙ skips 4 [] _ short
 
-  pub last-vector : p .row ≡ p .d → going After (s .count) p ≡ vectorRead s part
+  pub last-vector : p .row ≡ p .d → going After (s .count) (s .form) p ≡ vectorRead s part
   last-vector e = to-phase After (sym (ap vectorPhase (eq-eqb _ _ e)))
 
-  pub more-vectors : (p .row ≡ p .d → ⊥) → going Inside (s .count) p ≡ vectorRead s part
+  pub more-vectors : (p .row ≡ p .d → ⊥) → going Inside (s .count) (s .form) p ≡ vectorRead s part
   more-vectors e = to-phase Inside (sym (ap vectorPhase (ne-eqb _ _ e)))
 
 -- a coordinate within the limit
@@ -98,28 +51,28 @@ module _ (s : Reading) (l : ℕ) (p : Part) (is : p ≡ putCoordinate (s .part) 
   pub last-coordinate : p .column ≡ p .m → vectorRead s p ≡ coordinateRead s l
   last-coordinate e = sym (ap (λ t. columnRead t s p) (eq-eqb _ _ e)) ∙ by-column
 
-  pub more-coordinates : (p .column ≡ p .m → ⊥) → going Inside (s .count) p ≡ coordinateRead s l
+  pub more-coordinates : (p .column ≡ p .m → ⊥) → going Inside (s .count) (s .form) p ≡ coordinateRead s l
   more-coordinates e = sym (ap (λ t. columnRead t s p) (ne-eqb _ _ e)) ∙ by-column
 
 -- the mark of a draft: its place is tested, then its load
 module _ (s : Reading) (l : ℕ) where
   by-load : Reading
-  by-load = checked stopped ((not (eqb l 1), 18) ∷ []) (going After (s .count) (putMark (s .part)))
+  by-load = checked stopped ((not (eqb l 1), 18) ∷ []) (going After (s .count) (s .form) (putMark (s .part)))
 
   first-mark : s .part .draft ≡ false → by-load ≡ draftRead s l
   unfolding by-load
-  first-mark e = skips 10 ((not (eqb l 1), 18) ∷ []) (going After (s .count) (putMark (s .part))) e
+  first-mark e = skips 10 ((not (eqb l 1), 18) ∷ []) (going After (s .count) (s .form) (putMark (s .part))) e
 
   pub second-mark : s .part .draft ≡ true → stopped 10 ≡ draftRead s l
-  second-mark e = applies 10 ((not (eqb l 1), 18) ∷ []) (going After (s .count) (putMark (s .part))) e
+  second-mark e = applies 10 ((not (eqb l 1), 18) ∷ []) (going After (s .count) (s .form) (putMark (s .part))) e
 
   pub other-load : s .part .draft ≡ false → (l ≡ 1 → ⊥) → stopped 18 ≡ draftRead s l
   unfolding by-load
-  other-load e f = applies 18 [] (going After (s .count) (putMark (s .part))) (ap not (ne-eqb l 1 f)) ∙ first-mark e
+  other-load e f = applies 18 [] (going After (s .count) (s .form) (putMark (s .part))) (ap not (ne-eqb l 1 f)) ∙ first-mark e
 
-  pub marks : {p : Part} → p ≡ putMark (s .part) → s .part .draft ≡ false → l ≡ 1 → going After (s .count) p ≡ draftRead s l
+  pub marks : {p : Part} → p ≡ putMark (s .part) → s .part .draft ≡ false → l ≡ 1 → going After (s .count) (s .form) p ≡ draftRead s l
   unfolding by-load
-  marks is e f = ap (going After (s .count)) is ∙ skips 18 [] (going After (s .count) (putMark (s .part))) (ap not (eq-eqb l 1 f)) ∙ first-mark e
+  marks is e f = ap (going After (s .count) (s .form)) is ∙ skips 18 [] (going After (s .count) (s .form) (putMark (s .part))) (ap not (eq-eqb l 1 f)) ∙ first-mark e
 
 -- ---- a load less 20,000, as code computes it
 

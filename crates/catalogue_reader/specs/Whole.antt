@@ -12,9 +12,10 @@ use borrow.Author.Tests.{eq-eqb, ne-eqb, lt-ltb, le-ltb}
 use Rattle.integers.specs.All.{All}
 use Rattle.catalogue_rules.specs.Word.{wordsOf}
 use Rattle.catalogue_rules.specs.Catalogue as definition
-use Rattle.catalogue_rules.specs.Catalogue.{Outcome, refused, accepted, mostEntries, mostBytes}
+use Rattle.catalogue_rules.specs.Catalogue.{Form, Outcome, refused, accepted, mostEntries, mostBytes}
 use Rattle.integers.specs.First.{firstGiven}
-use Rattle.catalogue_rules.specs.Read.{outside, checked, dependentAt, lostAt, readWords, afterWords, read}
+use Rattle.catalogue_rules.specs.Read.{outside, checked, dependentAt, lostAt, readWords, afterWords, opensIn, formShown, fileRows, readAll, read}
+use Rattle.catalogue_rules.specs.Moving.{readToMove}
 use Rattle.catalogue_rules.specs.Form.{EntryFits, Entered}
 use Rattle.catalogue_rules.specs.Laws.Moves.{WhenAccepted}
 use Rattle.catalogue_records.specs.declared.Catalogue.{Catalogue}
@@ -22,6 +23,7 @@ use Rattle.catalogue_records.specs.Catalogues.{noCatalogue, catalogueOf, unless
 use Rattle.catalogue_records.specs.EntriesIn.{entriesIn}
 use Rattle.catalogue_records.specs.Entries.{entries-back}
 use Rattle.catalogue_reader.specs.declared.Fault.{Fault}
+use Rattle.catalogue_reader.specs.Rows.{firstRow, row-stops, rows-pass}
 use Rattle.catalogue_reader.specs.Ended.{faultOf}
 
 -- the words' outcome
@@ -101,17 +103,52 @@ module _ (c : Catalogue) {f g : Fault} (first : f ≡ faultOf (firstGiven depend
 -- ---- the row "whole file", then the words
 
 module _ (bytes : List ℕ) where
-  by-rows : Bool → Bool → Catalogue
-  by-rows a b = catalogueOf (checked (λ n. refused n 0) ((not a, 8) ∷ (b, 9) ∷ []) (afterWords (words bytes)))
+  by-rows : Bool → Bool → ℕ
+  by-rows a b = firstRow ((not a, 8) ∷ (b, 9) ∷ [])
 
-  pub refused-8 : length bytes % 4 ≢ 0 → noCatalogue 8 0 ≡ catalogueOf (read bytes)
-  unfolding by-rows read
-  refused-8 h = sym (ap (λ a. by-rows a (ltb mostBytes (length bytes))) (ne-eqb _ 0 h))
+  pub file-8 : length bytes % 4 ≢ 0 → 8 ≡ firstRow (fileRows bytes)
+  unfolding by-rows
+  file-8 h = sym (ap (λ a. by-rows a (ltb (mostBytes (formShown (wordsOf bytes))) (length bytes))) (ne-eqb _ 0 h))
 
-  pub refused-9 : length bytes % 4 ≡ 0 → mostBytes < length bytes → noCatalogue 9 0 ≡ catalogueOf (read bytes)
-  unfolding by-rows read
-  refused-9 e h = sym (ap₂ by-rows (eq-eqb _ 0 e) (lt-ltb _ _ h))
+  module _ {most : ℕ} (is : most ≡ mostBytes (formShown (wordsOf bytes))) (whole : length bytes % 4 ≡ 0) where
+    by-limit : {t : Bool} → ltb most (length bytes) ≡ t → by-rows true t ≡ firstRow (fileRows bytes)
+    unfolding by-rows
+    by-limit e = sym (ap₂ by-rows (eq-eqb _ 0 whole) (ap (λ m. ltb m (length bytes)) (sym is) ∙ e))
 
-  pub by-words : length bytes % 4 ≡ 0 → length bytes ≤ mostBytes → catalogueOf (afterWords (words bytes)) ≡ catalogueOf (read bytes)
-  unfolding by-rows read
-  by-words e h = sym (ap₂ by-rows (eq-eqb _ 0 e) (le-ltb _ _ h))
+    pub file-9 : most < length bytes → 9 ≡ firstRow (fileRows bytes)
+    unfolding by-rows
+    file-9 h = by-limit (lt-ltb _ _ h)
+
+    pub file-none : length bytes ≤ most → 0 ≡ firstRow (fileRows bytes)
+    unfolding by-rows
+    file-none h = by-limit (le-ltb _ _ h)
+
+  module _ {n : ℕ} (is : n ≡ firstRow (fileRows bytes)) where
+    pub file-refused : n ≢ 0 → noCatalogue n 0 ≡ catalogueOf (read bytes)
+    unfolding read
+    file-refused h = ap catalogueOf (row-stops (λ k. refused k 0) (fileRows bytes) [] (readAll bytes) is h)
+
+    pub file-read : n ≡ 0 → catalogueOf (readAll bytes) ≡ catalogueOf (read bytes)
+    unfolding read
+    file-read h = ap catalogueOf (rows-pass (λ k. refused k 0) (fileRows bytes) [] (readAll bytes) (omega arith) is h)
+
+    -- for a move the form that the first word shows comes after them
+    module _ (f : Form) where
+      abbrev wrong : Bool → List (Bool × ℕ)
+      wrong t = (t, 10) ∷ []
+
+      abbrev judged : Bool → Outcome
+      judged t = checked (λ k. refused k 0) (wrong t) (readAll bytes)
+
+      pub move-refused : n ≢ 0 → noCatalogue n 0 ≡ catalogueOf (readToMove f bytes)
+      move-refused h = ap catalogueOf (row-stops (λ k. refused k 0) (fileRows bytes) (wrong (opensIn f (wordsOf bytes))) (readAll bytes) is h)
+
+      move-judged : {t : Bool} → n ≡ 0 → t ≡ opensIn f (wordsOf bytes) → catalogueOf (judged t) ≡ catalogueOf (readToMove f bytes)
+      move-judged h e =
+          ap (λ t. catalogueOf (judged t)) e ∙ ap catalogueOf (rows-pass (λ k. refused k 0) (fileRows bytes) (wrong (opensIn f (wordsOf bytes))) (readAll bytes) (omega arith) is h)
+
+      pub move-wrong : {t : Bool} → n ≡ 0 → t ≡ opensIn f (wordsOf bytes) → t ≡ true → noCatalogue 10 0 ≡ catalogueOf (readToMove f bytes)
+      move-wrong h e k = move-judged h (sym k ∙ e)
+
+      pub move-read : {t : Bool} → n ≡ 0 → t ≡ opensIn f (wordsOf bytes) → t ≡ false → catalogueOf (readAll bytes) ≡ catalogueOf (readToMove f bytes)
+      move-read h e k = move-judged h (sym k ∙ e)

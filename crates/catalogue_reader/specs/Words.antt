@@ -8,7 +8,7 @@ use borrow.Author.Tests.{ne-eqb}
 use Rattle.catalogue_rules.specs.Word as words
 use Rattle.catalogue_rules.specs.Word.{wordsOf}
 use Rattle.catalogue_reader.specs.declared.words.Word.{Word}
-use Rattle.catalogue_reader.specs.declared.words.Word.the-variants.{Head, Coordinate, See, End, Draft, Other}
+use Rattle.catalogue_reader.specs.declared.words.Word.the-variants.{Head, Coordinate, See, End, Draft, HeadNumber, HeadSize, Other}
 
 abbrev pub wordIn : Word → words.Word
 wordIn (Head number d m) = words.head number d m
@@ -16,10 +16,12 @@ wordIn (Coordinate l) = words.coordinate l
 wordIn (See number) = words.see number
 wordIn (End count) = words.end count
 wordIn (Draft l) = words.draft l
+wordIn (HeadNumber number) = words.headNumber number
+wordIn (HeadSize high d m) = words.headSize high d m
 wordIn (Other k l) = words.other k l
 
-pub other-word : (k l : ℕ) → (k ≡ 1 → ⊥) → (k ≡ 2 → ⊥) → (k ≡ 3 → ⊥) → (k ≡ 4 → ⊥) → (k ≡ 5 → ⊥) → words.other k l ≡ words.wordOf k l
-other-word k l p q r s t = rw (words.wordOf, ne-eqb k 1 p, ne-eqb k 2 q, ne-eqb k 3 r, ne-eqb k 4 s, ne-eqb k 5 t)
+pub other-word : (k l : ℕ) → (k ≡ 1 → ⊥) → (k ≡ 2 → ⊥) → (k ≡ 3 → ⊥) → (k ≡ 4 → ⊥) → (k ≡ 5 → ⊥) → (k ≡ 6 → ⊥) → (k ≡ 7 → ⊥) → words.other k l ≡ words.wordOf k l
+other-word k l p q r s t u v = rw (words.wordOf, ne-eqb k 1 p, ne-eqb k 2 q, ne-eqb k 3 r, ne-eqb k 4 s, ne-eqb k 5 t, ne-eqb k 6 u, ne-eqb k 7 v)
 
 -- the word that four bytes make
 abbrev pub wordFrom : List ℕ → ℕ → ℕ

@@ -10,18 +10,22 @@ ghost use Rattle.lattices.specs.Volume.{isDependent};
 ghost use Rattle.integers.specs.Every.{any};
 ghost use Rattle.catalogue_rules.specs.Word.{wordsOf};
 ghost use Rattle.integers.specs.First.{firstGiven};
-ghost use Rattle.catalogue_rules.specs.Read.{read, outside, readWords, dependentAt, lostAt};
+ghost use Rattle.catalogue_rules.specs.Read.{opensIn, formShown, fileRows, readAll, read, outside, readWords, dependentAt, lostAt};
+ghost use Rattle.catalogue_rules.specs.Moving.{readToMove};
 ghost use Rattle.catalogue_records.specs.Catalogues.{catalogueOf};
+ghost use Rattle.catalogue_reader.specs.Rows.{firstRow};
 ghost use Rattle.catalogue_reader.specs.Readings.{isClosed, isNumber};
 ghost use Rattle.catalogue_reader.specs.Words.{wordIn};
 ghost use Rattle.catalogue_reader.specs.Store.{noted, Space};
 ghost use Rattle.catalogue_reader.specs.Ended.{faultOf};
+ghost use Rattle.catalogue_reader.specs.Opening.{opensWith};
 ghost use Rattle.catalogue_reader.specs.Cells.{Place, placed};
 ghost use Rattle.catalogue_rules.specs.Form.{EntryFits};
-ghost use Rattle.catalogue_records.specs.EntriesIn.{entryIn, entriesIn};
-ghost use Rattle.catalogue_rules.specs.Catalogue.{mostEntries};
+ghost use Rattle.catalogue_records.specs.EntriesIn.{formIn, entryIn, entriesIn};
+ghost use Rattle.catalogue_rules.specs.Catalogue.{mostEntries, mostBytes};
 use catalogue_records::Catalogue;
 use catalogue_records::Entry;
+use catalogue_records::Form;
 use catalogue_records::NUMBERS;
 use parts::first_numbers;
 use reading::Phase;
@@ -41,6 +45,7 @@ fn closed(phase: Phase) -> bool
 {
     match phase {
         Phase::Outside => false,
+        Phase::Numbered => false,
         Phase::Inside => false,
         Phase::After => false,
         Phase::Closed => true,
@@ -60,6 +65,14 @@ fn note(numbers: &mut [u32; Catalogue::MOST_ENTRIES], count: usize, w: Word)
         Word::See(_) => {}
         Word::End(_) => {}
         Word::Draft(_) => {}
+        Word::HeadNumber(number) => {
+            numbers[count] = number;
+        }
+        Word::HeadSize {
+            high: _,
+            d: _,
+            m: _,
+        } => {}
         Word::Other { kind: _, load: _ } => {}
     }
 }
@@ -81,6 +94,12 @@ fn store(coordinates: &mut [i64; NUMBERS], n: usize, w: Word)
         Word::See(_) => {}
         Word::End(_) => {}
         Word::Draft(_) => {}
+        Word::HeadNumber(_) => {}
+        Word::HeadSize {
+            high: _,
+            d: _,
+            m: _,
+        } => {}
         Word::Other { kind: _, load: _ } => {}
     }
 }
@@ -105,11 +124,12 @@ fn read_words(bytes: &[u8]) -> Catalogue
         let c = t.count;
         let part = s.part;
         if k < c {
-            let e = part.whole(first_numbers(&coordinates, part.filled), i, w);
+            let form = t.form;
+            let e = part.whole(form, first_numbers(&coordinates, part.filled), i, w);
             entries[k] = e;
         }
-        note(&mut numbers, c, w);
         store(&mut coordinates, part.filled, w);
+        note(&mut numbers, c, w);
         s = t;
     }
     let phase = s.phase;
@@ -195,16 +215,10 @@ fn first_lost(c: Catalogue) -> Fault
     faultless()
 }
 
-// Reads a catalogue.
-pub fn read(bytes: &[u8]) -> Catalogue
-    ensures { λ r. ⌜ r ≡ catalogueOf (read (now (bytes .entry))) ⌝ }
+// The words of a file and the rows "after reading".
+fn read_all(bytes: &[u8]) -> Catalogue
+    ensures { λ r. ⌜ r ≡ catalogueOf (readAll (now (bytes .entry))) ⌝ }
 {
-    if bytes.len() % 4 != 0 {
-        return Catalogue::refused(8, 0);
-    }
-    if Catalogue::MOST_BYTES < bytes.len() {
-        return Catalogue::refused(9, 0);
-    }
     let c = read_words(bytes);
     if c.refusal != 0 {
         return c;
@@ -218,4 +232,69 @@ pub fn read(bytes: &[u8]) -> Catalogue
         return Catalogue::refused(12, links.at);
     }
     c
+}
+
+// Whether the first word is of this kind.
+fn opens_with(kind: u32, bytes: &[u8]) -> bool
+    ensures { λ r. ⌜ r ≡ opensWith kind (wordsOf (now (bytes .entry))) ⌝ }
+{
+    4 <= bytes.len() && word_at(bytes, 0) / 268435456 == kind
+}
+
+// How many bytes the file may have: more when the first word is the number of a head in the new form.
+fn most_bytes(bytes: &[u8]) -> usize
+    ensures { λ r. ⌜ r ≡ mostBytes (formShown (wordsOf (now (bytes .entry)))) ⌝ }
+{
+    if opens_with(6, bytes) {
+        return Catalogue::MOST_BYTES;
+    }
+    Catalogue::MOST_OLD_BYTES
+}
+
+// Row "whole file": 0 if none applies.
+fn file_refusal(bytes: &[u8]) -> u64
+    ensures { λ r. ⌜ r ≡ firstRow (fileRows (now (bytes .entry))) ⌝ }
+{
+    if bytes.len() % 4 != 0 {
+        return 8;
+    }
+    if most_bytes(bytes) < bytes.len() {
+        return 9;
+    }
+    0
+}
+
+// Reads a catalogue.
+pub fn read(bytes: &[u8]) -> Catalogue
+    ensures { λ r. ⌜ r ≡ catalogueOf (read (now (bytes .entry))) ⌝ }
+{
+    let refusal = file_refusal(bytes);
+    if refusal != 0 {
+        return Catalogue::refused(refusal, 0);
+    }
+    read_all(bytes)
+}
+
+// Row 10 of a move to this form: the first word is that of a head in it.
+fn opens_in(form: Form, bytes: &[u8]) -> bool
+    ensures { λ r. ⌜ r ≡ opensIn (formIn form) (wordsOf (now (bytes .entry))) ⌝ }
+{
+    match form {
+        Form::Old => opens_with(1, bytes),
+        Form::New => opens_with(6, bytes),
+    }
+}
+
+// Reads a catalogue that is to be written in this form: 10 for one that opens with a head in it, before any other word is judged.
+pub fn read_to_move(form: Form, bytes: &[u8]) -> Catalogue
+    ensures { λ r. ⌜ r ≡ catalogueOf (readToMove (formIn form) (now (bytes .entry))) ⌝ }
+{
+    let refusal = file_refusal(bytes);
+    if refusal != 0 {
+        return Catalogue::refused(refusal, 0);
+    }
+    if opens_in(form, bytes) {
+        return Catalogue::refused(10, 0);
+    }
+    read_all(bytes)
 }

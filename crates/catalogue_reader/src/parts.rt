@@ -11,6 +11,7 @@ ghost use Rattle.catalogue_rules.specs.Catalogue.{mostNumbers};
 ghost use Rattle.lattices.specs.Refusal.{mostVectors, mostCoordinates};
 use super::words::Word;
 use catalogue_records::Entry;
+use catalogue_records::Form;
 use catalogue_records::NUMBERS;
 
 // What is read of an entry: its head, how many vectors are whole, how many coordinates of the next one and the sum of their squares, how many
@@ -107,11 +108,19 @@ impl Part {
         }
     }
 
-    // The entry is whole, with or without a see word.
-    fn entry(self, coordinates: [i64; NUMBERS], sees: bool, see: u32, at: usize) -> Entry
-        ensures { λ r. ⌜ r ≡ whole self coordinates sees see at ⌝ }
+    // The entry is whole, with or without a see word; its head has this form.
+    fn entry(
+        self,
+        form: Form,
+        coordinates: [i64; NUMBERS],
+        sees: bool,
+        see: u32,
+        at: usize,
+    ) -> Entry
+        ensures { λ r. ⌜ r ≡ whole self form coordinates sees see at ⌝ }
     {
         Entry {
+            form: form,
             number: self.number,
             d: self.d,
             m: self.m,
@@ -125,20 +134,26 @@ impl Part {
     }
 
     // The entry that the word at index i makes whole.
-    pub(crate) fn whole(self, coordinates: [i64; NUMBERS], i: usize, w: Word) -> Entry
-        ensures { λ r. ⌜ r ≡ wholeAt self coordinates i (wordIn w) ⌝ }
+    pub(crate) fn whole(self, form: Form, coordinates: [i64; NUMBERS], i: usize, w: Word) -> Entry
+        ensures { λ r. ⌜ r ≡ wholeAt self form coordinates i (wordIn w) ⌝ }
     {
         match w {
             Word::Head {
                 number: _,
                 d: _,
                 m: _,
-            } => self.entry(coordinates, false, 0, 0),
-            Word::Coordinate(_) => self.entry(coordinates, false, 0, 0),
-            Word::See(number) => self.entry(coordinates, true, number, i),
-            Word::End(_) => self.entry(coordinates, false, 0, 0),
-            Word::Draft(_) => self.entry(coordinates, false, 0, 0),
-            Word::Other { kind: _, load: _ } => self.entry(coordinates, false, 0, 0),
+            } => self.entry(form, coordinates, false, 0, 0),
+            Word::Coordinate(_) => self.entry(form, coordinates, false, 0, 0),
+            Word::See(number) => self.entry(form, coordinates, true, number, i),
+            Word::End(_) => self.entry(form, coordinates, false, 0, 0),
+            Word::Draft(_) => self.entry(form, coordinates, false, 0, 0),
+            Word::HeadNumber(_) => self.entry(form, coordinates, false, 0, 0),
+            Word::HeadSize {
+                high: _,
+                d: _,
+                m: _,
+            } => self.entry(form, coordinates, false, 0, 0),
+            Word::Other { kind: _, load: _ } => self.entry(form, coordinates, false, 0, 0),
         }
     }
 }

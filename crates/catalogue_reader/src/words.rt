@@ -5,13 +5,15 @@ ghost use lib.ListN.{length, getD};
 ghost use Rattle.catalogue_rules.specs.Word.{decode, wordsOf};
 ghost use Rattle.catalogue_reader.specs.Words.{wordIn};
 
-// A word's case with its load: the kinds 1 to 5, and what is refused.
+// A word's case with its load: the kinds 1 to 7, and what is refused. A head of two words is its number and its size; `high` are the bits above d.
 pub(crate) enum Word {
     Head { number: u32, d: usize, m: usize },
     Coordinate(u32),
     See(u32),
     End(u32),
     Draft(u32),
+    HeadNumber(u32),
+    HeadSize { high: u32, d: usize, m: usize },
     Other { kind: u32, load: u32 },
 }
 
@@ -51,6 +53,12 @@ pub(crate) fn decode(w: u32) -> Word
         3 => Word::See(load),
         4 => Word::End(load),
         5 => Word::Draft(load),
+        6 => Word::HeadNumber(load),
+        7 => Word::HeadSize {
+            high: load / 256,
+            d: (load / 16 % 16) as usize,
+            m: (load % 16) as usize,
+        },
         _ => Word::Other {
             kind: kind,
             load: load,

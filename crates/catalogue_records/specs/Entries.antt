@@ -13,16 +13,17 @@ use Rattle.integers.specs.All.{All}
 use Rattle.integers.specs.AllLaws.{getD-map, all-at}
 use Rattle.lattices.specs.Refusal.{vectorsOf}
 use Rattle.catalogue_rules.specs.Catalogue as definition
-use Rattle.catalogue_rules.specs.Catalogue.{See, coordinates, seeNumber, mostEntries, mostNumbers}
+use Rattle.catalogue_rules.specs.Catalogue.{Form, old, new, Head, See, coordinates, seeNumber, mostEntries, mostNumbers}
 use Rattle.integers.specs.First.{firstGiven}
 use Rattle.catalogue_rules.specs.Form.{EntryFits}
 use Rattle.catalogue_rules.specs.Laws.EntriesAccepted.{count-coordinates, few-coordinates, vectors-back}
+use Rattle.catalogue_records.specs.declared.Form.the-variants.{Old}
 use Rattle.catalogue_records.specs.declared.Entry.{Entry}
 use Rattle.catalogue_records.specs.declared.Catalogue.{Catalogue}
-use Rattle.catalogue_records.specs.EntriesIn.{seeIn, entryIn, entriesIn}
+use Rattle.catalogue_records.specs.EntriesIn.{formIn, seeIn, entryIn, entriesIn}
 use Rattle.integers.specs.Filled.{filled}
 use Rattle.integers.specs.FilledLaws.{take-filled}
-use Rattle.catalogue_records.specs.Stored.{noEntry, sees, seePlace, entryOf}
+use Rattle.catalogue_records.specs.Stored.{noEntry, storedForm, sees, seePlace, entryOf}
 use Rattle.catalogue_records.specs.Catalogues.{stored, holding}
 
 -- ---- what was stored is found again
@@ -31,6 +32,10 @@ see-back : (o : Option See) → seeIn (sees o) (seeNumber o) (seePlace o) ≡ o
 see-back none = refl
 see-back (some s) = refl
 
+form-back : (f : Form) → formIn (storedForm f) ≡ f
+form-back old = refl
+form-back new = refl
+
 entry-back : (e : definition.Entry) → EntryFits e → entryIn (entryOf e) ≡ e
 entry-back e p =
     let h = e .head in
@@ -38,7 +43,10 @@ entry-back e p =
     let same : take (h .d * h .m) (filled (pos 0) mostNumbers cs) ≡ cs =
     ap (λ n. take n (filled (pos 0) mostNumbers cs)) (sym (count-coordinates e p)) ∙ take-filled (pos 0) mostNumbers cs (few-coordinates e p) in
     let vectors : vectorsOf (h .d) (h .m) cs ≡ e .vectors = ap (λ d. vectorsOf d (h .m) cs) (sym (p .count)) ∙ vectors-back (h .m) (e .vectors) (p .vectors) in
-    ap₂ (λ vs s. record { head = h; vectors = vs; draft = e .draft; see = s }) (ap (vectorsOf (h .d) (h .m)) same ∙ vectors) (see-back (e .see))
+    (λ i. record { head = headed (form-back (h .form) i); vectors = (ap (vectorsOf (h .d) (h .m)) same ∙ vectors) i; draft = e .draft; see = see-back (e .see) i })
+  where
+    headed : Form → Head
+    headed f = record { form = f; number = e .head .number; d = e .head .d; m = e .head .m; place = e .head .place }
 
 map-back : (es : List definition.Entry) → All EntryFits es → map entryIn (map entryOf es) ≡ es
 map-back [] p = refl
@@ -57,7 +65,7 @@ all-stored c f p = sym (length-map (c .entries) f) ∙ p
 
 -- what an array of entries gives beyond its end
 abbrev pub beyond : Entry
-beyond = record { number = 0; d = 0; m = 0; place = 0; draft = false; sees = false; see = 0; at = 0; coordinates = [] }
+beyond = record { form = Old; number = 0; d = 0; m = 0; place = 0; draft = false; sees = false; see = 0; at = 0; coordinates = [] }
 
 abbrev pub entryAt : Catalogue → ℕ → Entry
 entryAt c k = getD (c .entries) k beyond

@@ -6,9 +6,15 @@ use Prim.Native.Nat.{ℕ, _*_}
 use lib.ListN.{take}
 use Rattle.lattices.specs.Refusal.{vectorsOf}
 use Rattle.catalogue_rules.specs.Catalogue as definition
-use Rattle.catalogue_rules.specs.Catalogue.{See}
+use Rattle.catalogue_rules.specs.Catalogue.{old, new, See}
+use Rattle.catalogue_records.specs.declared.Form.{Form}
+use Rattle.catalogue_records.specs.declared.Form.the-variants.{Old, New}
 use Rattle.catalogue_records.specs.declared.Entry.{Entry}
 use Rattle.catalogue_records.specs.declared.Catalogue.{Catalogue}
+
+abbrev pub formIn : Form → definition.Form
+formIn Old = old
+formIn New = new
 
 abbrev pub seeIn : Bool → ℕ → ℕ → Option See
 seeIn true number place = some (record { number = number; place = place })
@@ -16,7 +22,7 @@ seeIn false number place = none
 
 abbrev pub entryIn : Entry → definition.Entry
 entryIn e = record {
-  head = record { number = e .number; d = e .d; m = e .m; place = e .place };
+  head = record { form = formIn (e .form); number = e .number; d = e .d; m = e .m; place = e .place };
   vectors = vectorsOf (e .d) (e .m) (take (e .d * e .m) (e .coordinates));
   draft = e .draft;
   see = seeIn (e .sees) (e .see) (e .at);

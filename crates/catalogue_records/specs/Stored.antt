@@ -5,12 +5,18 @@ use Prim.Native.Nat.{ℕ}
 use lib.IntN.{pos}
 use lib.ListN.{replicate}
 use Rattle.catalogue_rules.specs.Catalogue as definition
-use Rattle.catalogue_rules.specs.Catalogue.{See, coordinates, seeNumber, mostNumbers}
+use Rattle.catalogue_rules.specs.Catalogue.{old, new, See, coordinates, seeNumber, mostNumbers}
+use Rattle.catalogue_records.specs.declared.Form.{Form}
+use Rattle.catalogue_records.specs.declared.Form.the-variants.{Old, New}
 use Rattle.catalogue_records.specs.declared.Entry.{Entry}
 use Rattle.integers.specs.Filled.{filled}
 
 abbrev pub noEntry : Entry
-noEntry = record { number = 0; d = 0; m = 0; place = 0; draft = false; sees = false; see = 0; at = 0; coordinates = replicate mostNumbers (pos 0) }
+noEntry = record { form = Old; number = 0; d = 0; m = 0; place = 0; draft = false; sees = false; see = 0; at = 0; coordinates = replicate mostNumbers (pos 0) }
+
+abbrev pub storedForm : definition.Form → Form
+storedForm old = Old
+storedForm new = New
 
 -- a see word or none: whether there is one, its number and its place
 abbrev pub sees : Option See → Bool
@@ -23,6 +29,7 @@ seePlace (some s) = s .place
 
 abbrev pub entryOf : definition.Entry → Entry
 entryOf e = record {
+  form = storedForm (e .head .form);
   number = e .head .number;
   d = e .head .d;
   m = e .head .m;

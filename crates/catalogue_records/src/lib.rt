@@ -7,9 +7,16 @@ ghost use Rattle.catalogue_records.specs.Catalogues.{noCatalogue};
 // How many coordinates an entry may have.
 pub const NUMBERS: usize = 4 * row_operations::WIDTH;
 
-// An entry: its head and the place of the head; whether it is a draft; whether it has a see word, its number and where it stands; d times m
+// The form of a head: one word, or two with a longer number.
+pub enum Form {
+    Old,
+    New,
+}
+
+// An entry: its head, the form of the head and its place; whether it is a draft; whether it has a see word, its number and where it stands; d times m
 // coordinates, then zeros.
 pub struct Entry {
+    pub form: Form,
     pub number: u32,
     pub d: usize,
     pub m: usize,
@@ -39,8 +46,17 @@ pub struct Written {
 impl Catalogue {
     pub const MOST_ENTRIES: usize = 256;
 
-    // Of the largest entries a head, the coordinates, a mark and a see word each, then an end word; a word has four bytes.
-    pub const MOST_BYTES: usize = (Self::MOST_ENTRIES * (NUMBERS + 3) + 1) * 4;
+    // Of the largest entries a head, the coordinates, a mark and a see word each, then an end word; a word has four bytes. In the old form a head
+    // has one word.
+    pub const MOST_OLD_BYTES: usize = (Self::MOST_ENTRIES * (1 + NUMBERS + 2) + 1) * 4;
+
+    // In the new form it has two; no catalogue has more bytes.
+    pub const MOST_BYTES: usize = (Self::MOST_ENTRIES * (2 + NUMBERS + 2) + 1) * 4;
+
+    // The least is 1.
+    pub const MOST_OLD_NUMBER: u32 = 1048575;
+
+    pub const MOST_NUMBER: u32 = 268435455;
 
     pub const MOST_LOAD: u32 = 40000;
 
@@ -69,6 +85,7 @@ impl Entry {
         ensures { λ r. ⌜ r ≡ noEntry ⌝ }
     {
         Entry {
+            form: Form::Old,
             number: 0,
             d: 0,
             m: 0,

@@ -1,11 +1,12 @@
 // One catalogue for each refusal of reading and each place that it can stand at, and the catalogues of document 01: what reading gives,
 // and what writing it out again leaves of a lent output.
 mod drafts;
+mod forms;
 mod shown;
 
 // The words as bytes.
 fn run(name: &[u8], words: &[u32]) {
-    let mut bytes = [0u8; 35848];
+    let mut bytes = [0u8; 36868];
     let n = sample_catalogues::store(words, &mut bytes);
     shown::outcome(name, &bytes[..n]);
 }
@@ -14,6 +15,15 @@ fn run(name: &[u8], words: &[u32]) {
 fn many(name: &[u8], count: u32, shape: u32, rest: &[u32]) {
     let mut words = [0u32; 8961];
     let n = sample_catalogues::alike(&mut words, count, shape, rest);
+    run(name, &words[..n]);
+}
+
+// The same in the new form.
+fn many_new(name: &[u8], count: u32, shape: u32, rest: &[u32]) {
+    let mut old = [0u32; 8961];
+    let k = sample_catalogues::alike(&mut old, count, shape, rest);
+    let mut words = [0u32; 9217];
+    let n = sample_catalogues::in_new_form(&old[..k], &mut words);
     run(name, &words[..n]);
 }
 
@@ -46,52 +56,49 @@ fn document() {
     );
 }
 
-// Row "whole file": 8 comes before 9, and 35,844 bytes are not too many.
+// Row "whole file": 8 comes before 9, and 35,844 bytes are not too many, in the new form 36,868.
 fn whole_file() {
     shown::outcome(b"five bytes", b"\x00\x00\x00\x40\x00");
     shown::outcome(b"35849 bytes", &[0; 35849]);
     shown::outcome(b"35848 bytes", &[0; 35848]);
-    many(
-        b"35844 bytes",
-        256,
-        0x48,
-        &[
-            0x20004E20,
-            0x20004E21,
-            0x20004E20,
-            0x20004E20,
-            0x20004E20,
-            0x20004E20,
-            0x20004E20,
-            0x20004E20,
-            0x20004E20,
-            0x20004E20,
-            0x20004E20,
-            0x20004E21,
-            0x20004E20,
-            0x20004E20,
-            0x20004E20,
-            0x20004E20,
-            0x20004E20,
-            0x20004E20,
-            0x20004E20,
-            0x20004E20,
-            0x20004E20,
-            0x20004E21,
-            0x20004E20,
-            0x20004E20,
-            0x20004E20,
-            0x20004E20,
-            0x20004E20,
-            0x20004E20,
-            0x20004E20,
-            0x20004E20,
-            0x20004E20,
-            0x20004E21,
-            0x50000001,
-            0x30000001,
-        ],
-    );
+    let rest = [
+        0x20004E20,
+        0x20004E21,
+        0x20004E20,
+        0x20004E20,
+        0x20004E20,
+        0x20004E20,
+        0x20004E20,
+        0x20004E20,
+        0x20004E20,
+        0x20004E20,
+        0x20004E20,
+        0x20004E21,
+        0x20004E20,
+        0x20004E20,
+        0x20004E20,
+        0x20004E20,
+        0x20004E20,
+        0x20004E20,
+        0x20004E20,
+        0x20004E20,
+        0x20004E20,
+        0x20004E21,
+        0x20004E20,
+        0x20004E20,
+        0x20004E20,
+        0x20004E20,
+        0x20004E20,
+        0x20004E20,
+        0x20004E20,
+        0x20004E20,
+        0x20004E20,
+        0x20004E21,
+        0x50000001,
+        0x30000001,
+    ];
+    many(b"35844 bytes", 256, 0x48, &rest);
+    many_new(b"36868 bytes", 256, 0x48, &rest);
 }
 
 // Kinds that cannot stand where they do.
@@ -323,4 +330,13 @@ fn main() {
     drafts::places();
     drafts::words_after();
     drafts::order();
+    forms::new_heads();
+    forms::no_size();
+    forms::other_places();
+    forms::both_forms();
+    forms::numbers();
+    forms::sizes();
+    forms::words_after();
+    forms::counts();
+    forms::lengths();
 }

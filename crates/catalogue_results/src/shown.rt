@@ -1,5 +1,6 @@
 // What reading gives, and what writing leaves, in lines of numbers.
 ghost use Prim.Native.Nat.{_≤_};
+use catalogue_records::Form;
 use libc::STDOUT_FILENO;
 
 // Writes a blank and n.
@@ -30,13 +31,25 @@ fn vectors(coordinates: [i64; catalogue_records::NUMBERS]) {
     cli_output::newline();
 }
 
-// Writes an entry: number, d, m and place, whether it is a draft, the see word's number and place, the coordinates.
+// Writes whether a head is new.
+fn form_of(form: Form) {
+    match form {
+        Form::Old => {}
+        Form::New => {
+            io::write_all(STDOUT_FILENO, b" new");
+        }
+    }
+}
+
+// Writes an entry: number, d, m and place, whether its head is new, whether it is a draft, the see word's number and place, the coordinates.
 fn entry(e: catalogue_records::Entry) {
     io::write_all(STDOUT_FILENO, b"entry");
     field(e.number as u64);
     field(e.d as u64);
     field(e.m as u64);
     field(e.place as u64);
+    let form = e.form;
+    form_of(form);
     if e.draft {
         io::write_all(STDOUT_FILENO, b" draft");
     }
@@ -96,8 +109,8 @@ fn copied(bytes: &[u8], room: &mut [u8]) {
 
 // Lends this many bytes.
 fn lend(bytes: &[u8], n: usize) {
-    let mut room = [170u8; 35848];
-    if n <= 35848 {
+    let mut room = [170u8; 36872];
+    if n <= 36872 {
         copied(bytes, &mut room[..n]);
     }
 }
@@ -118,7 +131,7 @@ pub(crate) fn outcome(name: &[u8], bytes: &[u8]) {
     cli_output::newline();
     entries(c);
     let n = bytes.len();
-    if 0 < n && n <= 35844 {
+    if 0 < n && n <= catalogue_records::Catalogue::MOST_BYTES {
         lend(bytes, n + 4);
         lend(bytes, n);
         lend(bytes, n - 1);

@@ -1,5 +1,5 @@
 -- What a catalogue holds (document 01, "The catalogue"): entries, the limits of the form, and the outcome of reading.
-use mathlib.Core.Bool.{Bool}
+use mathlib.Core.Bool.{Bool, true, false}
 use mathlib.Core.List.{List, [], _∷_, _++_}
 use mathlib.Core.Option.{Option, none, some}
 use Prim.Native.Nat.{ℕ, _+_, _*_}
@@ -7,7 +7,39 @@ use lib.IntN.{ℤ}
 use Rattle.lattices.specs.Vector.{Vec}
 use Rattle.lattices.specs.Refusal.{Input, mostVectors, mostCoordinates}
 
--- R2.7: 256 entries, 35,844 bytes; a coordinate's load is at most 40,000
+-- R6.13: the two forms of a head: one word, or two with a longer number
+pub data Form : Type 0 where
+  old : Form
+  new : Form
+
+-- R6.13
+abbrev pub otherForm : Form → Form
+otherForm old = new
+otherForm new = old
+
+-- R6.13
+abbrev pub sameForm : Form → Form → Bool
+sameForm old old = true
+sameForm old new = false
+sameForm new old = false
+sameForm new new = true
+
+-- R6.3, R6.13: the kind of a head's first word
+abbrev pub headKind : Form → ℕ
+headKind old = 1
+headKind new = 6
+
+-- R6.3, R6.13: how many words a head has
+abbrev pub headLength : Form → ℕ
+headLength old = 1
+headLength new = 2
+
+-- R2.7, R6.3, R6.13: "Entry numbers run from 1 to 1,048,575"; in the new form "a 28-bit number"
+abbrev pub mostNumber : Form → ℕ
+mostNumber old = 1048575
+mostNumber new = 268435455
+
+-- R2.7: 256 entries, 35,844 bytes or 36,868; a coordinate's load is at most 40,000
 abbrev pub mostEntries : ℕ
 mostEntries = 256
 
@@ -16,19 +48,20 @@ abbrev pub mostNumbers : ℕ
 mostNumbers = mostVectors * mostCoordinates
 
 -- R2.7, R6.8: of the largest entries a head, the coordinates, a mark and a see word each, then an end word
-abbrev pub mostWords : ℕ
-mostWords = mostEntries * (mostNumbers + 3) + 1
+abbrev pub mostWords : Form → ℕ
+mostWords f = mostEntries * (headLength f + mostNumbers + 2) + 1
 
--- R2.7: 35,844
-abbrev pub mostBytes : ℕ
-mostBytes = mostWords * 4
+-- R2.7: 35,844 in the old form, 36,868 in the new one
+abbrev pub mostBytes : Form → ℕ
+mostBytes f = mostWords f * 4
 
 -- R6.4
 abbrev pub mostLoad : ℕ
 mostLoad = 40000
 
--- R6.3, R6.5, R6.8: a head, and the index of its word
+-- R6.3, R6.5, R6.8, R6.13: a head, and the index of its first word
 pub record Head : Type 0 where
+  pub form : Form
   pub number : ℕ
   pub d : ℕ
   pub m : ℕ

@@ -10,16 +10,12 @@ use Rattle.lattices.specs.Volume.{isDependent}
 use Rattle.integers.specs.Every.{any}
 use Rattle.lattices.specs.Refusal.{oneTo, tooLong, mostVectors, mostCoordinates}
 use Rattle.integers.specs.All.{All}
-use Rattle.catalogue_rules.specs.Catalogue.{Head, See, Entry, coordinates, mostEntries}
+use Rattle.catalogue_rules.specs.Catalogue.{Form, headLength, mostNumber, Head, See, Entry, coordinates, mostEntries}
 use Rattle.catalogue_rules.specs.Read.{isNumbered}
 
--- R2.7, R6.3: "Entry numbers run from 1 to 1,048,575."
-abbrev pub mostNumber : ℕ
-mostNumber = 1048575
-
--- R2.7, R6.3
+-- R2.7, R6.3, R6.13: a number that the form has room for
 pub record HeadFits (h : Head) : Type 0 where
-  pub number : oneTo mostNumber (h .number) ≡ true
+  pub number : oneTo (mostNumber (h .form)) (h .number) ≡ true
   pub d : oneTo mostVectors (h .d) ≡ true
   pub m : oneTo mostCoordinates (h .m) ≡ true
 
@@ -39,8 +35,14 @@ abbrev pub Distinct : List Entry → Type 0
 Distinct [] = Unit {0}
 Distinct (e ∷ es) = (any (isNumbered (e .head .number)) es ≡ false) × Distinct es
 
+-- R6.13: all heads are of one form
+pub record OneForm (es : List Entry) : Type 0 where
+  pub form : Form
+  pub heads : All (λ e. e .head .form ≡ form) es
+
 -- R6.10: what is known before the end
 pub record Entered (es : List Entry) : Type 0 where
+  pub one : OneForm es
   pub few : length es ≤ mostEntries
   pub fits : All EntryFits es
   pub distinct : Distinct es
@@ -72,9 +74,13 @@ abbrev pub pastSee : ℕ → Option See → ℕ
 pastSee i none = i
 pastSee i (some s) = suc i
 
+-- R8.9: the index after a head that is at i
+abbrev pub pastHead : ℕ → Head → ℕ
+pastHead i h = headLength (h .form) + i
+
 -- R8.9: the index after an entry's coordinates, its head being at i
-abbrev pub pastVectors : ℕ → List Vec → ℕ
-pastVectors i vs = suc i + length (coordinates vs)
+abbrev pub pastVectors : ℕ → Head → List Vec → ℕ
+pastVectors i h vs = pastHead i h + length (coordinates vs)
 
 -- R8.9
 abbrev pub pastDraft : ℕ → Bool → ℕ
@@ -83,11 +89,11 @@ pastDraft i false = i
 
 -- R8.9: the index of an entry's see word, or after the entry, its head being at i
 abbrev pub pastMark : ℕ → Entry → ℕ
-pastMark i e = pastDraft (pastVectors i (e .vectors)) (e .draft)
+pastMark i e = pastDraft (pastVectors i (e .head) (e .vectors)) (e .draft)
 
 -- R8.9
 abbrev pub headAt : ℕ → Head → Head
-headAt i h = record { number = h .number; d = h .d; m = h .m; place = i }
+headAt i h = record { form = h .form; number = h .number; d = h .d; m = h .m; place = i }
 
 -- R8.9
 abbrev pub entryAt : ℕ → Entry → Entry

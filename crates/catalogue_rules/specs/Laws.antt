@@ -10,5 +10,7 @@ pub mod EntriesAccepted
 pub mod ReadVectors
 pub mod ReadEntries
 pub mod WrittenSize
+pub mod Opening
 pub mod ReadBack
+pub mod Moving
 pub mod TextSize

@@ -6,5 +6,6 @@ pub mod Read
 pub mod Write
 pub mod Output
 pub mod Form
+pub mod Moving
 pub mod Examples
 pub mod Laws

@@ -13,13 +13,15 @@ use Rattle.lattices.specs.Volume.{isDependent}
 use Rattle.integers.specs.First.{firstGiven}
 use Rattle.integers.specs.Every.{any}
 use Rattle.lattices.specs.Refusal.{oneTo, mostVectors, mostCoordinates, mostSquare, mostSize}
-use Rattle.catalogue_rules.specs.Word.{Word, head, coordinate, see, end, draft, other, decode, wordsOf}
-use Rattle.catalogue_rules.specs.Catalogue.{Head, See, Entry, Outcome, refused, accepted, mostEntries, mostBytes, mostLoad}
+use Rattle.catalogue_rules.specs.Word.{Word, head, coordinate, see, end, draft, headNumber, headSize, other, kind, decode, wordsOf}
+use Rattle.catalogue_rules.specs.Catalogue.{Form, old, new, sameForm, headKind, Head, See, Entry, Outcome, refused, accepted, mostEntries, mostBytes, mostLoad}
 
 -- R6.8, R6.9, R9.10, R9.14: what has been read, by what may come next
 pub data State : Type 0 where
   -- a head or the end
   outside : List Entry → State
+  -- the second word of a head: the entries before, the number and where it stands
+  numbered : List Entry → (number place : ℕ) → State
   -- a coordinate: the entries before, the entry's head and whole vectors, the vector being read
   inside : List Entry → Head → List Vec → Vec → State
   -- a mark unless the entry has it, a see word, a head or the end
@@ -43,18 +45,51 @@ isNumbered n e = eqb (e .head .number) n
 abbrev pub withEntry : List Entry → Head → List Vec → Bool → Option See → List Entry
 withEntry es h vs d s = es ++ (record { head = h; vectors = vs; draft = d; see = s } ∷ [])
 
--- R8.5, R9.15, R9.1, R9.2, R9.11: row "head"
-abbrev pub headRows : List Entry → Head → List (Bool × ℕ)
-headRows es h =
-    (leb mostEntries (length es), 15)
-    ∷ (not (oneTo mostVectors (h .d)), 1)
-    ∷ (not (oneTo mostCoordinates (h .m)), 2)
-    ∷ (eqb (h .number) 0 || any (isNumbered (h .number)) es, 11)
-    ∷ []
+-- R6.13: the form of the heads before; without one there is none yet
+abbrev pub formOf : List Entry → Option Form
+formOf [] = none
+formOf (e ∷ es) = some (e .head .form)
 
--- R8.5, R9.15, R9.1, R9.2, R9.11
+-- R6.13
+abbrev pub differs : Option Form → Form → Bool
+differs none f = false
+differs (some g) f = not (sameForm g f)
+
+-- R6.13, R9.10, R9.15: "heads of both forms in one file give 10 at the first that differs"; then row "head": "15 a 257th head"
+abbrev pub formRows : Form → List Entry → List (Bool × ℕ)
+formRows f es = (differs (formOf es) f, 10) ∷ (leb mostEntries (length es), 15) ∷ []
+
+-- R9.1, R9.2
+abbrev pub sizeRows : (d m : ℕ) → List (Bool × ℕ)
+sizeRows d m = (not (oneTo mostVectors d), 1) ∷ (not (oneTo mostCoordinates m), 2) ∷ []
+
+-- R9.11: "number zero or already used"
+abbrev pub numberRows : List Entry → ℕ → List (Bool × ℕ)
+numberRows es n = (eqb n 0 || any (isNumbered n) es, 11) ∷ []
+
+-- R8.5: row "head", for a head of one word: 15, 1, 2, 11
+abbrev pub headRows : List Entry → (number d m : ℕ) → List (Bool × ℕ)
+headRows es n d m = formRows old es ++ (sizeRows d m ++ numberRows es n)
+
+-- R8.5
 abbrev pub atHead : List Entry → Head → Step
-atHead es h = checked stop (headRows es h) (next (inside es h [] []))
+atHead es h = checked stop (headRows es (h .number) (h .d) (h .m)) (next (inside es h [] []))
+
+-- R6.13, R8.5: of two words: "The new form has 15, 11 and 5 at the kind 6 word", before the other is looked at
+abbrev pub headNumberRows : List Entry → ℕ → List (Bool × ℕ)
+headNumberRows es n = formRows new es ++ numberRows es n
+
+-- R6.13, R8.5
+abbrev pub atHeadNumber : List Entry → (number place : ℕ) → Step
+atHeadNumber es n i = checked stop (headNumberRows es n) (next (numbered es n i))
+
+-- R6.13, R8.5, R9.20: "20 when a kind 7 word has any of bits 8 to 27 set, before its d and m are checked"
+abbrev pub headSizeRows : (high d m : ℕ) → List (Bool × ℕ)
+headSizeRows high d m = (not (eqb high 0), 20) ∷ sizeRows d m
+
+-- R6.13, R8.5, R9.20
+abbrev pub atHeadSize : List Entry → (high : ℕ) → Head → Step
+atHeadSize es high h = checked stop (headSizeRows high (h .d) (h .m)) (next (inside es h [] []))
 
 -- R6.4: "coordinate plus 20,000"
 abbrev pub coordinateOf : ℕ → ℤ
@@ -96,29 +131,44 @@ atEnd es count = checked stop (endRows es count) (next (closed es))
 
 -- R6.8, R6.9, R6.12, R9.10, R9.14: the word at index i; 10 for "a kind that cannot stand here", 14 for "words follow"
 unfoldable pub step : State → ℕ → Word → Step
-step (outside es) i (head number d m) = atHead es (record { number = number; d = d; m = m; place = i })
+step (outside es) i (head number d m) = atHead es (record { form = old; number = number; d = d; m = m; place = i })
 step (outside es) i (coordinate l) = stop 10
 step (outside es) i (see number) = stop 10
 step (outside es) i (end count) = atEnd es count
 step (outside es) i (draft l) = stop 10
+step (outside es) i (headNumber number) = atHeadNumber es number i
+step (outside es) i (headSize high d m) = stop 10
 step (outside es) i (other k l) = stop 10
+step (numbered es n p) i (head number d m) = stop 10
+step (numbered es n p) i (coordinate l) = stop 10
+step (numbered es n p) i (see number) = stop 10
+step (numbered es n p) i (end count) = stop 10
+step (numbered es n p) i (draft l) = stop 10
+step (numbered es n p) i (headNumber number) = stop 10
+step (numbered es n p) i (headSize high d m) = atHeadSize es high (record { form = new; number = n; d = d; m = m; place = p })
+step (numbered es n p) i (other k l) = stop 10
 step (inside es h vs v) i (head number d m) = stop 10
 step (inside es h vs v) i (coordinate l) = atCoordinate es h vs v l
 step (inside es h vs v) i (see number) = stop 10
 step (inside es h vs v) i (end count) = stop 10
 step (inside es h vs v) i (draft l) = stop 10
+step (inside es h vs v) i (headNumber number) = stop 10
+step (inside es h vs v) i (headSize high d m) = stop 10
 step (inside es h vs v) i (other k l) = stop 10
-step (after es h vs marked) i (head number d m) = atHead (withEntry es h vs marked none) (record { number = number; d = d; m = m; place = i })
+step (after es h vs marked) i (head number d m) = atHead (withEntry es h vs marked none) (record { form = old; number = number; d = d; m = m; place = i })
 step (after es h vs marked) i (coordinate l) = stop 10
 step (after es h vs marked) i (see number) = next (outside (withEntry es h vs marked (some (record { number = number; place = i }))))
 step (after es h vs marked) i (end count) = atEnd (withEntry es h vs marked none) count
 step (after es h vs marked) i (draft l) = atDraft es h vs marked l
+step (after es h vs marked) i (headNumber number) = atHeadNumber (withEntry es h vs marked none) number i
+step (after es h vs marked) i (headSize high d m) = stop 10
 step (after es h vs marked) i (other k l) = stop 10
 step (closed es) i w = stop 14
 
 -- R8.5, R8.9, R9.10: no word is left: 10 for "no word where one is due", at the number of words
 abbrev pub atLast : State → ℕ → Outcome
 atLast (outside es) i = refused 10 i
+atLast (numbered es n p) i = refused 10 i
 atLast (inside es h vs v) i = refused 10 i
 atLast (after es h vs marked) i = refused 10 i
 atLast (closed es) i = accepted es
@@ -151,10 +201,23 @@ abbrev pub afterWords : Outcome → Outcome
 afterWords (refused n p) = refused n p
 afterWords (accepted es) = afterReading es
 
+-- R6.13: the first word is that of a head in this form
+abbrev pub opensIn : Form → List ℕ → Bool
+opensIn f [] = false
+opensIn f (w ∷ words) = eqb (kind w) (headKind f)
+
+-- R9.9: the form that the first word shows: new "when the first word is of kind 6", otherwise old
+abbrev pub formShown : List ℕ → Form
+formShown words = elim (opensIn new words) [ true ↦ new | false ↦ old ]
+
 -- R8.4, R9.8, R9.9: row "whole file"
 abbrev pub fileRows : List ℕ → List (Bool × ℕ)
-fileRows bytes = (not (eqb (length bytes % 4) 0), 8) ∷ (ltb mostBytes (length bytes), 9) ∷ []
+fileRows bytes = (not (eqb (length bytes % 4) 0), 8) ∷ (ltb (mostBytes (formShown (wordsOf bytes))) (length bytes), 9) ∷ []
+
+-- R8.5, R8.6: what the words of a file give
+abbrev pub readAll : List ℕ → Outcome
+readAll bytes = afterWords (readWords (outside []) 0 (wordsOf bytes))
 
 -- R8.4 to R8.6, R8.8
 unfoldable pub read : List ℕ → Outcome
-read bytes = checked (λ n. refused n 0) (fileRows bytes) (afterWords (readWords (outside []) 0 (wordsOf bytes)))
+read bytes = checked (λ n. refused n 0) (fileRows bytes) (readAll bytes)

@@ -6,12 +6,17 @@ use Prim.Native.Nat.{ℕ}
 use lib.IntN.{ℤ, pos, natAbs, _+ℤ_}
 use lib.ListN.{length}
 use Rattle.lattices.specs.Refusal.{mostSize}
-use Rattle.catalogue_rules.specs.Word.{Word, head, coordinate, see, end, draft, encode, bytesOf}
-use Rattle.catalogue_rules.specs.Catalogue.{Head, See, Entry, coordinates}
+use Rattle.catalogue_rules.specs.Word.{Word, head, coordinate, see, end, draft, headNumber, headSize, encode, bytesOf}
+use Rattle.catalogue_rules.specs.Catalogue.{Form, old, new, Head, See, Entry, coordinates}
 
--- R6.3 to R6.5, R6.8
-abbrev pub headWord : Head → Word
-headWord h = head (h .number) (h .d) (h .m)
+-- R6.3, R6.13: a head of one word, or of two
+abbrev pub headWordsIn : Form → (number d m : ℕ) → List Word
+headWordsIn old number d m = head number d m ∷ []
+headWordsIn new number d m = headNumber number ∷ headSize 0 d m ∷ []
+
+-- R6.3, R6.13
+abbrev pub headWords : Head → List Word
+headWords h = headWordsIn (h .form) (h .number) (h .d) (h .m)
 
 -- R6.3 to R6.5, R6.8: "coordinate plus 20,000"
 abbrev pub coordinateWord : ℤ → Word
@@ -33,7 +38,7 @@ seeWords (some s) = see (s .number) ∷ []
 
 -- R6.3 to R6.5, R6.8, R6.12: the mark stands "after the coordinates and before any see word"
 abbrev pub entryWords : Entry → List Word
-entryWords e = headWord (e .head) ∷ (map coordinateWord (coordinates (e .vectors)) ++ (draftWords (e .draft) ++ seeWords (e .see)))
+entryWords e = headWords (e .head) ++ (map coordinateWord (coordinates (e .vectors)) ++ (draftWords (e .draft) ++ seeWords (e .see)))
 
 -- R6.3 to R6.5, R6.8
 abbrev pub entriesWords : List Entry → List Word

@@ -18,7 +18,7 @@ use Rattle.integers.specs.Every.{any}
 use Rattle.input_checks.specs.Any.{beyond}
 use Rattle.catalogue_rules.specs.Word.{Word, encode}
 use Rattle.catalogue_rules.specs.Catalogue.{Entry, coordinates, mostNumbers}
-use Rattle.catalogue_rules.specs.Write.{headWord, coordinateWord, draftWords, seeWords, entryWords, encodedCoordinates}
+use Rattle.catalogue_rules.specs.Write.{headWords, coordinateWord, draftWords, seeWords, entryWords, encodedCoordinates}
 use Rattle.catalogue_rules.specs.Form.{EntryFits}
 use Rattle.catalogue_rules.specs.Laws.EntriesAccepted.{all-near}
 use Rattle.catalogue_records.specs.declared.Entry as stored
@@ -54,10 +54,19 @@ encoded-more cs j h =
 
 -- its head and coordinates; its mark and its see word come after them
 abbrev pub basisWords : Entry → List Word
-basisWords e = headWord (e .head) ∷ map coordinateWord (coordinates (e .vectors))
+basisWords e = headWords (e .head) ++ map coordinateWord (coordinates (e .vectors))
+
+parts : (e : Entry) → basisWords e ++ (draftWords (e .draft) ++ seeWords (e .see)) ≡ entryWords e
+parts e = append-assoc (headWords (e .head)) (map coordinateWord (coordinates (e .vectors))) (draftWords (e .draft) ++ seeWords (e .see))
 
 pub length-parts : (e : Entry) → length (entryWords e) ≡ length (basisWords e) + length (draftWords (e .draft)) + length (seeWords (e .see))
-length-parts e = omega (arith, length-append (basisWords e) (draftWords (e .draft) ++ seeWords (e .see)), length-append (draftWords (e .draft)) (seeWords (e .see)))
+length-parts e =
+    omega (
+      arith,
+      ap length (parts e),
+      length-append (basisWords e) (draftWords (e .draft) ++ seeWords (e .see)),
+      length-append (draftWords (e .draft)) (seeWords (e .see)),
+    )
 
 pub encoded-parts : (e : Entry) → map encode (basisWords e) ++ map encode (draftWords (e .draft)) ++ map encode (seeWords (e .see)) ≡ map encode (entryWords e)
 encoded-parts e =
@@ -67,14 +76,24 @@ encoded-parts e =
     append-assoc (map encode ws) (map encode ds) (map encode ss)
     ∙ ap (λ l. map encode ws ++ l) (sym (map-append encode ds ss))
     ∙ sym (map-append encode ws (ds ++ ss))
+    ∙ ap (map encode) (parts e)
 
 -- the words as the code writes them, n being d times m
 module _ (e : stored.Entry) (fits : EntryFits (entryIn e)) (long : length (e .coordinates) ≡ mostNumbers) where
   pub near : any beyond (take (e .d * e .m) (e .coordinates)) ≡ false
   near = subst (λ l. any beyond l ≡ false) (same e fits long) (all-near (e .m) (entryIn e .vectors) (fits .vectors))
 
-  pub length-basis : length (basisWords (entryIn e)) ≡ 1 + e .d * e .m
-  length-basis = omega (arith, length-map (coordinates (entryIn e .vectors)) coordinateWord, ap length (same e fits long), cut e fits long)
+  pub length-basis : length (basisWords (entryIn e)) ≡ length (headWords (entryIn e .head)) + e .d * e .m
+  length-basis =
+      omega (
+        arith,
+        length-append (headWords (entryIn e .head)) (map coordinateWord (coordinates (entryIn e .vectors))),
+        length-map (coordinates (entryIn e .vectors)) coordinateWord,
+        ap length (same e fits long),
+        cut e fits long,
+      )
 
-  pub basis-encoded : encode (headWord (entryIn e .head)) ∷ encodedCoordinates (take (e .d * e .m) (e .coordinates)) ≡ map encode (basisWords (entryIn e))
-  basis-encoded = ap (λ l. encode (headWord (entryIn e .head)) ∷ encodedCoordinates l) (sym (same e fits long))
+  pub basis-encoded : map encode (headWords (entryIn e .head)) ++ encodedCoordinates (take (e .d * e .m) (e .coordinates)) ≡ map encode (basisWords (entryIn e))
+  basis-encoded =
+      ap (λ l. map encode (headWords (entryIn e .head)) ++ encodedCoordinates l) (sym (same e fits long))
+      ∙ sym (map-append encode (headWords (entryIn e .head)) (map coordinateWord (coordinates (entryIn e .vectors))))

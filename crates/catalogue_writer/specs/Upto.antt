@@ -15,7 +15,7 @@ use Rattle.catalogue_rules.specs.Laws.WrittenSize as sizes
 use Rattle.catalogue_records.specs.declared.Catalogue.{Catalogue}
 use Rattle.catalogue_records.specs.EntriesIn.{entryIn, entriesIn}
 use Rattle.catalogue_records.specs.Entries.{entryAt, beyond, length-entries, inside, at-place}
-use Rattle.catalogue_rules.specs.Catalogue.{mostEntries, mostWords}
+use Rattle.catalogue_rules.specs.Catalogue.{new, mostEntries, mostWords}
 
 abbrev pub upTo : Catalogue → ℕ → List Word
 upTo c k = entriesWords (take k (entriesIn c))
@@ -40,5 +40,5 @@ module _ (c : Catalogue) (long : length (c .entries) ≡ mostEntries) (few : c .
   pub up-to-all : (k : ℕ) → c .count ≤ k → upTo c k ≡ entriesWords (entriesIn c)
   up-to-all k h = ap entriesWords (take-all k (entriesIn c) (omega (arith, length-entries c long few)))
 
-  pub few-words : All EntryFits (entriesIn c) → length (entriesWords (entriesIn c)) < mostWords
-  few-words p = omega (arith, sizes.length-entries (entriesIn c) p, length-entries c long few)
+  pub few-words : All EntryFits (entriesIn c) → length (entriesWords (entriesIn c)) < mostWords new
+  few-words p = omega (arith, sizes.length-any (entriesIn c) p, length-entries c long few)

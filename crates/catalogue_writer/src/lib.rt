@@ -8,18 +8,19 @@ ghost use lib.ListN.{length};
 ghost use Rattle.integers.specs.All.{All};
 ghost use Rattle.integers.specs.Every.{any};
 ghost use Rattle.input_checks.specs.Any.{beyond};
-ghost use Rattle.catalogue_rules.specs.Word.{head, see, end, draft, encode};
+ghost use Rattle.catalogue_rules.specs.Word.{head, see, end, draft, headNumber, headSize, encode};
 ghost use Rattle.catalogue_writer.specs.Over.{overWords};
-ghost use Rattle.catalogue_rules.specs.Write.{coordinateWord, draftWords, seeWords, entryWords, entriesWords};
-ghost use Rattle.catalogue_rules.specs.Catalogue.{accepted, mostEntries};
+ghost use Rattle.catalogue_rules.specs.Write.{headWordsIn, headWords, coordinateWord, draftWords, seeWords, entryWords, entriesWords};
+ghost use Rattle.catalogue_rules.specs.Catalogue.{old, new, headLength, accepted, mostEntries};
 ghost use Rattle.catalogue_rules.specs.Output.{output};
-ghost use Rattle.catalogue_rules.specs.Form.{EntryFits, WellFormed};
+ghost use Rattle.catalogue_rules.specs.Form.{HeadFits, EntryFits, WellFormed};
 ghost use Rattle.catalogue_rules.specs.Laws.ReadEntries.{SeeFits};
-ghost use Rattle.catalogue_records.specs.EntriesIn.{entryIn, entriesIn};
+ghost use Rattle.catalogue_records.specs.EntriesIn.{formIn, entryIn, entriesIn};
 ghost use Rattle.catalogue_writer.specs.Loads.{basisWords};
 ghost use Rattle.catalogue_records.specs.Catalogues.{writtenOf};
 use catalogue_records::Catalogue;
 use catalogue_records::Entry;
+use catalogue_records::Form;
 use catalogue_records::Written;
 
 // The word at index k of the bytes, lowest byte first.
@@ -42,6 +43,23 @@ pub fn head_word(number: u32, d: usize, m: usize) -> u32
     ensures { λ r. ⌜ r ≡ encode (head number d m) ⌝ }
 {
     268435456 + number * 256 + (d * 16 + m) as u32
+}
+
+// Kind 6: a head's number in the new form.
+pub fn head_number_word(number: u32) -> u32
+    requires { ⌜ number < 2 ^ 28 ⌝ }
+    ensures { λ r. ⌜ r ≡ encode (headNumber number) ⌝ }
+{
+    1610612736 + number
+}
+
+// Kind 7: its d and m.
+pub fn head_size_word(d: usize, m: usize) -> u32
+    requires { ⌜ d < 16 ⌝ }
+    requires { ⌜ m < 16 ⌝ }
+    ensures { λ r. ⌜ r ≡ encode (headSize 0 d m) ⌝ }
+{
+    1879048192 + (d * 16 + m) as u32
 }
 
 // Kind 2: the coordinate plus 20,000.
@@ -87,6 +105,50 @@ fn put_coordinates(out: &mut [u8], k: usize, coordinates: &[i64])
     }
 }
 
+// A head of one word at index k; the index after it.
+fn put_old_head(out: &mut [u8], k: usize, number: u32, d: usize, m: usize) -> usize
+    requires { ⌜ number < 2 ^ 20 ⌝ }
+    requires { ⌜ d < 16 ⌝ }
+    requires { ⌜ m < 16 ⌝ }
+    requires { ⌜ (k + 1) * 4 ≤ length (now out) ⌝ }
+    ensures { λ r. ⌜ r ≡ k + 1 ⌝ }
+    ensures { λ _. ⌜ now (out .exit) ≡ overWords (now (out .entry)) k (map encode (headWordsIn old number d m)) ⌝ }
+{
+    let w = head_word(number, d, m);
+    put_word(out, k, w);
+    k + 1
+}
+
+// A head of two words from index k on; the index after them.
+fn put_new_head(out: &mut [u8], k: usize, number: u32, d: usize, m: usize) -> usize
+    requires { ⌜ number < 2 ^ 28 ⌝ }
+    requires { ⌜ d < 16 ⌝ }
+    requires { ⌜ m < 16 ⌝ }
+    requires { ⌜ (k + 2) * 4 ≤ length (now out) ⌝ }
+    ensures { λ r. ⌜ r ≡ k + 2 ⌝ }
+    ensures { λ _. ⌜ now (out .exit) ≡ overWords (now (out .entry)) k (map encode (headWordsIn new number d m)) ⌝ }
+{
+    let w = head_number_word(number);
+    put_word(out, k, w);
+    let s = head_size_word(d, m);
+    put_word(out, k + 1, s);
+    k + 2
+}
+
+// The head of an entry from index k on, in its form; the index after it.
+fn put_head(out: &mut [u8], k: usize, e: Entry) -> usize
+    requires { ⌜ HeadFits (entryIn e .head) ⌝ }
+    requires { ⌜ (k + length (headWords (entryIn e .head))) * 4 ≤ length (now out) ⌝ }
+    ensures { λ r. ⌜ r ≡ k + length (headWords (entryIn e .head)) ⌝ }
+    ensures { λ _. ⌜ now (out .exit) ≡ overWords (now (out .entry)) k (map encode (headWords (entryIn e .head))) ⌝ }
+{
+    let form = e.form;
+    match form {
+        Form::Old => put_old_head(out, k, e.number, e.d, e.m),
+        Form::New => put_new_head(out, k, e.number, e.d, e.m),
+    }
+}
+
 // The head and the coordinates of an entry from index k on; the index after them.
 fn put_basis(out: &mut [u8], k: usize, e: Entry) -> usize
     requires { ⌜ EntryFits (entryIn e) ⌝ }
@@ -95,11 +157,10 @@ fn put_basis(out: &mut [u8], k: usize, e: Entry) -> usize
     ensures { λ _. ⌜ now (out .exit) ≡ overWords (now (out .entry)) k (map encode (basisWords (entryIn e))) ⌝ }
 {
     let n = e.d * e.m;
-    let w = head_word(e.number, e.d, e.m);
-    put_word(out, k, w);
+    let at = put_head(out, k, e);
     let coordinates = e.coordinates;
-    put_coordinates(out, k + 1, &coordinates[..n]);
-    k + 1 + n
+    put_coordinates(out, at, &coordinates[..n]);
+    at + n
 }
 
 // The mark of an entry, if it is a draft, at index k; the index after it.
@@ -144,12 +205,23 @@ fn put_entry(out: &mut [u8], k: usize, e: Entry) -> usize
     put_see(out, s, e)
 }
 
+// How many words a head takes.
+fn head_length(form: Form) -> usize
+    ensures { λ r. ⌜ r ≡ headLength (formIn form) ⌝ }
+{
+    match form {
+        Form::Old => 1,
+        Form::New => 2,
+    }
+}
+
 // How many words an entry takes.
 fn count_entry(e: Entry) -> usize
     requires { ⌜ EntryFits (entryIn e) ⌝ }
     ensures { λ r. ⌜ r ≡ length (entryWords (entryIn e)) ⌝ }
 {
-    1 + e.d * e.m + e.draft as usize + e.sees as usize
+    let form = e.form;
+    head_length(form) + e.d * e.m + e.draft as usize + e.sees as usize
 }
 
 // How many words the entries take.

@@ -19,7 +19,7 @@ fn meaning(fd: i32, number: u64) -> bool {
             b"a coordinate of the target beyond 20000 or its squared length over 400000000",
         ),
         8 => io::write_all(fd, b"the number of bytes is not a multiple of 4"),
-        9 => io::write_all(fd, b"more than 35844 bytes"),
+        9 => io::write_all(fd, b"more than 35844 bytes, or 36868 in the new form"),
         10 => io::write_all(
             fd,
             b"a word that cannot stand here, or none where one must come",
@@ -32,6 +32,8 @@ fn meaning(fd: i32, number: u64) -> bool {
         16 => io::write_all(fd, b"the output is shorter than what is to be written"),
         17 => io::write_all(fd, b"no entry has the number"),
         18 => io::write_all(fd, b"a draft mark whose load is not 1"),
+        19 => io::write_all(fd, b"a number over 1048575 has no place in the old form"),
+        20 => io::write_all(fd, b"a size word with bits above d and m"),
         _ => io::write_all(fd, b"no such refusal"),
     }
 }
@@ -87,7 +89,7 @@ fn row(number: u64) -> bool {
 
 // Writes the table of refusals, a line each.
 pub fn table() {
-    for number in 1..19 {
+    for number in 1..21 {
         if !row(number) {
             os::fail(b"raghymtos: cannot write");
             return;

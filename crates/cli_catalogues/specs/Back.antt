@@ -3,7 +3,7 @@
 use mathlib.Core.Path.{_≡_}
 use mathlib.Core.Bool.{false}
 use mathlib.Core.List.{List, map}
-use Prim.Native.Nat.{ℕ, _≤_}
+use Prim.Native.Nat.{_≤_}
 use lib.ListN.{length}
 use Rattle.catalogue_rules.specs.Word.{encode}
 use Rattle.catalogue_rules.specs.Catalogue.{Entry}
@@ -21,4 +21,4 @@ decoded-short es w = text-fits es w
 
 pub decoded-told : (es : List Entry) → WellFormed es → (textWrong (textOf es) ≡ false) × (textWords (textOf es) ≡ map encode (catalogueWords es))
 decoded-told es w =
-    told-words (textOf es) (catalogueWords es) (decoded-short es w) (text-back es (w .entered .fits) (sees-fit es es (w .entered .fits) (w .named)))
+    told-words (textOf es) (catalogueWords es) (decoded-short es w) (text-back es (w .entered .one) (w .entered .fits) (sees-fit es es (w .entered .fits) (w .named)))

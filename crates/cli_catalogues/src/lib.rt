@@ -1,9 +1,10 @@
-// Whole catalogues from a file or standard input: folded, looked up, listed, two entries held against each other, and turned into text and
-// back. What is no answer goes to standard error, but for the listing and the separation, whose text is that of a refusal then. What is
+// Whole catalogues from a file or standard input: folded, moved to the other form, looked up, listed, two entries held against each other, and
+// turned into text and back. What is no answer goes to standard error, but for the listing and the separation, whose text is that of a refusal then. What is
 // written, no contract can say: the answers themselves are under contract in the catalogue.
 ghost use mathlib.Core.Path.{_≡_};
 ghost use Rattle.cli_catalogues.specs.Asked.{askedNumber};
 use catalogue_records::Catalogue;
+use catalogue_records::Written;
 
 mod mistakes;
 
@@ -31,6 +32,15 @@ fn write_first(bytes: &[u8], n: usize) {
     }
 }
 
+// Writes the catalogue that came into the output, or says why none did.
+fn write_catalogue(out: &[u8], w: Written) {
+    if w.refusal != 0 {
+        refused(w.refusal, w.place);
+        return;
+    }
+    write_first(out, w.length);
+}
+
 // Writes the folded catalogue.
 pub fn fold(fd: i32) {
     let mut bytes = [0u8; cli_input::MOST_KEPT];
@@ -41,11 +51,33 @@ pub fn fold(fd: i32) {
     let n = f.end;
     let mut out = [0u8; Catalogue::MOST_BYTES];
     let w = catalogue::fold(&bytes[..n], &mut out);
-    if w.refusal != 0 {
-        refused(w.refusal, w.place);
+    write_catalogue(&out, w);
+}
+
+// Writes a catalogue of the old form in the new one.
+pub fn new_form(fd: i32) {
+    let mut bytes = [0u8; cli_input::MOST_KEPT];
+    let f = cli_input::read_catalogue(fd, &mut bytes);
+    if !f.is_open {
         return;
     }
-    write_first(&out, w.length);
+    let n = f.end;
+    let mut out = [0u8; Catalogue::MOST_BYTES];
+    let w = catalogue::new_form(&bytes[..n], &mut out);
+    write_catalogue(&out, w);
+}
+
+// Writes a catalogue of the new form in the old one.
+pub fn old_form(fd: i32) {
+    let mut bytes = [0u8; cli_input::MOST_KEPT];
+    let f = cli_input::read_catalogue(fd, &mut bytes);
+    if !f.is_open {
+        return;
+    }
+    let n = f.end;
+    let mut out = [0u8; Catalogue::MOST_BYTES];
+    let w = catalogue::old_form(&bytes[..n], &mut out);
+    write_catalogue(&out, w);
 }
 
 // A number as it is asked for. What is no entry's number becomes 0, which is none either.
@@ -53,7 +85,7 @@ fn asked(n: i64) -> u32
     ensures { λ r. ⌜ r ≡ askedNumber n ⌝ }
 {
     let k = text_parts::first_part::count(n);
-    if 1048575 < k {
+    if k > Catalogue::MOST_NUMBER as usize {
         return 0;
     }
     k as u32

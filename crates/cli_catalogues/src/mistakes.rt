@@ -1,6 +1,7 @@
 // What is wrong with a text, line by line.
 ghost use Prim.Native.Nat.{_≤_};
 ghost use lib.ListN.{length};
+use catalogue_records::Form;
 use text_lines::Mistake;
 
 // Says what a mistake is.
@@ -14,7 +15,7 @@ fn report(line: u64, mistake: Mistake) {
         Mistake::NotThree => cli_answers::refusals::say_error(line, b"not number, d and m"),
         Mistake::NoHead => cli_answers::refusals::say_error(
             line,
-            b"number, d or m that no head holds",
+            b"number, d or m that no head of this form holds",
         ),
         Mistake::NotAll => cli_answers::refusals::say_error(line, b"not d times m coordinates"),
         Mistake::Beyond => cli_answers::refusals::say_error(line, b"a coordinate beyond 20000"),
@@ -26,23 +27,40 @@ fn report(line: u64, mistake: Mistake) {
 }
 
 // Says what is wrong with a line.
-fn check(s: &[u8], line: u64) {
-    let l = text_lines::read_line(s);
+fn check(form: Form, s: &[u8], line: u64) {
+    if text_lines::is_new(s) {
+        cli_answers::refusals::say_error(line, b"new on another line than the first");
+        return;
+    }
+    let l = text_lines::read_line(form, s);
     let mistake = l.mistake;
     report(line, mistake);
+}
+
+// Says what is wrong with each of the lines, the first of which has this number.
+fn report_lines(form: Form, text: &[u8], first: u64)
+    requires { ⌜ length (now text) ≤ 131072 ⌝ }
+    requires { ⌜ first ≤ 2 ⌝ }
+{
+    let mut from = 0usize;
+    let mut line = first;
+    while from < text.len() {
+        let n = text_lines::length_before(&text[from..], b'\n');
+        let end = from + n;
+        check(form, &text[from..end], line);
+        from = end + 1;
+        line += 1;
+    }
 }
 
 // Says what is wrong with each line of a text.
 pub(crate) fn report_all(text: &[u8])
     requires { ⌜ length (now text) ≤ 131072 ⌝ }
 {
-    let mut from = 0usize;
-    let mut line = 1u64;
-    while from < text.len() {
-        let n = text_lines::length_before(&text[from..], b'\n');
-        let end = from + n;
-        check(&text[from..end], line);
-        from = end + 1;
-        line += 1;
+    if !text_encoding::opens_new(text) {
+        report_lines(Form::Old, text, 1);
+        return;
     }
+    let at = text_encoding::second_line(text);
+    report_lines(Form::New, &text[at..], 2);
 }

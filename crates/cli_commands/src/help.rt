@@ -3,14 +3,14 @@ use libc::STDERR_FILENO;
 
 // Writes the program's name and version.
 pub(crate) fn version() {
-    cli_output::write(b"raghymtos 0.7.0\n");
+    cli_output::write(b"raghymtos 0.8.0\n");
 }
 
 // Says what may be asked for, on standard error.
 pub(crate) fn say_usage() {
     io::write_all(
         STDERR_FILENO,
-        b"usage: raghymtos reduce [-n] | nearest [-n] [-r] | member [-n] | fold [FILE] | lookup NUMBER [FILE] | separate FIRST SECOND [FILE] | list [FILE] | encode [FILE] | decode [FILE] | refusals | help [COMMAND] | --version\n",
+        b"usage: raghymtos reduce [-n] | nearest [-n] [-r] | member [-n] | fold [FILE] | lookup NUMBER [FILE] | separate FIRST SECOND [FILE] | list [FILE] | encode [FILE] | decode [FILE] | new-form [FILE] | old-form [FILE] | refusals | help [COMMAND] | --version\n",
     );
 }
 
@@ -105,7 +105,23 @@ fn usage() {
     );
     go = line(
         go,
+        b"                      the first line is new where the catalogue is in the new form",
+    );
+    go = line(
+        go,
         b"encode [FILE]         reads that text and writes the catalogue",
+    );
+    go = line(
+        go,
+        b"new-form [FILE]       reads a catalogue in the old form and writes it in the new one, whose numbers go up to 268435455",
+    );
+    go = line(
+        go,
+        b"old-form [FILE]       reads a catalogue in the new form and writes it in the old one, whose numbers go up to 1048575",
+    );
+    go = line(
+        go,
+        b"                      the other commands take both forms, and fold writes the one that it read",
     );
     go = line(
         go,
@@ -166,6 +182,25 @@ fn catalogue_example(command: &[u8]) -> bool {
             b"$ printf '7 2 2 ; 1 0 4 1\\n9 2 2 ; 2 0 0 3 ; draft ; 7\\n' | raghymtos encode > two.catalogue",
         );
         go = line(go, b"$ raghymtos decode two.catalogue");
+        go = line(go, b"7 2 2 ; 1 0 4 1");
+        line(go, b"9 2 2 ; 2 0 0 3 ; draft ; 7");
+        return true;
+    }
+    if check::same(command, b"new-form") {
+        let mut go = line(
+            true,
+            b"$ raghymtos new-form two.catalogue | raghymtos decode",
+        );
+        go = line(go, b"new");
+        go = line(go, b"7 2 2 ; 1 0 4 1");
+        line(go, b"9 2 2 ; 2 0 0 3 ; draft ; 7");
+        return true;
+    }
+    if check::same(command, b"old-form") {
+        let mut go = line(
+            true,
+            b"$ raghymtos new-form two.catalogue | raghymtos old-form | raghymtos decode",
+        );
         go = line(go, b"7 2 2 ; 1 0 4 1");
         line(go, b"9 2 2 ; 2 0 0 3 ; draft ; 7");
         return true;

@@ -102,6 +102,14 @@ fn catalogue(word: &[u8], first: &[u8], second: &[u8], fd: i32) -> bool {
         cli_catalogues::decode(fd);
         return true;
     }
+    if check::same(word, b"new-form") {
+        cli_catalogues::new_form(fd);
+        return true;
+    }
+    if check::same(word, b"old-form") {
+        cli_catalogues::old_form(fd);
+        return true;
+    }
     false
 }
 
@@ -112,6 +120,8 @@ fn is_catalogue(word: &[u8]) -> bool {
         || check::same(word, b"list")
         || check::same(word, b"encode")
         || check::same(word, b"decode")
+        || check::same(word, b"new-form")
+        || check::same(word, b"old-form")
 }
 
 // The same from the file that is named, or from standard input where none is.

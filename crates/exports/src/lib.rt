@@ -7,7 +7,9 @@ ghost use lib.ListN.{length};
 ghost use Rattle.lattices.specs.Answer.{reductionOf, nearestOf, membershipOf};
 ghost use Rattle.solutions.specs.Solution.{TenthsFor};
 ghost use Rattle.catalogue_rules.specs.Read.{read};
+ghost use Rattle.catalogue_rules.specs.Catalogue.{old, new};
 ghost use Rattle.catalogue_rules.specs.Output.{output};
+ghost use Rattle.catalogue_rules.specs.Moving.{moveOf};
 ghost use Rattle.fold_rules.specs.Services.{foldOf, lookupOf, listOf};
 ghost use Rattle.separation_rules.specs.Separation.{separateOf};
 ghost use Rattle.lent_numbers.specs.Layout.{reductionCount, nearestCount, layout, layoutNearest, tenthsIn, layoutMembership, layoutOutput, layoutLookup, layoutSeparation, written, beside};
@@ -63,6 +65,28 @@ pub extern "C" fn raghymtos_write_out(bytes: &[u8], out: &mut [u8], answer: &mut
     ensures { λ _. ⌜ now (out .exit) ≡ beside (now (answer .entry)) 3 (now (out .entry)) (output (read (now (bytes .entry))) (now (out .entry)) .lent) ⌝ }
 {
     lent_catalogue::write_out(bytes, out, answer)
+}
+
+// A catalogue of the old form, written in the new form to `out`. The answer is written to the first 3 numbers of `answer`; where that is
+// shorter, both stay as they are.
+#[no_mangle]
+pub extern "C" fn raghymtos_new_form(bytes: &[u8], out: &mut [u8], answer: &mut [i64]) -> bool
+    ensures { λ r. ⌜ r ≡ leb 3 (length (now (answer .entry))) ⌝ }
+    ensures { λ _. ⌜ now (answer .exit) ≡ written (now (answer .entry)) 3 (layoutOutput (moveOf new (now (bytes .entry)) (now (out .entry)))) ⌝ }
+    ensures { λ _. ⌜ now (out .exit) ≡ beside (now (answer .entry)) 3 (now (out .entry)) (moveOf new (now (bytes .entry)) (now (out .entry)) .lent) ⌝ }
+{
+    lent_moves::new_form(bytes, out, answer)
+}
+
+// A catalogue of the new form, written in the old form to `out`. The answer is written to the first 3 numbers of `answer`; where that is
+// shorter, both stay as they are.
+#[no_mangle]
+pub extern "C" fn raghymtos_old_form(bytes: &[u8], out: &mut [u8], answer: &mut [i64]) -> bool
+    ensures { λ r. ⌜ r ≡ leb 3 (length (now (answer .entry))) ⌝ }
+    ensures { λ _. ⌜ now (answer .exit) ≡ written (now (answer .entry)) 3 (layoutOutput (moveOf old (now (bytes .entry)) (now (out .entry)))) ⌝ }
+    ensures { λ _. ⌜ now (out .exit) ≡ beside (now (answer .entry)) 3 (now (out .entry)) (moveOf old (now (bytes .entry)) (now (out .entry)) .lent) ⌝ }
+{
+    lent_moves::old_form(bytes, out, answer)
 }
 
 // Writes the folded catalogue to `out`. The answer is written to the first 3 numbers of `answer`; where that is shorter, both stay as

@@ -1,12 +1,14 @@
 // Drafts: which entry stands, and which see word it carries. Of each catalogue what folding writes, whether folding that again and writing out
-// unfolded leave what they were given, the lookups of 1 to 5, and the listing.
+// unfolded leave what they were given, the lookups of 1 to 5, and the
+// listing, then the same of it in the new form.
 use super::folded;
+use super::forms;
 use super::found;
 use super::listed;
 use libc::STDOUT_FILENO;
 
 // Writes a name, and whether the first n bytes of an output are these.
-fn compared(name: &[u8], bytes: &[u8], out: &[u8], n: usize) {
+pub(crate) fn compared(name: &[u8], bytes: &[u8], out: &[u8], n: usize) {
     io::write_all(STDOUT_FILENO, name);
     if n <= out.len() {
         if check::same(bytes, &out[..n]) {
@@ -46,7 +48,7 @@ fn written_out(bytes: &[u8]) {
 }
 
 // The lookups of 1 to 5, of which 17 says that there is none.
-fn all_found(bytes: &[u8]) {
+pub(crate) fn all_found(bytes: &[u8]) {
     found(bytes, 1);
     found(bytes, 2);
     found(bytes, 3);
@@ -63,6 +65,7 @@ fn told(name: &[u8], words: &[u32]) {
     written_out(&bytes[..n]);
     all_found(&bytes[..n]);
     listed(&bytes[..n]);
+    forms::renewed(words, &bytes[..n]);
 }
 
 // Entries of one lattice: the first that is no draft stands, or the first of all.

@@ -2,6 +2,7 @@
 use libc::STDOUT_FILENO;
 
 mod drafts;
+mod forms;
 
 // Writes a blank and n.
 fn field(n: u64) {
@@ -191,6 +192,7 @@ fn many() {
     folded(b"256 entries", &bytes[..k]);
     found(&bytes[..k], 256);
     listed(&bytes[..k]);
+    forms::renewed(&words[..n], &bytes[..k]);
 }
 
 // Two bases of A4 in five coordinates and one of its double, two bases of four roots of E8 in eight, and A4 with three zeros behind, which is of
@@ -315,4 +317,7 @@ fn main() {
     drafts::see_words();
     drafts::two_vectors();
     drafts::refused();
+    forms::in_full();
+    forms::long_numbers();
+    forms::refused();
 }

@@ -1,4 +1,4 @@
--- "A catalogue in full" of document 01, folded, looked up and listed; drafts; the sole end word; and what is refused in the call alone.
+-- "A catalogue in full" of document 01, folded, looked up and listed, in both forms; drafts; the sole end word; and what is refused in the call alone.
 use mathlib.Core.Path.{_≡_, refl}
 use mathlib.Core.List.{List, [], _∷_, _++_, map}
 use Prim.Native.Nat.{ℕ}
@@ -12,6 +12,8 @@ use Rattle.catalogue_rules.specs.Word.{decode, encode, bytesOf}
 use Rattle.catalogue_rules.specs.Read.{step, readWords, read}
 use Rattle.catalogue_rules.specs.Write.{write}
 use Rattle.catalogue_rules.specs.Output.{Output, untouched, filledWith}
+use Rattle.catalogue_rules.specs.Catalogue.{new}
+use Rattle.catalogue_rules.specs.Moving.{moveOf}
 use Rattle.catalogue_rules.specs.Examples.{full}
 use Rattle.fold_rules.specs.Fold.{sameLattice, firstBy, standingBy, folded}
 use Rattle.fold_rules.specs.Services.{Lookup, nowhere, foldOf, lookupOf}
@@ -22,6 +24,20 @@ abbrev pub fullFolded : List ℕ
 fullFolded =
     0x10000722 ∷ 0x20004E21 ∷ 0x20004E20 ∷ 0x20004E20 ∷ 0x20004E21 ∷ 0x30000009
     ∷ 0x10000922 ∷ 0x20004E22 ∷ 0x20004E20 ∷ 0x20004E20 ∷ 0x20004E23 ∷ 0x30000007
+    ∷ 0x40000002 ∷ []
+
+-- the same in the new form, and its fold
+abbrev pub fullNew : List ℕ
+fullNew =
+    0x60000007 ∷ 0x70000022 ∷ 0x20004E21 ∷ 0x20004E20 ∷ 0x20004E24 ∷ 0x20004E21
+    ∷ 0x60000009 ∷ 0x70000022 ∷ 0x20004E22 ∷ 0x20004E20 ∷ 0x20004E20 ∷ 0x20004E23 ∷ 0x3000000C
+    ∷ 0x6000000C ∷ 0x70000022 ∷ 0x20004E20 ∷ 0x20004E21 ∷ 0x20004E21 ∷ 0x20004E20 ∷ 0x30000009
+    ∷ 0x40000003 ∷ []
+
+abbrev pub fullNewFolded : List ℕ
+fullNewFolded =
+    0x60000007 ∷ 0x70000022 ∷ 0x20004E21 ∷ 0x20004E20 ∷ 0x20004E20 ∷ 0x20004E21 ∷ 0x30000009
+    ∷ 0x60000009 ∷ 0x70000022 ∷ 0x20004E22 ∷ 0x20004E20 ∷ 0x20004E20 ∷ 0x20004E23 ∷ 0x30000007
     ∷ 0x40000002 ∷ []
 
 -- "3 2", "7 7 0 1", "v 1 0", "v 0 1", "9 9 7 1", "v 2 0", "v 0 3", "12 7 9 1"
@@ -183,6 +199,8 @@ examples =
     ∷ gives full 52 fullFolded
     ∷ refuses full 51 16 0
     ∷ gives fullFolded 52 fullFolded
+    ∷ gives fullNew 60 fullNewFolded
+    ∷ refuses fullNew 59 16 0
     ∷ gives circle 100 circleFolded
     ∷ gives story 64 storyFolded
     ∷ gives wordBack 64 wordBackFolded
@@ -214,7 +232,8 @@ pub wide-folds : map (λ x. foldOf (x .file) (x .lent)) wideExamples ≡ map (λ
 unfolding dot comb _⊕_ _⊙_ squaredVolume isDependent leastBy nearestBy insertBy orderBy credited greedyBy isMember decode encode step readWords read write sameLattice firstBy standingBy folded foldOf
 wide-folds = refl
 
-pub lookups-hold : map (lookupOf (bytesOf full)) (7 ∷ 9 ∷ 12 ∷ 8 ∷ []) ++ (lookupOf [] 7 ∷ []) ≡ finds 7 ∷ finds 9 ∷ finds 7 ∷ nowhere 17 0 ∷ nowhere 10 0 ∷ []
+pub lookups-hold : map (lookupOf (bytesOf full)) (7 ∷ 9 ∷ 12 ∷ 8 ∷ []) ++ (lookupOf (bytesOf fullNew) 12 ∷ lookupOf [] 7 ∷ [])
+    ≡ finds 7 ∷ finds 9 ∷ finds 7 ∷ nowhere 17 0 ∷ finds 7 ∷ nowhere 10 0 ∷ []
 unfolding dot comb _⊕_ _⊙_ squaredVolume isDependent leastBy nearestBy insertBy orderBy credited greedyBy isMember decode encode step readWords read sameLattice firstBy standingBy lookupOf
 lookups-hold = refl
 
@@ -223,6 +242,15 @@ pub draft-lookups : map (lookupOf (bytesOf draftFirst)) (1 ∷ 2 ∷ 3 ∷ []) +
 unfolding dot comb _⊕_ _⊙_ squaredVolume isDependent leastBy nearestBy insertBy orderBy credited greedyBy isMember decode encode step readWords read sameLattice firstBy standingBy lookupOf
 draft-lookups = refl
 
-pub listings-hold : map listingOf (bytesOf full ∷ [] ∷ []) ≡ fullListing ∷ refusedListing ∷ []
+pub listings-hold : map listingOf (bytesOf full ∷ bytesOf fullNew ∷ [] ∷ []) ≡ fullListing ∷ fullListing ∷ refusedListing ∷ []
 unfolding dot comb _⊕_ _⊙_ squaredVolume isDependent leastBy nearestBy insertBy orderBy credited greedyBy isMember decode encode step readWords read sameLattice firstBy standingBy listingOf
 listings-hold = refl
+
+-- the fold of the moved file, and the moved fold
+pub fold-of-moved : moveOf new (bytesOf full) (replicate 84 0) .lent ≡ bytesOf fullNew
+unfolding dot squaredVolume isDependent decode encode step readWords write moveOf
+fold-of-moved = refl
+
+pub moved-fold : moveOf new (bytesOf fullFolded) (replicate 60 0) .lent ≡ bytesOf fullNewFolded
+unfolding dot squaredVolume isDependent decode encode step readWords write moveOf
+moved-fold = refl

@@ -11,4 +11,5 @@ pub mod Again
 pub mod Deciding
 pub mod Adding
 pub mod Searching
+pub mod Alike
 pub mod ListingSize

@@ -6,4 +6,5 @@ pub mod Listing
 pub mod Meaning
 pub mod Examples
 pub mod Demand
+pub mod Moved
 pub mod Laws

@@ -2,19 +2,20 @@
 use mathlib.Core.Path.{_≡_}
 use mathlib.Core.Logic.{_≢_, _↔_}
 use mathlib.Core.Bool.{true, false}
-use mathlib.Core.List.{List, [], _∷_, _++_}
+use mathlib.Core.List.{List, [], _∷_, _++_, map}
 use mathlib.Core.Option.{some}
 use Prim.Native.Nat.{ℕ, _≤_, _<_}
 use lib.ListN.{length, getD}
 use lib.Signed.{_≤ℤ_}
 use Rattle.integers.specs.All.{All, Some}
 use Rattle.lattices.specs.Vector.{Vec, N, In, Independent}
-use Rattle.catalogue_rules.specs.Catalogue.{See, Entry, accepted}
+use Rattle.catalogue_rules.specs.Catalogue.{Form, otherForm, See, Entry, accepted}
 use Rattle.catalogue_rules.specs.Read.{read}
 use Rattle.catalogue_rules.specs.Write.{write}
 use Rattle.catalogue_rules.specs.Output.{untouched, filledWith}
+use Rattle.catalogue_rules.specs.Moving.{toForm, moveOf, bare}
 use Rattle.fold_rules.specs.Fold.{folded}
-use Rattle.fold_rules.specs.Services.{foldOf, nowhere, lookupOf}
+use Rattle.fold_rules.specs.Services.{foldOf, nowhere, lookupOf, listOf}
 
 -- ---- entries of a file
 
@@ -85,6 +86,7 @@ pub record Sees (g : Entry) (n : ℕ) : Type 0 where
 
 -- R12.3: g is what is printed for the entry e of the file
 pub record Prints (es : List Entry) (e g : Entry) : Type 0 where
+  pub form : g .head .form ≡ e .head .form
   pub number : g .head .number ≡ e .head .number
   pub d : g .head .d ≡ e .head .d
   pub count : length (g .vectors) ≡ e .head .d
@@ -139,3 +141,22 @@ pub record LooksUp (file : List ℕ) (es : List Entry) : Type 0 where
   pub entries : All (λ e. Finds file es (e .head .number) e) es
   pub sees : All (λ e. (n : ℕ) → Sees e n → Some (λ f. (f .head .number ≡ n) × Finds file es n f) es) es
   pub others : (n : ℕ) → All (λ e. e .head .number ≢ n) es → lookupOf file n ≡ nowhere 17 0
+
+-- ---- the move of an accepted file with entries es to the form f
+-- R12.3, R18
+pub record MovesTo (f : Form) (file : List ℕ) (es : List Entry) : Type 0 where
+  -- all heads were of the other form; they are of this one now, and nothing else is changed but where words stand
+  pub before : All (λ e. e .head .form ≡ otherForm f) es
+  pub after : All (λ e. e .head .form ≡ f) (toForm f es)
+  pub kept : map bare (toForm f es) ≡ map bare es
+  -- an output that is long enough receives the moved catalogue and keeps the rest; a shorter one is refused and stays as it was
+  pub written : (out : List ℕ) → length (write (toForm f es)) ≤ length out → moveOf f file out ≡ filledWith (write (toForm f es)) out
+  pub short : (out : List ℕ) → length out < length (write (toForm f es)) → moveOf f file out ≡ untouched 16 0 out
+  -- which is an accepted catalogue
+  pub readable : read (write (toForm f es)) ≡ accepted (toForm f es)
+  -- and moves back to the same bytes
+  pub back : (out : List ℕ) → length file ≤ length out → moveOf (otherForm f) (write (toForm f es)) out ≡ filledWith file out
+  -- its fold is the moved fold; its lookups and its listing are those of the file
+  pub folds : (out : List ℕ) → foldOf (write (toForm f es)) out ≡ moveOf f (write (folded es)) out
+  pub lookups : (n : ℕ) → lookupOf (write (toForm f es)) n ≡ lookupOf file n
+  pub lists : (out : List ℕ) → listOf (write (toForm f es)) out ≡ listOf file out

@@ -1,7 +1,7 @@
 -- The numbers in an answer about a catalogue are small, so they fit signed numbers; and the output lent beside the answer.
 use mathlib.Core.Path.{_≡_, refl, sym, ap, _∙_}
 use mathlib.Core.Bool.{Bool, true, false, cond}
-use mathlib.Core.List.{List}
+use mathlib.Core.List.{List, map}
 use mathlib.Core.Option.{Option, none, some}
 use Prim.Native.Nat.{ℕ, _≤_, _<_}
 use native.Mathlib.Omega.{arith}
@@ -9,12 +9,16 @@ use lib.Dec.{ltb}
 use lib.IntN.{ℤ}
 use lib.ListN.{length}
 use borrow.Author.Tests.{le-leb, lt-leb}
+use Rattle.integers.specs.First.{firstGiven}
 use Rattle.catalogue_rules.specs.Laws.TextSize.{mostText}
-use Rattle.catalogue_rules.specs.Catalogue.{mostWords, Entry, Outcome, refused, accepted}
+use Rattle.catalogue_rules.specs.Catalogue.{Form, new, mostWords, Entry, Outcome, refused, accepted}
 use Rattle.catalogue_rules.specs.Read.{read}
 use Rattle.catalogue_rules.specs.Write.{write}
 use Rattle.catalogue_rules.specs.Laws.WellFormed.{well-formed}
 use Rattle.catalogue_rules.specs.Laws.WrittenSize.{length-written}
+use Rattle.catalogue_rules.specs.Moving.{entryToForm, toForm, readToMove, overAt, moved, moveOf}
+use Rattle.catalogue_rules.specs.Laws.Opening.{bytes-room}
+use Rattle.catalogue_rules.specs.Laws.Moving.{to-form-written, form-formed, numbers-fit, read-first}
 use Rattle.catalogue_rules.specs.Output.{Output, untouched, filledWith, outputBy, output}
 use Rattle.fold_rules.specs.Fold.{closedList, lookup}
 use Rattle.fold_rules.specs.Services.{Lookup, foldedOutcome, foldOf, lookedUp, lookedIn, lookupOf, listingText, listOf}
@@ -23,40 +27,58 @@ use Rattle.fold_rules.specs.Laws.ListingSize.{listing-size}
 use Rattle.separation_rules.specs.Separation.{same, differentM, differentD, firstOutside, secondOutside, Separated, refusedAt, told, withNumber, separatedBy, separatedIn, separateOf}
 use Rattle.lent_numbers.specs.Layout.{beside, layoutSeparation}
 use Rattle.lent_numbers.specs.Small.{Small}
-use Rattle.lent_catalogue.specs.Places.{mostRefusal, OutcomeLow, read-low}
+use Rattle.lent_catalogue.specs.Places.{mostRefusal, OutcomeLow, RefusedLow, moved-low, read-low, move-low}
 
 -- ---- writing
 
 -- a refusal with its place, or entries of which f makes no more than `mostText` bytes
 abbrev Told : (List Entry → List ℕ) → Outcome → Type 0
-Told f (refused n p) = (n ≤ mostRefusal) × (p ≤ mostWords)
+Told f (refused n p) = (n ≤ mostRefusal) × (p ≤ mostWords new)
 Told f (accepted es) = length (f es) ≤ mostText
 
 told-read : (bytes : List ℕ) → Told write (read bytes)
 unfolding write
 told-read bytes = go (read bytes) refl (read-low bytes)
   where
-    go : (o : Outcome) → read bytes ≡ o → OutcomeLow mostWords o → Told write o
+    go : (o : Outcome) → read bytes ≡ o → OutcomeLow (mostWords new) o → Told write o
     go (refused n p) e q = q
-    go (accepted es) e q = let w = well-formed bytes es e .entered in omega (arith, length-written es (w .few) (w .fits))
+    go (accepted es) e q = let w = well-formed bytes es e .entered in omega (arith, length-written (w .one .form) es (w .few) (w .one .heads) (w .fits), bytes-room (w .one .form))
+
+told-move : (f : Form) (bytes : List ℕ) → Told write (moved f (readToMove f bytes))
+unfolding write
+told-move f bytes = go (readToMove f bytes) refl (moved-low (mostWords new) f (readToMove f bytes) (move-low f bytes))
+  where
+    size : (es : List Entry) → readToMove f bytes ≡ accepted es → firstGiven (overAt f) es ≡ none → length (write (toForm f es)) ≤ mostText
+    size es e h =
+        let w = form-formed f es (well-formed bytes es (read-first f bytes es e)) (numbers-fit f es h) .entered in
+        omega (arith, ap length (to-form-written f es), length-written (w .one .form) (map (entryToForm f) es) (w .few) (w .one .heads) (w .fits), bytes-room (w .one .form))
+
+    fits : (es : List Entry) (o : Option ℕ) → readToMove f bytes ≡ accepted es → firstGiven (overAt f) es ≡ o → RefusedLow (mostWords new) (elim o [ some p ↦ refused 19 p | none ↦ accepted (toForm f es) ])
+        → Told write (elim o [ some p ↦ refused 19 p | none ↦ accepted (toForm f es) ])
+    fits es (some p) e h q = q
+    fits es none e h q = size es e h
+
+    go : (o : Outcome) → readToMove f bytes ≡ o → RefusedLow (mostWords new) (moved f o) → Told write (moved f o)
+    go (refused n p) e q = q
+    go (accepted es) e q = fits es (firstGiven (overAt f) es) e refl q
 
 told-fold : (bytes : List ℕ) → Told write (foldedOutcome (read bytes))
 told-fold bytes = go (read bytes) refl (read-low bytes)
   where
-    go : (o : Outcome) → read bytes ≡ o → OutcomeLow mostWords o → Told write (foldedOutcome o)
+    go : (o : Outcome) → read bytes ≡ o → OutcomeLow (mostWords new) o → Told write (foldedOutcome o)
     go (refused n p) e q = q
     go (accepted es) e q = omega (arith, folded-size es (well-formed bytes es e))
 
 told-list : (bytes : List ℕ) → Told listingText (read bytes)
 told-list bytes = go (read bytes) refl (read-low bytes)
   where
-    go : (o : Outcome) → read bytes ≡ o → OutcomeLow mostWords o → Told listingText o
+    go : (o : Outcome) → read bytes ≡ o → OutcomeLow (mostWords new) o → Told listingText o
     go (refused n p) e q = q
     go (accepted es) e q = listing-size bytes es e
 
 pub record Few (o : Output) : Type 0 where
   pub refusal : o .refusal ≤ mostRefusal
-  pub place : o .place ≤ mostWords
+  pub place : o .place ≤ mostWords new
   pub written : o .written ≤ mostText
 
 output-few : (f : List Entry → List ℕ) (o : Outcome) (out : List ℕ) → Told f o → Few (outputBy f o out)
@@ -70,6 +92,10 @@ output-few f (accepted es) out t = go (ltb (length out) (length (f es)))
 pub write-few : (bytes out : List ℕ) → Few (output (read bytes) out)
 write-few bytes out = output-few write (read bytes) out (told-read bytes)
 
+pub move-few : (f : Form) (bytes out : List ℕ) → Few (moveOf f bytes out)
+unfolding moveOf
+move-few f bytes out = output-few write (moved f (readToMove f bytes)) out (told-move f bytes)
+
 pub fold-few : (bytes out : List ℕ) → Few (foldOf bytes out)
 unfolding foldOf
 fold-few bytes out = output-few write (foldedOutcome (read bytes)) out (told-fold bytes)
@@ -81,13 +107,13 @@ list-few bytes out = output-few listingText (read bytes) out (told-list bytes)
 -- ---- lookup
 
 abbrev FewFound : Lookup → Type 0
-FewFound l = (l .refusal ≤ mostRefusal) × (l .place ≤ mostWords)
+FewFound l = (l .refusal ≤ mostRefusal) × (l .place ≤ mostWords new)
 
 looked-few : (o : Option ℕ) → FewFound (lookedUp o)
 looked-few none = (omega arith, omega arith)
 looked-few (some n) = (omega arith, omega arith)
 
-in-few : (o : Outcome) (number : ℕ) → OutcomeLow mostWords o → FewFound (lookedIn o number)
+in-few : (o : Outcome) (number : ℕ) → OutcomeLow (mostWords new) o → FewFound (lookedIn o number)
 in-few (refused n p) number q = q
 in-few (accepted es) number q = looked-few (lookup (closedList es) number)
 
@@ -102,7 +128,7 @@ both-small none second = (omega arith, omega arith)
 both-small (some e) none = (omega arith, omega arith)
 both-small (some e) (some f) = tt
 
-separated-small : (o : Outcome) (first second : ℕ) → OutcomeLow mostWords o → Small (separatedIn o first second)
+separated-small : (o : Outcome) (first second : ℕ) → OutcomeLow (mostWords new) o → Small (separatedIn o first second)
 separated-small (refused n p) first second q = (omega (arith, q .0), omega (arith, q .1))
 separated-small (accepted es) first second q = both-small (withNumber first es) (withNumber second es)
 

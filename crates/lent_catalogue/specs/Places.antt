@@ -1,10 +1,10 @@
--- A refusal has a number up to 18, and a place up to the number of words that a catalogue can have.
+-- A refusal has a number up to 20, and a place up to the number of words that a catalogue can have.
 use mathlib.Core.Bool.{Bool, true, false}
 use mathlib.Core.List.{List, [], _∷_, _++_}
 use mathlib.Core.Option.{Option, none, some}
 use Prim.Native.Nat.{ℕ, suc, _+_, _≤_}
 use native.Mathlib.Omega.{arith}
-use lib.Dec.{eqb}
+use lib.Dec.{eqb, ltb}
 use lib.ListN.{length}
 use borrow.Author.Tests.{ltb-false}
 use Rattle.integers.specs.All.{All}
@@ -14,14 +14,16 @@ use Rattle.integers.specs.FirstLaws.{given-has}
 use Rattle.lattices.specs.Vector.{Vec}
 use Rattle.lattices.specs.Volume.{isDependent}
 use Rattle.integers.specs.Every.{any}
-use Rattle.catalogue_rules.specs.Word.{Word, head, coordinate, see, end, draft, other, decode, wordsOf}
+use Rattle.catalogue_rules.specs.Word.{Word, head, coordinate, see, end, draft, headNumber, headSize, other, decode, wordsOf}
 use Rattle.catalogue_rules.specs.Laws.Word.{length-words}
-use Rattle.catalogue_rules.specs.Catalogue.{mostWords, mostBytes, Head, See, Entry, Outcome, refused, accepted}
-use Rattle.catalogue_rules.specs.Read.{State, outside, inside, after, closed, Step, next, stop, isNumbered, withEntry, headRows, atHead, coordinateOf, withCoordinate, coordinateRows, atCoordinate, draftRows, atDraft, endRows, atEnd, step, atLast, readWords, dependentAt, lostAt, afterWords, fileRows, read}
+use Rattle.catalogue_rules.specs.Catalogue.{Form, old, new, mostNumber, mostWords, mostBytes, Head, See, Entry, Outcome, refused, accepted}
+use Rattle.catalogue_rules.specs.Read.{State, outside, numbered, inside, after, closed, Step, next, stop, isNumbered, withEntry, headRows, atHead, headNumberRows, atHeadNumber, headSizeRows, atHeadSize, coordinateOf, withCoordinate, coordinateRows, atCoordinate, draftRows, atDraft, endRows, atEnd, step, atLast, readWords, dependentAt, lostAt, afterWords, formShown, fileRows, readAll, read}
+use Rattle.catalogue_rules.specs.Moving.{toForm, moveRows, readToMove, overAt, moved}
+use Rattle.catalogue_rules.specs.Laws.Opening.{bytes-room}
 use Rattle.catalogue_rules.specs.Laws.Moves.{checked-case}
 
 abbrev pub mostRefusal : ℕ
-mostRefusal = 18
+mostRefusal = 20
 
 -- places up to b
 module _ (b : ℕ) where
@@ -34,6 +36,7 @@ module _ (b : ℕ) where
 
   abbrev StateLow : State → Type 0
   StateLow (outside es) = All EntryLow es
+  StateLow (numbered es n p) = All EntryLow es × (p ≤ b)
   StateLow (inside es h vs v) = All EntryLow es × (h .place ≤ b)
   StateLow (after es h vs marked) = All EntryLow es × (h .place ≤ b)
   StateLow (closed es) = All EntryLow es
@@ -52,7 +55,13 @@ module _ (b : ℕ) where
   with-entry es h vs marked s p q r = all-append EntryLow es (record { head = h; vectors = vs; draft = marked; see = s } ∷ []) p ((q, r), tt)
 
   head-low : (es : List Entry) (h : Head) → All EntryLow es → h .place ≤ b → StepLow (atHead es h)
-  head-low es h p q = checked-case (λ n. n ≤ mostRefusal) StepLow stop (headRows es h) (next (inside es h [] [])) (λ n l. l) (omega arith) (λ none. (p, q))
+  head-low es h p q = checked-case (λ n. n ≤ mostRefusal) StepLow stop (headRows es (h .number) (h .d) (h .m)) (next (inside es h [] [])) (λ n l. l) (omega arith) (λ none. (p, q))
+
+  number-low : (es : List Entry) (n i : ℕ) → All EntryLow es → i ≤ b → StepLow (atHeadNumber es n i)
+  number-low es n i p q = checked-case (λ n. n ≤ mostRefusal) StepLow stop (headNumberRows es n) (next (numbered es n i)) (λ n l. l) (omega arith) (λ none. (p, q))
+
+  size-low : (es : List Entry) (high : ℕ) (h : Head) → All EntryLow es → h .place ≤ b → StepLow (atHeadSize es high h)
+  size-low es high h p q = checked-case (λ n. n ≤ mostRefusal) StepLow stop (headSizeRows high (h .d) (h .m)) (next (inside es h [] [])) (λ n l. l) (omega arith) (λ none. (p, q))
 
   end-low : (es : List Entry) (count : ℕ) → All EntryLow es → StepLow (atEnd es count)
   end-low es count p = checked-case (λ n. n ≤ mostRefusal) StepLow stop (endRows es count) (next (closed es)) (λ n l. l) (omega arith) (λ none. p)
@@ -72,23 +81,37 @@ module _ (b : ℕ) where
 
   step-low : (s : State) (i : ℕ) (w : Word) → i ≤ b → StateLow s → StepLow (step s i w)
   unfolding step
-  step-low (outside es) i (head number d m) q p = head-low es (record { number = number; d = d; m = m; place = i }) p q
+  step-low (outside es) i (head number d m) q p = head-low es (record { form = old; number = number; d = d; m = m; place = i }) p q
   step-low (outside es) i (coordinate l) q p = omega arith
   step-low (outside es) i (see number) q p = omega arith
   step-low (outside es) i (end count) q p = end-low es count p
   step-low (outside es) i (draft l) q p = omega arith
+  step-low (outside es) i (headNumber number) q p = number-low es number i p q
+  step-low (outside es) i (headSize high d m) q p = omega arith
   step-low (outside es) i (other k l) q p = omega arith
+  step-low (numbered es n j) i (head number d m) q p = omega arith
+  step-low (numbered es n j) i (coordinate l) q p = omega arith
+  step-low (numbered es n j) i (see number) q p = omega arith
+  step-low (numbered es n j) i (end count) q p = omega arith
+  step-low (numbered es n j) i (draft l) q p = omega arith
+  step-low (numbered es n j) i (headNumber number) q p = omega arith
+  step-low (numbered es n j) i (headSize high d m) q p = size-low es high (record { form = new; number = n; d = d; m = m; place = j }) (p .0) (p .1)
+  step-low (numbered es n j) i (other k l) q p = omega arith
   step-low (inside es h vs v) i (head number d m) q p = omega arith
   step-low (inside es h vs v) i (coordinate l) q p = coordinate-low es h vs v l p
   step-low (inside es h vs v) i (see number) q p = omega arith
   step-low (inside es h vs v) i (end count) q p = omega arith
   step-low (inside es h vs v) i (draft l) q p = omega arith
+  step-low (inside es h vs v) i (headNumber number) q p = omega arith
+  step-low (inside es h vs v) i (headSize high d m) q p = omega arith
   step-low (inside es h vs v) i (other k l) q p = omega arith
-  step-low (after es h vs marked) i (head number d m) q p = head-low (withEntry es h vs marked none) (record { number = number; d = d; m = m; place = i }) (with-entry es h vs marked none (p .0) (p .1) tt) q
+  step-low (after es h vs marked) i (head number d m) q p = head-low (withEntry es h vs marked none) (record { form = old; number = number; d = d; m = m; place = i }) (with-entry es h vs marked none (p .0) (p .1) tt) q
   step-low (after es h vs marked) i (coordinate l) q p = omega arith
   step-low (after es h vs marked) i (see number) q p = with-entry es h vs marked (some (record { number = number; place = i })) (p .0) (p .1) q
   step-low (after es h vs marked) i (end count) q p = end-low (withEntry es h vs marked none) count (with-entry es h vs marked none (p .0) (p .1) tt)
   step-low (after es h vs marked) i (draft l) q p = draft-low es h vs marked l p
+  step-low (after es h vs marked) i (headNumber number) q p = number-low (withEntry es h vs marked none) number i (with-entry es h vs marked none (p .0) (p .1) tt) q
+  step-low (after es h vs marked) i (headSize high d m) q p = omega arith
   step-low (after es h vs marked) i (other k l) q p = omega arith
   step-low (closed es) i w q p = omega arith
 
@@ -96,6 +119,7 @@ module _ (b : ℕ) where
 
   last-low : (s : State) (i : ℕ) → i ≤ b → StateLow s → OutcomeLow (atLast s i)
   last-low (outside es) i q p = (omega arith, q)
+  last-low (numbered es n j) i q p = (omega arith, q)
   last-low (inside es h vs v) i q p = (omega arith, q)
   last-low (after es h vs marked) i q p = (omega arith, q)
   last-low (closed es) i q p = p
@@ -149,9 +173,42 @@ module _ (b : ℕ) where
       go (some p) r = (omega arith, r)
       go none r = lost (firstGiven (lostAt es) es) (first-low (lostAt es) (lost-low es) es q)
 
-pub read-low : (bytes : List ℕ) → OutcomeLow mostWords (read bytes)
+  -- ---- a move
+
+  over-low : (f : Form) (e : Entry) → EntryLow e → PlaceLow (overAt f e)
+  over-low f e p = go (ltb (mostNumber f) (e .head .number))
+    where
+      go : (t : Bool) → PlaceLow (elim t [ true ↦ some (e .head .place) | false ↦ none ])
+      go true = p .0
+      go false = tt
+
+  -- a refusal of a move
+  abbrev pub RefusedLow : Outcome → Type 0
+  RefusedLow (refused n p) = (n ≤ mostRefusal) × (p ≤ b)
+  RefusedLow (accepted es) = Unit {0}
+
+  pub moved-low : (f : Form) (o : Outcome) → OutcomeLow o → RefusedLow (moved f o)
+  moved-low f (refused n p) q = q
+  moved-low f (accepted es) q = go (firstGiven (overAt f) es) (first-low (overAt f) (over-low f) es q)
+    where
+      go : (o : Option ℕ) → PlaceLow o → RefusedLow (elim o [ some p ↦ refused 19 p | none ↦ accepted (toForm f es) ])
+      go (some p) r = (omega arith, r)
+      go none r = tt
+
+-- ---- files: no place is beyond the words that a catalogue can have in the longer form
+
+all-low : (bytes : List ℕ) → length bytes ≤ mostBytes (formShown (wordsOf bytes)) → OutcomeLow (mostWords new) (readAll bytes)
+all-low bytes h =
+    after-low (mostWords new) (readWords (outside []) 0 (wordsOf bytes))
+    (words-low (mostWords new) (wordsOf bytes) (outside []) 0 (omega (arith, length-words bytes, h, bytes-room (formShown (wordsOf bytes)))) tt)
+
+pub read-low : (bytes : List ℕ) → OutcomeLow (mostWords new) (read bytes)
 unfolding read
 read-low bytes =
-    checked-case (λ n. n ≤ mostRefusal) (OutcomeLow mostWords) (λ n. refused n 0) (fileRows bytes) (afterWords (readWords (outside []) 0 (wordsOf bytes))) (λ n l. (l, omega arith)) (omega arith)
-    (λ r. after-low mostWords (readWords (outside []) 0 (wordsOf bytes))
-    (words-low mostWords (wordsOf bytes) (outside []) 0 (omega (arith, length-words bytes, ltb-false mostBytes (length bytes) (r .1 .0))) tt))
+    checked-case (λ n. n ≤ mostRefusal) (OutcomeLow (mostWords new)) (λ n. refused n 0) (fileRows bytes) (readAll bytes) (λ n l. (l, omega arith)) (omega arith)
+    (λ r. all-low bytes (ltb-false _ _ (r .1 .0)))
+
+pub move-low : (f : Form) (bytes : List ℕ) → OutcomeLow (mostWords new) (readToMove f bytes)
+move-low f bytes =
+    checked-case (λ n. n ≤ mostRefusal) (OutcomeLow (mostWords new)) (λ n. refused n 0) (moveRows f bytes) (readAll bytes) (λ n l. (l, omega arith)) (omega arith)
+    (λ r. all-low bytes (ltb-false _ _ (r .1 .0)))

@@ -1,4 +1,4 @@
-// Catalogues made: words as bytes, many entries alike, and many that differ.
+// Catalogues made: words as bytes, many entries alike, and many that differ, in the old form and in the new.
 ghost use Prim.Native.Nat.{_≤_};
 ghost use lib.ListN.{length};
 ghost use Rattle.io.specs.Counts.{Counts};
@@ -82,4 +82,27 @@ pub fn multiples(words: &mut [u32], count: u32) -> usize
         );
     }
     push(words, n, 1073741824 + count % 1048576)
+}
+
+// A word as it stands in the new form: of a head its number, then its d and m; the index after it.
+fn push_new(words: &mut [u32], at: usize, w: u32) -> usize
+    requires { ⌜ at ≤ length (now words) ⌝ }
+    ensures { λ r. ⌜ r ≤ length (now (words .entry)) ⌝ }
+{
+    if w / 268435456 == 1 {
+        let n = push(words, at, 0x60000000 + w % 268435456 / 256);
+        return push(words, n, 0x70000000 + w % 256);
+    }
+    push(words, at, w)
+}
+
+// The words with their heads in the new form, as far as there is room; how many there are.
+pub fn in_new_form(old: &[u32], words: &mut [u32]) -> usize
+    ensures { λ r. ⌜ Counts r (now (words .exit)) ⌝ }
+{
+    let mut n = 0;
+    for i in 0..old.len() {
+        n = push_new(words, n, old[i]);
+    }
+    n
 }

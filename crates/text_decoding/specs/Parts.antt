@@ -1,13 +1,16 @@
--- An entry's line as the code puts it: what stands before the coordinates, the coordinates, the mark, and what stands last.
+-- An entry's line as the code puts it: what stands before the coordinates, the coordinates, the mark, and what stands last; and what stands before
+-- the entries.
 use mathlib.Core.Path.{_≡_, refl, sym, ap, _∙_}
 use mathlib.Core.Bool.{Bool, true, false}
 use mathlib.Core.List.{List, [], _∷_, _++_, map, append-assoc}
-use Prim.Native.Nat.{ℕ, _+_, _*_}
+use mathlib.Core.Option.{some}
+use Prim.Native.Nat.{ℕ, zero, suc, _+_, _*_, _≤_, _<_}
 use native.Mathlib.Omega.{arith}
-use lib.ListN.{length, take, length-append}
+use lib.ListN.{length, getD, take, length-append}
 use Rattle.integers.specs.Decimal.{decimal, signed}
 use Rattle.catalogue_rules.specs.Catalogue as definition
-use Rattle.catalogue_rules.specs.Catalogue.{coordinates, mostNumbers}
+use Rattle.catalogue_rules.specs.Catalogue.{Form, coordinates, mostNumbers}
+use Rattle.catalogue_rules.specs.Read.{formOf}
 use Rattle.catalogue_rules.specs.Form.{EntryFits}
 use Rattle.text_layout.specs.Fields.{after}
 use Rattle.catalogue_records.specs.declared.Entry.{Entry}
@@ -15,7 +18,7 @@ use Rattle.catalogue_records.specs.EntriesIn.{seeIn, entryIn}
 use Rattle.catalogue_records.specs.Coordinates.{same}
 use Rattle.text_output.specs.Joined.{joined}
 use Rattle.text_fields.specs.Blank.{blank, joined-then}
-use Rattle.text_rules.specs.Text.{semicolon, draftWord, draftFields, seeFields, entryText, textOf}
+use Rattle.text_rules.specs.Text.{semicolon, draftWord, draftFields, seeFields, entryText, entriesText, formText}
 
 abbrev pub headText : ℕ → ℕ → ℕ → List ℕ
 headText number d m = decimal number ++ blank decimal d ++ blank decimal m ++ (32 ∷ 59 ∷ [])
@@ -71,6 +74,21 @@ module _ (e : Entry) (fits : EntryFits (entryIn e)) (long : length (e .coordinat
       let last = lastText (e .sees) (e .see) in
       omega (arith, length-append (h ++ numbers ++ mark) last, length-append (h ++ numbers) mark, length-append h numbers, ap length entry-text)
 
-pub text-joined : (es : List definition.Entry) → joined entryText es ≡ textOf es
+pub text-joined : (es : List definition.Entry) → joined entryText es ≡ entriesText es
 text-joined [] = refl
 text-joined (e ∷ es) = ap (λ t. entryText e ++ t) (text-joined es)
+
+-- ---- before the entries
+
+-- of so many entries, the first of which has this form
+abbrev pub firstText : ℕ → Form → List ℕ
+firstText zero f = []
+firstText (suc n) f = formText (some f)
+
+pub first-some : (n : ℕ) (f : Form) → 1 ≤ n → firstText n f ≡ formText (some f)
+first-some zero f h = absurd (omega arith)
+first-some (suc n) f h = refl
+
+pub form-text : (es : List definition.Entry) (e : definition.Entry) {n : ℕ} {f : Form} → length es ≡ n → (0 < n → getD es 0 e .head .form ≡ f) → firstText n f ≡ formText (formOf es)
+form-text [] e {n} {f} long first = ap (λ k. firstText k f) (sym long)
+form-text (x ∷ es) e {n} {f} long first = ap (λ k. firstText k f) (sym long) ∙ sym (ap (λ g. formText (some g)) (first (omega arith)))

@@ -1,5 +1,5 @@
--- The text of a catalogue has for each entry a line of at most 34 bytes and seven for a coordinate: at most 66,048, so that it has room where
--- a listing has (`text-size`), and that a text so long as `encode` takes holds it (`text-fits`).
+-- The text of a catalogue has for each entry a line of at most 36 bytes and seven for a coordinate, and four bytes before them: at most 66,564, so
+-- that it has room where a listing has (`text-size`), and that a text so long as `encode` takes holds it (`text-fits`).
 use mathlib.Core.Path.{_≡_}
 use mathlib.Core.Bool.{Bool, true, false}
 use mathlib.Core.List.{List, [], _∷_, _++_, map}
@@ -18,14 +18,16 @@ use Rattle.integers.specs.Tests.{neither}
 use Rattle.integers.specs.Every.{any}
 use Rattle.lattices.specs.Refusal.{mostSize, mostVectors, mostCoordinates}
 use Rattle.lattices.specs.Laws.Refusal.{one-to}
-use Rattle.catalogue_rules.specs.Catalogue.{See, Entry, coordinates, mostNumbers, mostEntries}
-use Rattle.catalogue_rules.specs.Form.{EntryFits, WellFormed, mostNumber}
+use Rattle.catalogue_rules.specs.Catalogue.{Form, old, new, mostNumber, See, Entry, coordinates, mostNumbers, mostEntries}
+use Rattle.catalogue_rules.specs.Read.{formOf}
+use Rattle.catalogue_rules.specs.Form.{EntryFits, WellFormed}
+use Rattle.catalogue_rules.specs.Laws.Opening.{numbers-room}
 use Rattle.catalogue_rules.specs.Laws.ReadEntries.{SeeFits}
 use Rattle.catalogue_rules.specs.Laws.ReadBack.{sees-fit}
 use Rattle.catalogue_rules.specs.Laws.EntriesAccepted.{few-coordinates, all-near}
 use Rattle.text_layout.specs.Fields.{after}
 use Rattle.text_layout.specs.Sizes.{signed-length}
-use Rattle.text_rules.specs.Text.{semicolon, draftFields, seeFields, entryFields, entryText, textOf}
+use Rattle.text_rules.specs.Text.{semicolon, draftFields, seeFields, entryFields, entryText, entriesText, formText, textOf}
 
 draft-length : (b : Bool) (fields : List (List ℕ)) → length (after (draftFields b ++ fields)) ≤ 8 + length (after fields)
 draft-length true fields = omega arith
@@ -44,7 +46,7 @@ coordinates-length (z ∷ zs) h fields =
 
 -- an entry's line
 abbrev pub mostLine : ℕ
-mostLine = mostNumbers * 7 + 34
+mostLine = mostNumbers * 7 + 36
 
 pub entry-size : (e : Entry) → EntryFits e → SeeFits (e .see) → length (entryText e) ≤ mostLine
 entry-size e f s =
@@ -56,7 +58,7 @@ entry-size e f s =
       length-append (decimal (h .number)) (after (entryFields e)),
       length-append (decimal (h .d)) (after (decimal (h .m) ∷ semicolon ∷ (map signed cs ++ rest))),
       length-append (decimal (h .m)) (after (semicolon ∷ (map signed cs ++ rest))),
-      decimal-length 7 (h .number) (omega arith) (omega (arith, one-to mostNumber (h .number) (f .head .number) .1)),
+      decimal-length 9 (h .number) (omega arith) (omega (arith, one-to (mostNumber (h .form)) (h .number) (f .head .number) .1, numbers-room (h .form))),
       decimal-length 1 (h .d) (omega arith) (omega (arith, one-to mostVectors (h .d) (f .head .d) .1)),
       decimal-length 1 (h .m) (omega arith) (omega (arith, one-to mostCoordinates (h .m) (f .head .m) .1)),
       coordinates-length cs (all-near (h .m) (e .vectors) (f .vectors)) rest,
@@ -65,16 +67,28 @@ entry-size e f s =
       see-length (e .see) s,
     )
 
-entries-size : (es : List Entry) → All EntryFits es → All (λ e. SeeFits (e .see)) es → length (textOf es) ≤ length es * mostLine
+entries-size : (es : List Entry) → All EntryFits es → All (λ e. SeeFits (e .see)) es → length (entriesText es) ≤ length es * mostLine
 entries-size [] f s = omega arith
-entries-size (e ∷ es) f s = omega (arith, length-append (entryText e) (textOf es), entry-size e (f .0) (s .0), entries-size es (f .1) (s .1))
+entries-size (e ∷ es) f s = omega (arith, length-append (entryText e) (entriesText es), entry-size e (f .0) (s .0), entries-size es (f .1) (s .1))
 
--- those of all entries: 66,048
+form-size : (o : Option Form) → length (formText o) ≤ 4
+form-size none = omega arith
+form-size (some old) = omega arith
+form-size (some new) = omega arith
+
+-- those of all entries, and the line before them: 66,564
 abbrev pub mostLines : ℕ
-mostLines = mostEntries * mostLine
+mostLines = mostEntries * mostLine + 4
 
 pub lines-size : (es : List Entry) → WellFormed es → length (textOf es) ≤ mostLines
-lines-size es w = omega (arith, entries-size es (w .entered .fits) (sees-fit es es (w .entered .fits) (w .named)), w .entered .few)
+lines-size es w =
+    omega (
+      arith,
+      length-append (formText (formOf es)) (entriesText es),
+      form-size (formOf es),
+      entries-size es (w .entered .fits) (sees-fit es es (w .entered .fits) (w .named)),
+      w .entered .few,
+    )
 
 -- no longer than a listing can be
 pub text-size : (es : List Entry) → WellFormed es → length (textOf es) ≤ mostText

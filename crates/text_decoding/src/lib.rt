@@ -1,12 +1,14 @@
-// The text of a catalogue, an entry to a line: `number d m ; coordinates`, `; draft` where it is a draft, and `; see` where there is a see word.
+// The text of a catalogue, an entry to a line: `number d m ; coordinates`, `; draft` where it is a draft, and `; see` where there is a see word. In
+// the new form a line `new` stands before them.
 ghost use Prim.Native.Nat.{_+_, _≤_};
 ghost use lib.ListN.{length};
 ghost use Rattle.integers.specs.All.{All};
 ghost use Rattle.catalogue_rules.specs.Form.{EntryFits};
-ghost use Rattle.catalogue_records.specs.EntriesIn.{entryIn, entriesIn};
+ghost use Rattle.catalogue_records.specs.EntriesIn.{formIn, entryIn, entriesIn};
 ghost use Rattle.text_rules.specs.Text.{entryText, textOf};
 ghost use Rattle.text_output.specs.Puts.{Puts};
-ghost use Rattle.text_decoding.specs.Parts.{headText, draftText, lastText};
+ghost use Rattle.text_decoding.specs.Parts.{headText, draftText, lastText, firstText};
+use catalogue_records::Form;
 
 // What stands before the coordinates.
 fn put_head(out: &mut [u8], at: usize, number: u64, d: u64, m: u64) -> usize
@@ -57,14 +59,30 @@ fn put_entry(out: &mut [u8], at: usize, e: catalogue_records::Entry) -> usize
     put_last(out, third, e.sees, e.see as u64)
 }
 
-// The lines of all entries.
+// What stands before the entries, the first of which has this form: the line `new` in the new form; nothing where there is no entry.
+fn put_form(out: &mut [u8], count: usize, form: Form) -> usize
+    requires { ⌜ length (firstText count (formIn form)) ≤ length (now out) ⌝ }
+    ensures { λ r. ⌜ Puts (firstText count (formIn form)) (now (out .entry)) 0 (now (out .exit)) r ⌝ }
+{
+    if count == 0 {
+        return 0;
+    }
+    match form {
+        Form::Old => 0,
+        Form::New => text_output::put_bytes(out, 0, b"new\n"),
+    }
+}
+
+// The text of all entries.
 pub fn put_entries(c: catalogue_records::Catalogue, out: &mut [u8]) -> usize
     requires { ⌜ c .count ≤ 256 ⌝ }
     requires { ⌜ All EntryFits (entriesIn c) ⌝ }
     requires { ⌜ length (textOf (entriesIn c)) ≤ length (now out) ⌝ }
     ensures { λ r. ⌜ Puts (textOf (entriesIn c)) (now (out .entry)) 0 (now (out .exit)) r ⌝ }
 {
-    let mut n = 0;
+    let first = c.entries[0];
+    let form = first.form;
+    let mut n = put_form(out, c.count, form);
     for k in 0..c.count {
         let e = c.entries[k];
         n = put_entry(out, n, e);

@@ -7,7 +7,7 @@ use lib.Dec.{ltb}
 use lib.ListN.{length, take}
 use Rattle.catalogue_rules.specs.Word.{Word, encode, bytesOf}
 use Rattle.catalogue_rules.specs.Output.{filledWith}
-use Rattle.text_rules.specs.Encoding.{linesOf, anyWrong, entriesFrom, ended}
+use Rattle.text_rules.specs.Encoding.{linesOf, ended, toldWrong, toldEntries}
 use Rattle.text_encoding.specs.declared.Told.{Told}
 
 -- R13.8: a longer text is not read
@@ -18,13 +18,13 @@ abbrev pub isLong : List ℕ → Bool
 isLong text = ltb mostText (length text)
 
 abbrev pub textEntries : List ℕ → List (List Word)
-textEntries text = cond (isLong text) [] (entriesFrom (linesOf text))
+textEntries text = cond (isLong text) [] (toldEntries (linesOf text))
 
 abbrev pub textWords : List ℕ → List ℕ
-textWords text = cond (isLong text) [] (map encode (ended (entriesFrom (linesOf text))))
+textWords text = cond (isLong text) [] (map encode (ended (toldEntries (linesOf text))))
 
 abbrev pub textWrong : List ℕ → Bool
-textWrong text = cond (isLong text) true (anyWrong (linesOf text))
+textWrong text = cond (isLong text) true (toldWrong (linesOf text))
 
 -- as many of the words of the lines that are right as an output has room for
 abbrev pub storedWords : List ℕ → List ℕ → List ℕ

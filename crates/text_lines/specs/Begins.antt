@@ -10,7 +10,7 @@ use Rattle.integers.specs.Tests.{both}
 use Rattle.text_parts.specs.Numbers.{leading}
 use Rattle.text_parts.specs.NumberLaws.{drop-next}
 use Rattle.text_parts.specs.Tokens.{isBlank}
-use Rattle.text_rules.specs.Text.{draftWord}
+use Rattle.text_rules.specs.Text.{draftWord, newWord}
 use Rattle.text_rules.specs.Encoding.{beginsWith, isDraft}
 
 -- what begins with a word is as long
@@ -37,3 +37,7 @@ begins-end word s i h = ap (λ l. beginsWith l (drop i s)) (drop-of-length-le wo
 -- so there are bytes for the blanks and `draft`
 pub draft-long : (s : List ℕ) → isDraft s ≡ true → leading isBlank s + 5 ≤ length s
 draft-long s e = let n = leading isBlank s in omega (arith, begins-long draftWord (drop n s) e, length-drop n s)
+
+-- and for `new`
+pub new-long : (s : List ℕ) → beginsWith newWord (drop (leading isBlank s) s) ≡ true → leading isBlank s + 3 ≤ length s
+new-long s e = let n = leading isBlank s in omega (arith, begins-long newWord (drop n s) e, length-drop n s)

@@ -8,7 +8,8 @@ use lib.IntN.{ℤ}
 use lib.ListN.{length, take, drop, replicate}
 use Rattle.lattices.specs.Vector.{nth}
 use Rattle.integers.specs.Every.{any}
-use Rattle.catalogue_rules.specs.Word.{Word, head, see, encode}
+use Rattle.catalogue_rules.specs.Catalogue.{Form, old, new, mostNumber}
+use Rattle.catalogue_rules.specs.Word.{Word, head, see, headNumber, headSize, encode}
 use Rattle.catalogue_rules.specs.Write.{encodedCoordinates, draftWords}
 use Rattle.input_checks.specs.Any.{beyond}
 use Rattle.text_parts.specs.declared.Kind.{Kind}
@@ -17,6 +18,7 @@ use Rattle.text_parts.specs.Parts.{isEnd, isSemicolon, Taken, takenAt}
 use Rattle.text_rules.specs.Encoding.{fits, at, isSee, isDraft, pastDraft, mostNumbers, content, isEmpty}
 use Rattle.text_lines.specs.declared.Mistake.{Mistake}
 use Rattle.text_lines.specs.declared.Mistake.the-variants.{None, PartMissing, TooLarge, TooMany, NoNumber, NotThree, NoHead, NotAll, Beyond, NoSee}
+use Rattle.text_lines.specs.declared.Head.{Head}
 use Rattle.text_lines.specs.declared.Line.{Line}
 use Rattle.text_lines.specs.declared.Rest.{Rest}
 use Rattle.text_lines.specs.Stops.{isLarge, isMany}
@@ -36,7 +38,7 @@ isNone NoSee = false
 -- ---- lines
 
 abbrev pub noWords : Mistake → Bool → Line
-noWords mistake blank = record { mistake = mistake; blank = blank; head = 0; count = 0; coordinates = replicate mostNumbers 0; draft = false; see = 0 }
+noWords mistake blank = record { mistake = mistake; blank = blank; head = 0; size = 0; count = 0; coordinates = replicate mostNumbers 0; draft = false; see = 0 }
 
 abbrev pub wrongLine : Mistake → Line
 wrongLine mistake = noWords mistake false
@@ -46,11 +48,12 @@ abbrev pub blankLine : Line
 blankLine = noWords None true
 
 -- a head, coordinates and what follows them
-abbrev pub rightLine : ℕ → List ℤ → Rest → Line
-rightLine w zs r = record {
+abbrev pub rightLine : Head → List ℤ → Rest → Line
+rightLine h zs r = record {
   mistake = None;
   blank = false;
-  head = w;
+  head = h .first;
+  size = h .size;
   count = length zs;
   coordinates = encodedCoordinates zs ++ replicate (mostNumbers - length zs) 0;
   draft = r .draft;
@@ -63,9 +66,16 @@ rightLine w zs r = record {
 abbrev pub stopMistake : Kind → Mistake
 stopMistake k = cond (isEnd k) PartMissing (cond (isLarge k) TooLarge (cond (isMany k) TooMany NoNumber))
 
-abbrev pub headMistake : Kind → ℕ → ℤ → ℤ → ℤ → Mistake
-headMistake stop count number d m =
-    cond (isSemicolon stop) (cond (eqb count 3) (cond (fits 1048575 number && (fits 15 d && fits 15 m)) None NoHead) NotThree) (stopMistake stop)
+abbrev pub headMistake : Form → Kind → ℕ → ℤ → ℤ → ℤ → Mistake
+headMistake f stop count number d m =
+    cond (isSemicolon stop) (cond (eqb count 3) (cond (fits (mostNumber f) number && (fits 15 d && fits 15 m)) None NoHead) NotThree) (stopMistake stop)
+
+-- ---- the head
+
+-- its words in a form; the second is 0 for none
+abbrev pub headTold : Form → ℕ → ℕ → ℕ → Head
+headTold old n d m = record { first = encode (head n d m); size = 0 }
+headTold new n d m = record { first = encode (headNumber n); size = encode (headSize 0 d m) }
 
 -- ---- what follows the coordinates
 
@@ -100,49 +110,49 @@ restRead k s = cond (isEnd k) (endRest false) (markRest s)
 
 -- ---- all parts
 
-abbrev pub followedRead : ℕ → List ℤ → Rest → Line
-followedRead w zs r = cond (r .right) (rightLine w zs r) (wrongLine NoSee)
+abbrev pub followedRead : Head → List ℤ → Rest → Line
+followedRead h zs r = cond (r .right) (rightLine h zs r) (wrongLine NoSee)
 
 -- n coordinates, and what follows them
-abbrev pub partsRead : ℕ → ℕ → Taken → List ℕ → Line
-partsRead w n p s =
+abbrev pub partsRead : Head → ℕ → Taken → List ℕ → Line
+partsRead h n p s =
     cond (isLast (p .stop))
     (cond (eqb (length (p .numbers)) n)
-    (cond (any beyond (p .numbers)) (wrongLine Beyond) (followedRead w (p .numbers) (restRead (p .stop) (drop (p .length) s))))
+    (cond (any beyond (p .numbers)) (wrongLine Beyond) (followedRead h (p .numbers) (restRead (p .stop) (drop (p .length) s))))
     (wrongLine NotAll))
     (wrongLine (stopMistake (p .stop)))
 
 -- the head, then the other parts
-abbrev pub headRead : Mistake → Taken → List ℕ → Line
-headRead mistake p s =
+abbrev pub headRead : Form → Mistake → Taken → List ℕ → Line
+headRead f mistake p s =
     let zs = p .numbers in
-    cond (isNone mistake) (partsRead (encode (head (at zs 0) (at zs 1) (at zs 2))) (at zs 1 * at zs 2) (takenAt mostNumbers s) s) (wrongLine mistake)
+    cond (isNone mistake) (partsRead (headTold f (at zs 0) (at zs 1) (at zs 2)) (at zs 1 * at zs 2) (takenAt mostNumbers s) s) (wrongLine mistake)
 
-unfoldable pub contentRead : List ℕ → Line
-contentRead s =
+unfoldable pub contentRead : Form → List ℕ → Line
+contentRead f s =
     let p = takenAt 3 s in
     let zs = p .numbers in
-    headRead (headMistake (p .stop) (length zs) (nth zs 0) (nth zs 1) (nth zs 2)) p (drop (p .length) s)
+    headRead f (headMistake f (p .stop) (length zs) (nth zs 0) (nth zs 1) (nth zs 2)) p (drop (p .length) s)
 
-abbrev pub textRead : List ℕ → Line
-textRead s = cond (isEmpty s) blankLine (contentRead s)
+abbrev pub textRead : Form → List ℕ → Line
+textRead f s = cond (isEmpty s) blankLine (contentRead f s)
 
 -- the line that stands before a comment
-abbrev pub lineRead : List ℕ → Line
-lineRead s = textRead (content s)
+abbrev pub lineRead : Form → List ℕ → Line
+lineRead f s = textRead f (content s)
 
 -- ---- its words
+
+-- a word, 0 for none
+abbrev pub wordTold : ℕ → List ℕ
+wordTold n = cond (eqb n 0) [] (n ∷ [])
 
 -- the mark, or none
 abbrev pub draftTold : Bool → List ℕ
 draftTold b = map encode (draftWords b)
 
--- a see word, 0 for none
-abbrev pub seeTold : ℕ → List ℕ
-seeTold n = cond (eqb n 0) [] (n ∷ [])
-
 abbrev pub wordsIn : Line → List ℕ
-wordsIn l = l .head ∷ (take (l .count) (l .coordinates) ++ (draftTold (l .draft) ++ seeTold (l .see)))
+wordsIn l = l .head ∷ (wordTold (l .size) ++ (take (l .count) (l .coordinates) ++ (draftTold (l .draft) ++ wordTold (l .see))))
 
 -- if nothing is wrong
 abbrev pub told : Line → Option (List ℕ)

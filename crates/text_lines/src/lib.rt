@@ -1,17 +1,21 @@
 // The words of a line of text: `number d m ; coordinates`, `; draft` where it is a draft, and `; see` where there is a see word. What stands
-// behind a `#` is a comment.
+// behind a `#` is a comment. A line may be `new` instead, which tells the form of the others.
 ghost use mathlib.Core.Path.{_≡_};
 ghost use mathlib.Core.Bool.{false};
 ghost use mathlib.Core.List.{_++_};
-ghost use Prim.Native.Nat.{_-_, _≤_};
+ghost use Prim.Native.Nat.{_-_, _≤_, _<_};
 ghost use lib.ListN.{length, replicate};
 ghost use Rattle.integers.specs.Every.{any};
+ghost use Rattle.catalogue_rules.specs.Catalogue.{mostNumber};
 ghost use Rattle.catalogue_rules.specs.Write.{encodedCoordinates};
+ghost use Rattle.catalogue_records.specs.EntriesIn.{formIn};
 ghost use Rattle.input_checks.specs.Any.{beyond};
 ghost use Rattle.text_parts.specs.Parts.{takenAt};
-ghost use Rattle.text_rules.specs.Encoding.{fits, beginsWith, isDraft};
-ghost use Rattle.text_lines.specs.Told.{isNone, noWords, wrongLine, stopMistake, headMistake, isLast, lastSee, seeRest, lastRest, markRest, restRead, partsRead, contentRead, textRead, lineRead};
+ghost use Rattle.text_rules.specs.Encoding.{fits, beginsWith, isDraft, isNewText, isNew};
+ghost use Rattle.text_lines.specs.Told.{isNone, noWords, wrongLine, stopMistake, headMistake, headTold, isLast, lastSee, seeRest, lastRest, markRest, restRead, partsRead, contentRead, textRead, lineRead};
 ghost use Rattle.text_lines.specs.Lengths.{lengthBefore};
+use catalogue_records::Catalogue;
+use catalogue_records::Form;
 use text_parts::Kind;
 use text_parts::tokens::blanks;
 use text_parts::tokens::read_token;
@@ -30,16 +34,23 @@ pub enum Mistake {
     NoSee,
 }
 
-// What a line tells: its words, or what is wrong with it, or that it is blank. Of the mark it tells whether it stands there. A see word 0 is
-// none.
+// What a line tells: its words, or what is wrong with it, or that it is blank. A head has a second word, its size, in the new form; 0 is none.
+// Of the mark the line tells whether it stands there. A see word 0 is none.
 pub struct Line {
     pub mistake: Mistake,
     pub blank: bool,
     pub head: u32,
+    pub size: u32,
     pub count: usize,
     pub coordinates: [u32; 225],
     pub draft: bool,
     pub see: u32,
+}
+
+// The words of a head: its first word, and its size, 0 where there is none.
+struct Head {
+    first: u32,
+    size: u32,
 }
 
 // The words of some coordinates, unless one is beyond the limit.
@@ -80,6 +91,7 @@ fn no_words(mistake: Mistake, blank: bool) -> Line
         mistake,
         blank,
         head: 0,
+        size: 0,
         count: 0,
         coordinates: [0; 225],
         draft: false,
@@ -133,9 +145,19 @@ fn fits(most: usize, z: i64) -> bool
     text_parts::first_part::count(z) <= most
 }
 
+// The most that a head's number can be.
+fn most_number(form: Form) -> usize
+    ensures { λ r. ⌜ r ≡ mostNumber (formIn form) ⌝ }
+{
+    match form {
+        Form::Old => Catalogue::MOST_OLD_NUMBER as usize,
+        Form::New => Catalogue::MOST_NUMBER as usize,
+    }
+}
+
 // What is wrong with the first part: how it stops, how many numbers it has, or one that does not fit.
-fn head_mistake(stop: Kind, count: usize, number: i64, d: i64, m: i64) -> Mistake
-    ensures { λ r. ⌜ r ≡ headMistake stop count number d m ⌝ }
+fn head_mistake(form: Form, stop: Kind, count: usize, number: i64, d: i64, m: i64) -> Mistake
+    ensures { λ r. ⌜ r ≡ headMistake (formIn form) stop count number d m ⌝ }
 {
     if !text_parts::is_semicolon(stop) {
         return wrong_stop(stop);
@@ -143,7 +165,7 @@ fn head_mistake(stop: Kind, count: usize, number: i64, d: i64, m: i64) -> Mistak
     if count != 3 {
         return Mistake::NotThree;
     }
-    if !fits(1048575, number) {
+    if !fits(most_number(form), number) {
         return Mistake::NoHead;
     }
     if !fits(15, d) {
@@ -153,6 +175,25 @@ fn head_mistake(stop: Kind, count: usize, number: i64, d: i64, m: i64) -> Mistak
         return Mistake::NoHead;
     }
     Mistake::None
+}
+
+// The words of a head in a form.
+fn head_words(form: Form, number: u32, d: usize, m: usize) -> Head
+    requires { ⌜ number ≤ mostNumber (formIn form) ⌝ }
+    requires { ⌜ d < 16 ⌝ }
+    requires { ⌜ m < 16 ⌝ }
+    ensures { λ r. ⌜ r ≡ headTold (formIn form) number d m ⌝ }
+{
+    match form {
+        Form::Old => Head {
+            first: catalogue_writer::head_word(number, d, m),
+            size: 0,
+        },
+        Form::New => Head {
+            first: catalogue_writer::head_number_word(number),
+            size: catalogue_writer::head_size_word(d, m),
+        },
+    }
 }
 
 // The words of up to 225 coordinates, as many as d and m in four bits each can ask for.
@@ -281,7 +322,7 @@ fn rest_of(stop: Kind, s: &[u8]) -> Rest
 }
 
 // The parts after the head: n coordinates, the mark or none, and a see word or none.
-fn with_parts(s: &[u8], head: u32, n: usize) -> Line
+fn with_parts(s: &[u8], head: Head, n: usize) -> Line
     ensures { λ r. ⌜ r ≡ partsRead head n (takenAt 225 (now (s .entry))) (now (s .entry)) ⌝ }
     ensures { λ r. ⌜ r .count ≤ 225 ⌝ }
 {
@@ -308,7 +349,8 @@ fn with_parts(s: &[u8], head: u32, n: usize) -> Line
     Line {
         mistake: Mistake::None,
         blank: false,
-        head,
+        head: head.first,
+        size: head.size,
         count,
         coordinates: words,
         draft: rest.draft,
@@ -317,21 +359,21 @@ fn with_parts(s: &[u8], head: u32, n: usize) -> Line
 }
 
 // A line that is not blank, without its comment.
-fn read_content(s: &[u8]) -> Line
-    ensures { λ r. ⌜ r ≡ contentRead (now (s .entry)) ⌝ }
+fn read_content(form: Form, s: &[u8]) -> Line
+    ensures { λ r. ⌜ r ≡ contentRead (formIn form) (now (s .entry)) ⌝ }
     ensures { λ r. ⌜ r .count ≤ 225 ⌝ }
 {
     let mut z = [0i64; 3];
     let part = text_parts::read_part(s, &mut z);
     let stop = part.stop;
-    let mistake = head_mistake(stop, part.count, z[0], z[1], z[2]);
+    let mistake = head_mistake(form, stop, part.count, z[0], z[1], z[2]);
     if !is_none(mistake) {
         return wrong(mistake);
     }
     let number = text_parts::first_part::count(z[0]);
     let d = text_parts::first_part::count(z[1]);
     let m = text_parts::first_part::count(z[2]);
-    let head = catalogue_writer::head_word(number as u32, d, m);
+    let head = head_words(form, number as u32, d, m);
     let at = part.length;
     with_parts(&s[at..], head, d * m)
 }
@@ -352,22 +394,42 @@ pub fn length_before(s: &[u8], b: u8) -> usize
 }
 
 // A line without its comment.
-fn read_text(s: &[u8]) -> Line
-    ensures { λ r. ⌜ r ≡ textRead (now (s .entry)) ⌝ }
+fn read_text(form: Form, s: &[u8]) -> Line
+    ensures { λ r. ⌜ r ≡ textRead (formIn form) (now (s .entry)) ⌝ }
     ensures { λ r. ⌜ r .count ≤ 225 ⌝ }
 {
     if blanks(s) == s.len() {
         return no_words(Mistake::None, true);
     }
-    read_content(s)
+    read_content(form, s)
 }
 
-// A line of a text: its words, what is wrong with it, or that it is blank. The last clause follows from the other; with it a caller can cut
-// the coordinates out.
-pub fn read_line(s: &[u8]) -> Line
-    ensures { λ r. ⌜ r ≡ lineRead (now (s .entry)) ⌝ }
+// A line of a text in a form: its words, what is wrong with it, or that it is blank. The last clause follows from the other; with it a caller
+// can cut the coordinates out.
+pub fn read_line(form: Form, s: &[u8]) -> Line
+    ensures { λ r. ⌜ r ≡ lineRead (formIn form) (now (s .entry)) ⌝ }
     ensures { λ r. ⌜ r .count ≤ 225 ⌝ }
 {
     let n = length_before(s, b'#');
-    read_text(&s[..n])
+    read_text(form, &s[..n])
+}
+
+// Whether a line without its comment is `new`, with nothing but blanks around it.
+fn is_new_text(s: &[u8]) -> bool
+    ensures { λ r. ⌜ r ≡ isNewText (now (s .entry)) ⌝ }
+{
+    let n = blanks(s);
+    if !begins_with(&s[n..], b"new") {
+        return false;
+    }
+    let at = n + 3;
+    blanks(&s[at..]) == s.len() - at
+}
+
+// Whether a line is `new`.
+pub fn is_new(s: &[u8]) -> bool
+    ensures { λ r. ⌜ r ≡ isNew (now (s .entry)) ⌝ }
+{
+    let end = length_before(s, b'#');
+    is_new_text(&s[..end])
 }

@@ -1,5 +1,5 @@
 -- The words that a text tells: of each line that is not blank those of an entry, then the end word; none where a line is wrong. What stands
--- behind a `#` is a comment.
+-- behind a `#` is a comment. The entries are in the new form where the first line is `new`.
 use mathlib.Core.Bool.{Bool, true, false, cond, not, _&&_, _||_}
 use mathlib.Core.List.{List, [], _∷_, _++_, map}
 use mathlib.Core.Option.{Option, none, some}
@@ -10,13 +10,14 @@ use lib.ListN.{length, take, drop}
 use Rattle.lattices.specs.Vector.{nth}
 use Rattle.integers.specs.Every.{any}
 use Rattle.lattices.specs.Refusal.{mostSize}
-use Rattle.catalogue_rules.specs.Word.{Word, head, see, end, draft}
-use Rattle.catalogue_rules.specs.Write.{coordinateWord}
+use Rattle.catalogue_rules.specs.Catalogue.{Form, old, new, mostNumber}
+use Rattle.catalogue_rules.specs.Word.{Word, see, end, draft}
+use Rattle.catalogue_rules.specs.Write.{headWordsIn, coordinateWord}
 use Rattle.text_parts.specs.declared.Kind.{Kind}
 use Rattle.text_parts.specs.Numbers.{leading}
 use Rattle.text_parts.specs.Tokens.{isBlank, tokenAt}
 use Rattle.text_parts.specs.Parts.{isSemicolon, isEnd, Taken, takenAt}
-use Rattle.text_rules.specs.Text.{draftWord}
+use Rattle.text_rules.specs.Text.{draftWord, newWord}
 
 -- ---- a line
 
@@ -82,21 +83,21 @@ coordinatesFrom n p s = cond (areCoordinates n (p .numbers)) (before (map coordi
 abbrev pub mostNumbers : ℕ
 mostNumbers = 225
 
--- R13.4: number, d and m that fit a head, up to a semicolon; d times m coordinates follow
-abbrev pub isHead : Taken → Bool
-isHead p =
+-- R13.4: number, d and m that fit a head of the form, up to a semicolon; d times m coordinates follow
+abbrev pub isHead : Form → Taken → Bool
+isHead f p =
     isSemicolon (p .stop)
-    && (eqb (length (p .numbers)) 3 && (fits 1048575 (nth (p .numbers) 0) && (fits 15 (nth (p .numbers) 1) && fits 15 (nth (p .numbers) 2))))
+    && (eqb (length (p .numbers)) 3 && (fits (mostNumber f) (nth (p .numbers) 0) && (fits 15 (nth (p .numbers) 1) && fits 15 (nth (p .numbers) 2))))
 
 -- R13.1, R13.4
-abbrev pub headFrom : Taken → List ℕ → Option (List Word)
-headFrom p s =
+abbrev pub headFrom : Form → Taken → List ℕ → Option (List Word)
+headFrom f p s =
     let zs = p .numbers in
-    cond (isHead p) (before (head (at zs 0) (at zs 1) (at zs 2) ∷ []) (coordinatesFrom (at zs 1 * at zs 2) (takenAt mostNumbers s) s)) none
+    cond (isHead f p) (before (headWordsIn f (at zs 0) (at zs 1) (at zs 2)) (coordinatesFrom (at zs 1 * at zs 2) (takenAt mostNumbers s) s)) none
 
 -- R13.1, R13.4
-unfoldable pub lineFrom : List ℕ → Option (List Word)
-lineFrom s = let p = takenAt 3 s in headFrom p (drop (p .length) s)
+unfoldable pub lineFrom : Form → List ℕ → Option (List Word)
+lineFrom f s = let p = takenAt 3 s in headFrom f p (drop (p .length) s)
 
 -- ---- lines
 
@@ -122,6 +123,26 @@ content s = take (leading isText s) s
 abbrev pub isEmpty : List ℕ → Bool
 isEmpty s = eqb (leading isBlank s) (length s)
 
+-- ---- the form
+
+-- R13.9: a line without its comment that is `new`, with nothing but blanks around it
+abbrev pub isNewText : List ℕ → Bool
+isNewText s = let n = leading isBlank s in beginsWith newWord (drop n s) && isEmpty (drop (n + length newWord) s)
+
+-- R13.9
+abbrev pub isNew : List ℕ → Bool
+isNew s = isNewText (content s)
+
+-- R13.9: the form that the first line of a text tells
+abbrev pub formTold : List (List ℕ) → Form
+formTold [] = old
+formTold (l ∷ ls) = cond (isNew l) new old
+
+-- R13.9: the lines of the entries: `new` on the first line is passed over as nothing is on a blank one
+abbrev pub entryLines : List (List ℕ) → List (List ℕ)
+entryLines [] = []
+entryLines (l ∷ ls) = cond (isNew l) [] l ∷ ls
+
 -- ---- entries
 
 -- R13.5
@@ -135,22 +156,22 @@ listed none = []
 listed (some ws) = ws ∷ []
 
 -- R13.5: whether a line is wrong, and the words of its entry; a line without content is right and has none
-abbrev pub lineWrong : List ℕ → Bool
-lineWrong s = cond (isEmpty (content s)) false (isWrong (lineFrom (content s)))
+abbrev pub lineWrong : Form → List ℕ → Bool
+lineWrong f s = cond (isEmpty (content s)) false (isWrong (lineFrom f (content s)))
 
 -- R13.5
-abbrev pub lineEntry : List ℕ → List (List Word)
-lineEntry s = cond (isEmpty (content s)) [] (listed (lineFrom (content s)))
+abbrev pub lineEntry : Form → List ℕ → List (List Word)
+lineEntry f s = cond (isEmpty (content s)) [] (listed (lineFrom f (content s)))
 
 -- R13.5
-abbrev pub anyWrong : List (List ℕ) → Bool
-anyWrong [] = false
-anyWrong (l ∷ ls) = lineWrong l || anyWrong ls
+abbrev pub anyWrong : Form → List (List ℕ) → Bool
+anyWrong f [] = false
+anyWrong f (l ∷ ls) = lineWrong f l || anyWrong f ls
 
 -- R13.5
-abbrev pub entriesFrom : List (List ℕ) → List (List Word)
-entriesFrom [] = []
-entriesFrom (l ∷ ls) = lineEntry l ++ entriesFrom ls
+abbrev pub entriesFrom : Form → List (List ℕ) → List (List Word)
+entriesFrom f [] = []
+entriesFrom f (l ∷ ls) = lineEntry f l ++ entriesFrom f ls
 
 -- R13.5
 abbrev pub joined : List (List Word) → List Word
@@ -161,15 +182,23 @@ joined (ws ∷ more) = ws ++ joined more
 abbrev pub ended : List (List Word) → List Word
 ended entries = joined entries ++ (end (length entries) ∷ [])
 
+-- R13.5, R13.9: whether a line of a text is wrong, and the entries that its lines tell
+abbrev pub toldWrong : List (List ℕ) → Bool
+toldWrong ls = anyWrong (formTold ls) (entryLines ls)
+
+-- R13.5, R13.9
+abbrev pub toldEntries : List (List ℕ) → List (List Word)
+toldEntries ls = entriesFrom (formTold ls) (entryLines ls)
+
 -- R13.5
 unfoldable pub encoded : List ℕ → Option (List Word)
-encoded text = cond (anyWrong (linesOf text)) none (some (ended (entriesFrom (linesOf text))))
+encoded text = let ls = linesOf text in cond (toldWrong ls) none (some (ended (toldEntries ls)))
 
 -- ---- where a word stands
 
 -- R13.7
-abbrev pub lineWords : List ℕ → ℕ
-lineWords s = length (joined (lineEntry s))
+abbrev pub lineWords : Form → List ℕ → ℕ
+lineWords f s = length (joined (lineEntry f s))
 
 -- R13.7: one line further down, where there is a line
 abbrev pub further : ℕ → ℕ
@@ -177,6 +206,10 @@ further zero = 0
 further (suc n) = suc (suc n)
 
 -- R13.7: the line, from 1, whose entry holds the word with this index; 0 for none, as for the end word
-abbrev pub lineHolding : List (List ℕ) → ℕ → ℕ
-lineHolding [] k = 0
-lineHolding (l ∷ ls) k = cond (ltb k (lineWords l)) 1 (further (lineHolding ls (k - lineWords l)))
+abbrev pub lineHolding : Form → List (List ℕ) → ℕ → ℕ
+lineHolding f [] k = 0
+lineHolding f (l ∷ ls) k = cond (ltb k (lineWords f l)) 1 (further (lineHolding f ls (k - lineWords f l)))
+
+-- R13.7, R13.9: of the lines of a text, of which `new` is one
+abbrev pub toldHolding : List (List ℕ) → ℕ → ℕ
+toldHolding ls k = lineHolding (formTold ls) (entryLines ls) k

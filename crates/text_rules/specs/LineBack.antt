@@ -15,13 +15,15 @@ use Rattle.integers.specs.All.{All}
 use Rattle.integers.specs.Tests.{neither}
 use Rattle.integers.specs.Decimal.{decimal, signed}
 use Rattle.integers.specs.Every.{any}
-use Rattle.lattices.specs.Refusal.{mostSize}
-use Rattle.catalogue_rules.specs.Catalogue.{Head, See, Entry, coordinates}
+use Rattle.lattices.specs.Refusal.{mostVectors, mostCoordinates, mostSize}
+use Rattle.lattices.specs.Laws.Refusal.{one-to}
+use Rattle.catalogue_rules.specs.Catalogue.{mostNumber, Head, See, Entry, coordinates}
 use Rattle.catalogue_rules.specs.Word.{Word, see, draft}
-use Rattle.catalogue_rules.specs.Write.{headWord, coordinateWord, draftWords, seeWords, entryWords}
+use Rattle.catalogue_rules.specs.Write.{headWords, coordinateWord, draftWords, seeWords, entryWords}
 use Rattle.catalogue_rules.specs.Form.{HeadFits, EntryFits}
 use Rattle.catalogue_rules.specs.Laws.EntriesAccepted.{count-coordinates, few-coordinates, all-near}
-use Rattle.catalogue_rules.specs.Laws.ReadEntries.{SeeFits, head-range}
+use Rattle.catalogue_rules.specs.Laws.ReadEntries.{SeeFits}
+use Rattle.catalogue_rules.specs.Laws.Opening.{numbers-room}
 use Rattle.text_parts.specs.declared.Kind.{Kind}
 use Rattle.text_parts.specs.declared.Kind.the-variants.{Semicolon, End}
 use Rattle.text_parts.specs.Numbers.{leading, read}
@@ -116,25 +118,36 @@ module _ (h : Head) (fits : HeadFits h) (s : List ℕ) where
   abbrev size : ℕ
   size = length (decimal (h .number)) + (length (spaced (map signed counts)) + 2)
 
+  number-most : h .number ≤ mostNumber (h .form)
+  number-most = one-to (mostNumber (h .form)) (h .number) (fits .number) .1
+
+  d-most : h .d ≤ mostVectors
+  d-most = one-to mostVectors (h .d) (fits .d) .1
+
+  m-most : h .m ≤ mostCoordinates
+  m-most = one-to mostCoordinates (h .m) (fits .m) .1
+
   head-taken : takenAt 3 headed ≡ taken (pos (h .number) ∷ counts) size Semicolon
   head-taken =
-      let r = head-range h fits in
+      let n : h .number ≤ 268435455 = omega (arith, number-most, numbers-room (h .form)) in
+      let d : h .d ≤ 15 = omega (arith, d-most) in
+      let m : h .m ≤ 15 = omega (arith, m-most) in
       part-goes 2 _ (signed-reads (pos (h .number)) (omega arith)) refl
       ∙ ap (more (read (length (decimal (h .number))) (pos (h .number)))) (part-back 2 counts (omega arith) (omega arith, (omega arith, tt)) (at-semicolon s))
 
   head-left : drop size headed ≡ s
   head-left = drop-append-add (decimal (h .number)) _ _ ∙ drop-append-add (spaced (map signed counts)) (32 ∷ 59 ∷ s) 2
 
-  head-back : (ws : List Word) → coordinatesFrom (h .d * h .m) (takenAt mostNumbers s) s ≡ some ws → lineFrom headed ≡ some (headWord h ∷ ws)
+  head-back : (ws : List Word) → coordinatesFrom (h .d * h .m) (takenAt mostNumbers s) s ≡ some ws → lineFrom (h .form) headed ≡ some (headWords h ++ ws)
   unfolding lineFrom
   head-back ws e =
-      let r = head-range h fits in
-      let p = le-leb (h .number) 1048575 (omega arith) in
-      let q = ap₂ _&&_ (le-leb (h .d) 15 (omega arith)) (le-leb (h .m) 15 (omega arith)) in
-      ap (λ p. headFrom p (drop (p .length) headed)) head-taken
-      ∙ ap (headFrom (taken (pos (h .number) ∷ counts) size Semicolon)) head-left
-      ∙ ap (λ b. cond b (before (headWord h ∷ []) (coordinatesFrom (h .d * h .m) (takenAt mostNumbers s) s)) none) (ap₂ _&&_ p q)
-      ∙ ap (before (headWord h ∷ [])) e
+      let f = h .form in
+      let p = le-leb (h .number) (mostNumber f) number-most in
+      let q = ap₂ _&&_ (le-leb (h .d) 15 (omega (arith, d-most))) (le-leb (h .m) 15 (omega (arith, m-most))) in
+      ap (λ p. headFrom f p (drop (p .length) headed)) head-taken
+      ∙ ap (headFrom f (taken (pos (h .number) ∷ counts) size Semicolon)) head-left
+      ∙ ap (λ b. cond b (before (headWords h) (coordinatesFrom (h .d * h .m) (takenAt mostNumbers s) s)) none) (ap₂ _&&_ p q)
+      ∙ ap (before (headWords h)) e
 
 -- ---- the line
 
@@ -144,11 +157,11 @@ lineOf e = decimal (e .head .number) ++ spaced (entryFields e)
 pub text-line : (e : Entry) → entryText e ≡ lineOf e ++ (10 ∷ [])
 text-line e = ap (λ l. decimal (e .head .number) ++ l) (after-spaced (entryFields e)) ∙ sym (append-assoc (decimal (e .head .number)) (spaced (entryFields e)) (10 ∷ []))
 
-pub line-back : (e : Entry) → EntryFits e → SeeFits (e .see) → lineFrom (lineOf e) ≡ some (entryWords e)
+pub line-back : (e : Entry) → EntryFits e → SeeFits (e .see) → lineFrom (e .head .form) (lineOf e) ≡ some (entryWords e)
 line-back e p q =
     let zs = coordinates (e .vectors) in
     let last = draftFields (e .draft) ++ seeFields (e .see) in
     let two = map signed (pos (e .head .d) ∷ pos (e .head .m) ∷ []) in
-    ap (λ l. lineFrom (decimal (e .head .number) ++ l)) (spaced-append two (semicolon ∷ (map signed zs ++ last)))
-    ∙ ap (λ s. lineFrom (headed (e .head) (p .head) s)) (spaced-append (map signed zs) last)
+    ap (λ l. lineFrom (e .head .form) (decimal (e .head .number) ++ l)) (spaced-append two (semicolon ∷ (map signed zs ++ last)))
+    ∙ ap (λ s. lineFrom (e .head .form) (headed (e .head) (p .head) s)) (spaced-append (map signed zs) last)
     ∙ head-back (e .head) (p .head) _ _ (coordinates-back zs _ (omega (arith, few-coordinates e p)) (count-coordinates e p) (all-near (e .head .m) (e .vectors) (p .vectors)) (e .draft) (e .see) q)

@@ -1,14 +1,14 @@
--- The text of a catalogue is cut into the lines of its entries: none holds a newline, and none is blank.
+-- The text of a catalogue is cut into the lines of its entries: none holds a newline, none is blank, and none is `new`.
 use mathlib.Core.Path.{_≡_, refl, ap, _∙_}
-use mathlib.Core.Logic.{inl}
-use mathlib.Core.Bool.{Bool, true, false, cond, not}
+use mathlib.Core.Logic.{inl, inr}
+use mathlib.Core.Bool.{Bool, true, false, cond, not, _&&_}
 use mathlib.Core.List.{List, [], _∷_, _++_, map}
 use mathlib.Core.Option.{Option, none, some}
-use Prim.Native.Nat.{ℕ, suc}
+use Prim.Native.Nat.{ℕ, suc, _+_}
 use native.Mathlib.Omega.{arith}
 use lib.Dec.{eqb}
 use lib.IntN.{ℤ, pos, negsuc}
-use lib.ListN.{length, take}
+use lib.ListN.{length, take, drop}
 use borrow.Author.Tests.{ne-eqb}
 use Rattle.integers.specs.All.{All}
 use Rattle.integers.specs.AllLaws.{all-append, all-imp}
@@ -16,8 +16,8 @@ use Rattle.integers.specs.Decimal.{decimal, signed}
 use Rattle.catalogue_rules.specs.Catalogue.{See, Entry, coordinates}
 use Rattle.text_parts.specs.Numbers.{leading}
 use Rattle.text_parts.specs.Tokens.{isBlank}
-use Rattle.text_rules.specs.Text.{semicolon, draftFields, seeFields, entryFields}
-use Rattle.text_rules.specs.Encoding.{onto, linesOf, isText, content, isEmpty}
+use Rattle.text_rules.specs.Text.{semicolon, draftFields, seeFields, entryFields, newWord}
+use Rattle.text_rules.specs.Encoding.{onto, linesOf, isText, content, isEmpty, beginsWith, isNewText, isNew}
 use Rattle.text_rules.specs.DecimalBack.{Tells, decimal-tells}
 use Rattle.text_rules.specs.NumberBack.{digit-is-not, digit-no-blank}
 use Rattle.text_rules.specs.PartBack.{spaced}
@@ -92,3 +92,17 @@ told-shown n (b ∷ s) rest t =
 
 pub line-shown : (e : Entry) → isEmpty (lineOf e) ≡ false
 line-shown e = told-shown (e .head .number) (decimal (e .head .number)) (spaced (entryFields e)) (decimal-tells (e .head .number))
+
+-- ---- not `new`
+
+told-no-new : (n : ℕ) (s rest : List ℕ) → Tells n s → isNewText (s ++ rest) ≡ false
+told-no-new n [] rest t = absurd (omega (arith, t .one))
+told-no-new n (b ∷ s) rest t =
+    let l = s ++ rest in
+    ap (λ c. let k = cond c (suc (leading isBlank l)) 0 in beginsWith newWord (drop k (b ∷ l)) && isEmpty (drop (k + 3) (b ∷ l))) (digit-no-blank b (t .digits .0))
+    ∙ ap (λ c. c && beginsWith (101 ∷ 119 ∷ []) l && isEmpty (drop 3 (b ∷ l))) (digit-is-not b 110 (t .digits .0) (inr (omega arith)))
+
+pub line-no-new : (e : Entry) → isNew (lineOf e) ≡ false
+line-no-new e =
+    ap isNewText (content-all (lineOf e) (line-plain e))
+    ∙ told-no-new (e .head .number) (decimal (e .head .number)) (spaced (entryFields e)) (decimal-tells (e .head .number))

@@ -1,10 +1,12 @@
--- The text of a catalogue, an entry to a line: `number d m ; coordinates`, `; draft` where it is a draft, and `; see` where there is a see word.
+-- The text of a catalogue, an entry to a line: `number d m ; coordinates`, `; draft` where it is a draft, and `; see` where there is a see word. In
+-- the new form a line `new` stands before them.
 use mathlib.Core.Bool.{Bool, true, false}
 use mathlib.Core.List.{List, [], _∷_, _++_, map}
 use mathlib.Core.Option.{Option, none, some}
 use Prim.Native.Nat.{ℕ}
 use Rattle.integers.specs.Decimal.{decimal, signed}
-use Rattle.catalogue_rules.specs.Catalogue.{See, Entry, coordinates}
+use Rattle.catalogue_rules.specs.Catalogue.{Form, old, new, See, Entry, coordinates}
+use Rattle.catalogue_rules.specs.Read.{formOf}
 use Rattle.text_layout.specs.Fields.{line}
 
 -- R13.1
@@ -34,6 +36,20 @@ abbrev pub entryText : Entry → List ℕ
 entryText e = line (decimal (e .head .number)) (entryFields e)
 
 -- R13.1
+abbrev pub entriesText : List Entry → List ℕ
+entriesText [] = []
+entriesText (e ∷ es) = entryText e ++ entriesText es
+
+-- R13.9: "new"
+abbrev pub newWord : List ℕ
+newWord = 110 ∷ 101 ∷ 119 ∷ []
+
+-- R13.9: the first line of a text in the new form
+abbrev pub formText : Option Form → List ℕ
+formText none = []
+formText (some old) = []
+formText (some new) = line newWord []
+
+-- R13.1, R13.9
 abbrev pub textOf : List Entry → List ℕ
-textOf [] = []
-textOf (e ∷ es) = entryText e ++ textOf es
+textOf es = formText (formOf es) ++ entriesText es

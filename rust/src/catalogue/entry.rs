@@ -2,7 +2,7 @@
 
 use std::fmt;
 
-use super::{write_out_to, CatalogueRefusal, MOST_BYTES, MOST_NUMBER};
+use super::{write_out_to, CatalogueRefusal, Form, MOST_BYTES};
 
 /// The kinds of words, in their top 4 bits; the other 28 are the load.
 const HEAD: u32 = 1;
@@ -10,6 +10,9 @@ const COORDINATE: u32 = 2;
 const SEE: u32 = 3;
 const END: u32 = 4;
 const MARK: u32 = 5;
+/// The two words of a head in the new form.
+const NUMBER: u32 = 6;
+const SIZE: u32 = 7;
 
 /// The load of a draft's mark.
 const DRAFT: u64 = 1;
@@ -24,7 +27,7 @@ const SHIFT: i64 = 20_000;
 #[derive(Clone, Debug, PartialEq, Eq, Hash)]
 #[non_exhaustive]
 pub struct Entry {
-    /// Its number, 1 to 1,048,575.
+    /// Its number, 1 to 1,048,575, or to 268,435,455 in the new form.
     pub number: u32,
     /// Its d vectors, of m coordinates each.
     pub vectors: Vec<Vec<i64>>,
@@ -117,8 +120,13 @@ impl std::error::Error for NoCatalogue {
     }
 }
 
-/// The catalogue with these entries, in this order.
+/// The catalogue with these entries, in this order, in the old form.
 pub fn from_entries(entries: &[Entry]) -> Result<Vec<u8>, NoCatalogue> {
+    from_entries_in(Form::Old, entries)
+}
+
+/// The catalogue with these entries, in this order, in this form. Without entries it is the same in both.
+pub fn from_entries_in(form: Form, entries: &[Entry]) -> Result<Vec<u8>, NoCatalogue> {
     if let Some(entry) = entries.iter().position(is_uneven) {
         return Err(NoCatalogue::Uneven { entry });
     }
@@ -126,7 +134,7 @@ pub fn from_entries(entries: &[Entry]) -> Result<Vec<u8>, NoCatalogue> {
     let mut words = vec![];
     for entry in entries {
         heads.push(words.len());
-        words.extend(entry_words(entry));
+        words.extend(entry_words(form, entry));
     }
     words.push(word(END, entries.len() as u64));
     let bytes: Vec<u8> = words.iter().flat_map(|w| w.to_le_bytes()).collect();
@@ -155,14 +163,18 @@ fn word(kind: u32, load: u64) -> u32 {
     kind << 28 | load.min(MOST_LOAD.into()) as u32
 }
 
-/// A head. A number that is too large becomes 0, and d or m over 15 becomes 15.
-fn head(entry: &Entry) -> u32 {
+/// A head. A number that is too large for the form becomes 0, and d or m over 15 becomes 15.
+fn head(form: Form, entry: &Entry) -> Vec<u32> {
     let number = match entry.number {
-        number @ ..=MOST_NUMBER => number,
+        number if number <= form.most_number() => number,
         _ => 0,
     };
     let (d, m) = (entry.d().min(15) as u32, entry.m().min(15) as u32);
-    word(HEAD, (number << 8 | d << 4 | m).into())
+    let size = d << 4 | m;
+    match form {
+        Form::Old => vec![word(HEAD, (number << 8 | size).into())],
+        Form::New => vec![word(NUMBER, number.into()), word(SIZE, size.into())],
+    }
 }
 
 /// A coordinate; one for which there is no load gets the greatest.
@@ -171,8 +183,8 @@ fn coordinate(x: i64) -> u32 {
     word(COORDINATE, load.unwrap_or(u64::MAX))
 }
 
-fn entry_words(entry: &Entry) -> Vec<u32> {
-    let mut words = vec![head(entry)];
+fn entry_words(form: Form, entry: &Entry) -> Vec<u32> {
+    let mut words = head(form, entry);
     words.extend(entry.vectors.iter().flatten().map(|&x| coordinate(x)));
     words.extend(entry.draft.then(|| word(MARK, DRAFT)));
     words.extend(entry.see.map(|n| word(SEE, n.into())));
@@ -186,15 +198,33 @@ pub fn entries(bytes: &[u8]) -> Result<Vec<Entry>, CatalogueRefusal> {
     Ok(entries_of(&out[..n]))
 }
 
-/// The entries of an accepted catalogue.
-fn entries_of(bytes: &[u8]) -> Vec<Entry> {
-    let mut words = bytes
+/// The form of a catalogue; none for one without entries, which belongs to both.
+pub fn form(bytes: &[u8]) -> Result<Option<Form>, CatalogueRefusal> {
+    super::check(bytes)?;
+    Ok(match words_of(bytes).next().map(kind) {
+        Some(HEAD) => Some(Form::Old),
+        Some(NUMBER) => Some(Form::New),
+        _ => None,
+    })
+}
+
+fn words_of(bytes: &[u8]) -> impl Iterator<Item = u32> + '_ {
+    bytes
         .chunks_exact(4)
         .map(|b| u32::from_le_bytes([b[0], b[1], b[2], b[3]]))
-        .peekable();
+}
+
+/// The entries of an accepted catalogue.
+fn entries_of(bytes: &[u8]) -> Vec<Entry> {
+    let mut words = words_of(bytes).peekable();
     let mut all = vec![];
-    while let Some(head) = words.next_if(|&w| kind(w) == HEAD) {
-        let (number, d, m) = (load(head) >> 8, load(head) >> 4 & 15, load(head) & 15);
+    while let Some(head) = words.next_if(|&w| kind(w) == HEAD || kind(w) == NUMBER) {
+        // the size of a head in the new form is where that of one word has it
+        let (number, size) = match words.next_if(|&w| kind(w) == SIZE) {
+            Some(size) => (load(head), size),
+            None => (load(head) >> 8, head),
+        };
+        let (d, m) = (size >> 4 & 15, size & 15);
         let coordinates: Vec<i64> = words
             .by_ref()
             .take((d * m) as usize)

@@ -1,12 +1,13 @@
-//! One catalogue: written out, folded, listed and looked up, and its entries read and written, against the reference.
+//! One catalogue: written out, folded, listed, moved to either form and looked up, and its entries read and written, against the reference.
 
 use raghymtos::catalogue::{self as engine, CatalogueRefusal};
 use raghymtos::raw::{self, ANSWER_NUMBERS};
 use reference::catalogue::fold::{folded, standing};
 use reference::catalogue::listing::listing;
-use reference::catalogue::reader::read;
+use reference::catalogue::moves::moved;
+use reference::catalogue::reader::{form, read, shown};
 use reference::catalogue::writer::write;
-use reference::catalogue::{lend, looked_up, Entry, Refused};
+use reference::catalogue::{lend, looked_up, Entry, Form, Refused};
 
 use crate::lent::written;
 
@@ -21,7 +22,7 @@ pub enum Rooms {
 }
 
 /// A function that writes to a lent output, as the header has it and as the Rust crate has it.
-struct Writing {
+pub struct Writing {
     name: &'static str,
     into: fn(&[u8], &mut [u8], &mut [i64]) -> bool,
     wrapped: fn(&[u8], &mut [u8]) -> Result<usize, CatalogueRefusal>,
@@ -45,10 +46,36 @@ const LIST: Writing = Writing {
     wrapped: engine::list_to,
 };
 
+/// The move to a form.
+pub fn writing_of_move(to: Form) -> Writing {
+    match to {
+        Form::Old => Writing {
+            name: "old_form",
+            into: raw::old_form,
+            wrapped: engine::old_form_to,
+        },
+        Form::New => Writing {
+            name: "new_form",
+            into: raw::new_form,
+            wrapped: engine::new_form_to,
+        },
+    }
+}
+
+/// The form as the Rust crate has it.
+pub fn wrapped_form(form: Form) -> engine::Form {
+    match form {
+        Form::Old => engine::Form::Old,
+        Form::New => engine::Form::New,
+    }
+}
+
 /// What was compared: the refusals of each call, and that of the catalogue itself.
 #[derive(Default)]
 pub struct Compared {
     pub refused: Option<Refused>,
+    /// The form, where the catalogue is accepted and has entries.
+    pub form: Option<Form>,
     /// The m of each entry, where the catalogue is accepted, and whether one is a draft.
     pub widths: Vec<usize>,
     pub has_drafts: bool,
@@ -63,15 +90,19 @@ pub fn compare(bytes: &[u8], rooms: Rooms) -> Result<Compared, String> {
     let entries = read(bytes);
     let mut seen = Compared {
         refused: entries.as_ref().err().copied(),
+        form: form(bytes).filter(|_| entries.is_ok()),
         widths: entries.iter().flatten().map(Entry::m).collect(),
         has_drafts: entries.iter().flatten().any(|e| e.draft),
         ..Compared::default()
     };
+    let write = |entries: &[Entry]| write(shown(bytes), entries);
     let whole = entries.as_ref().map(|e| write(e)).map_err(|r| *r);
     let fold = entries.as_ref().map(|e| write(&folded(e))).map_err(|r| *r);
     let list = entries.as_ref().map(|_| listing(bytes).into_bytes());
     let list = list.map_err(|r| *r);
-    for (writing, expected) in [(WRITE_OUT, whole), (FOLD, fold), (LIST, list)] {
+    let mut all = vec![(WRITE_OUT, whole), (FOLD, fold), (LIST, list)];
+    all.extend(Form::BOTH.map(|to| (writing_of_move(to), moved(to, bytes))));
+    for (writing, expected) in all {
         for room in lengths(&expected, rooms) {
             let refused = written_alike(&writing, bytes, &expected, room)?;
             seen.writings += 1;
@@ -95,7 +126,7 @@ pub fn compare(bytes: &[u8], rooms: Rooms) -> Result<Compared, String> {
 }
 
 /// One byte too few, just enough, some more; or all lengths from none on.
-fn lengths(expected: &Result<Vec<u8>, Refused>, rooms: Rooms) -> Vec<usize> {
+pub fn lengths(expected: &Result<Vec<u8>, Refused>, rooms: Rooms) -> Vec<usize> {
     match (expected, rooms) {
         (Err(_), _) => vec![0, 80],
         (Ok(all), Rooms::Few) => vec![all.len() - 1, all.len(), all.len() + 5],
@@ -105,18 +136,18 @@ fn lengths(expected: &Result<Vec<u8>, Refused>, rooms: Rooms) -> Vec<usize> {
 
 /// The number of every entry, which are those of see words too, and some that no entry has. Of a large catalogue, which takes long,
 /// every twentieth.
-fn numbers(entries: &[Entry]) -> Vec<u32> {
+pub fn numbers(entries: &[Entry]) -> Vec<u32> {
     let step = if entries.len() < 100 { 1 } else { 20 };
     let mut all: Vec<u32> = entries.iter().step_by(step).map(|e| e.number).collect();
-    // equal in its lowest 20 bits to one that an entry has
-    let far = all.first().map_or(0, |n| n + (1 << 20));
+    // equal in the lowest 20 or 28 bits to one that an entry has
+    let far = |bits: u32| entries.first().map_or(0, |e| e.number + (1 << bits));
     let next = entries.iter().map(|e| e.number).max().map_or(1, |n| n + 1);
-    all.extend([0, next, far, u32::MAX]);
+    all.extend([0, next, far(20), far(28), u32::MAX]);
     all
 }
 
 /// One call: the output and the answer as the reference gives them. Gives the refusal.
-fn written_alike(
+pub fn written_alike(
     writing: &Writing,
     bytes: &[u8],
     expected: &Result<Vec<u8>, Refused>,
@@ -150,7 +181,7 @@ fn written_alike(
 }
 
 /// One call with Rust's types: what is written, or the refusal.
-fn wrapped_alike(
+pub fn wrapped_alike(
     writing: &Writing,
     bytes: &[u8],
     expected: &Result<Vec<u8>, Refused>,
@@ -172,9 +203,13 @@ fn wrapped_alike(
     }
 }
 
-/// The entries with Rust's types, which are plain Rust: read, and made into a catalogue again.
+/// The form and the entries with Rust's types, which are plain Rust: read, and made into a catalogue again.
 fn entries_alike(bytes: &[u8], expected: &Result<Vec<Entry>, Refused>) -> Result<(), String> {
-    let given = engine::entries(bytes);
+    let (given, given_form) = (engine::entries(bytes), engine::form(bytes));
+    let wanted_form = form(bytes).map(wrapped_form);
+    if given_form.ok() != expected.as_ref().ok().map(|_| wanted_form) {
+        return Err(format!("form: the Rust wrapper gives {given_form:?}"));
+    }
     let is_alike = match (&given, expected) {
         (Ok(given), Ok(expected)) => {
             let same = given.len() == expected.len()
@@ -182,7 +217,8 @@ fn entries_alike(bytes: &[u8], expected: &Result<Vec<Entry>, Refused>) -> Result
                     let wanted = (b.number, &b.vectors, b.draft, b.see);
                     (a.number, &a.vectors, a.draft, a.see) == wanted
                 });
-            same && engine::from_entries(given).as_deref() == Ok(bytes)
+            let again = engine::from_entries_in(wrapped_form(shown(bytes)), given);
+            same && again.as_deref() == Ok(bytes)
         }
         (Err(refusal), Err(r)) => number_and_place(*refusal) == (r.number as i64, r.place),
         _ => false,

@@ -1,10 +1,12 @@
-//! Catalogues: random ones and damaged ones, every truncation of a few, every byte of three small ones changed, outputs of every length.
+//! Catalogues of both forms: random ones and damaged ones, every truncation of a few, every byte of six small ones changed, outputs of every
+//! length.
 
 use reference::catalogue::cases::{case, kind, Kind};
-use reference::catalogue::writer;
+use reference::catalogue::moves::moved;
+use reference::catalogue::{writer, Form};
 
 use crate::catalogue::{self, Rooms};
-use crate::refusals::Refusals;
+use crate::refusals::{Call, Refusals};
 use crate::widths::Widths;
 
 /// Document 01's catalogue.
@@ -35,10 +37,12 @@ const LENT: usize = 20;
 const ENOUGH: usize = 100_000;
 
 /// How many catalogues were accepted, or refused with each number at each kind of place, and what was called.
-#[derive(Default)]
 struct Counts {
     accepted: u64,
-    /// Of these, with drafts.
+    /// Of these, in the new form, and without entries.
+    new: u64,
+    empty: u64,
+    /// With drafts.
     drafts: u64,
     refusals: Refusals,
     /// Accepted catalogues with an entry of each m.
@@ -50,12 +54,31 @@ struct Counts {
 }
 
 impl Counts {
+    fn new() -> Counts {
+        Counts {
+            accepted: 0,
+            new: 0,
+            empty: 0,
+            drafts: 0,
+            refusals: Refusals::new(Call::Reading),
+            widths: Widths::default(),
+            writings: 0,
+            short_outputs: 0,
+            lookups: 0,
+            absent_numbers: 0,
+        }
+    }
+
     fn compare(&mut self, bytes: &[u8], rooms: Rooms, of: &str) -> Result<(), String> {
         let seen = catalogue::compare(bytes, rooms)
             .map_err(|what| format!("{what}\n{of}, in hexadecimal:\n{}", hexadecimal(bytes)))?;
-        match seen.refused {
-            None => self.accepted += 1,
-            Some(r) => self.refusals.add(bytes, r),
+        match (seen.refused, seen.form) {
+            (None, form) => {
+                self.accepted += 1;
+                self.new += (form == Some(Form::New)) as u64;
+                self.empty += form.is_none() as u64;
+            }
+            (Some(r), _) => self.refusals.add(bytes, r),
         }
         self.drafts += seen.has_drafts as u64;
         self.widths.add_each(seen.widths.into_iter());
@@ -72,23 +95,34 @@ impl Counts {
 
     fn print(&self) {
         println!(
-            "{} catalogues as the reference answers them: {} accepted, {} of them with drafts",
+            "{} catalogues as the reference answers them: {} accepted, {} of them in the new form, {} without entries, {} with drafts; refused at {} \
+             kinds of places",
             self.total(),
             self.accepted,
-            self.drafts
+            self.new,
+            self.empty,
+            self.drafts,
+            self.refusals.kinds()
         );
         self.refusals.print();
+        self.refusals.print_loads();
         println!(
             "{} writings, refused with 16: {}; {} lookups, refused with 17: {}",
             self.writings, self.short_outputs, self.lookups, self.absent_numbers
         );
     }
 
-    /// Every refusal at every kind of place that it can have, and catalogues accepted with drafts and without.
-    fn is_complete(&self) -> bool {
+    /// Every refusal at every kind of place that it can have, and catalogues accepted in both forms, with drafts and without.
+    fn check(&self) -> Result<(), String> {
+        self.refusals.check()?;
+        self.refusals.check_loads()?;
         let is_accepted = self.accepted > self.drafts && self.drafts > 0;
+        let is_formed = self.new > 0 && self.empty > 0 && self.accepted > self.new + self.empty;
         let is_called = self.short_outputs > 0 && self.absent_numbers > 0;
-        self.refusals.is_complete() && is_accepted && is_called
+        match is_accepted && is_formed && is_called {
+            true => Ok(()),
+            false => Err("the cases: a form, a draft or none, 16 or 17 did not occur".into()),
+        }
     }
 }
 
@@ -98,15 +132,18 @@ fn hexadecimal(bytes: &[u8]) -> String {
 
 /// Compares so many random catalogues of a seed, then the complete series.
 pub fn compare(count: usize, seed: u64) -> Result<(), String> {
-    let mut counts = Counts::default();
+    let mut counts = Counts::new();
     for index in 0..count {
         let of = format!("seed {seed}, index {index}, kind {:?}", kind(index));
         counts.compare(&case(seed, index), Rooms::Few, &of)?;
     }
-    let small = [&SMALL[..], &WIDE, &DRAFT].map(writer::bytes);
-    for bytes in &small {
-        truncations(&mut counts, bytes)?;
-        changes(&mut counts, bytes)?;
+    for words in [&SMALL[..], &WIDE, &DRAFT] {
+        let old = writer::bytes(words);
+        let new = moved(Form::New, &old).expect("they are accepted");
+        for bytes in [old, new] {
+            truncations(&mut counts, &bytes)?;
+            changes(&mut counts, &bytes)?;
+        }
     }
     for wanted in [Kind::Accepted, Kind::Longer] {
         for bytes in of_kind(wanted, seed, CUT) {
@@ -118,11 +155,10 @@ pub fn compare(count: usize, seed: u64) -> Result<(), String> {
     }
     counts.print();
     counts.widths.print("catalogues accepted", count)?;
-    if count < ENOUGH || counts.is_complete() {
-        Ok(())
-    } else {
-        Err("the cases: a refusal did not occur at each kind of its places, or at another".into())
+    if count < ENOUGH {
+        return Ok(());
     }
+    counts.check()
 }
 
 fn of_kind(wanted: Kind, seed: u64, count: usize) -> Vec<Vec<u8>> {

@@ -1,4 +1,4 @@
-//! The command line on random catalogues: folded, listed, looked up, and turned into text and back.
+//! The command line on random catalogues: folded, listed, looked up, moved to either form, and turned into text and back.
 
 use std::io::Write;
 use std::process::{Command, Stdio};
@@ -6,10 +6,11 @@ use std::process::{Command, Stdio};
 use reference::catalogue::cases::case;
 use reference::catalogue::fold::folded;
 use reference::catalogue::listing::listing;
-use reference::catalogue::reader::read;
+use reference::catalogue::moves::moved;
+use reference::catalogue::reader::{read, shown};
 use reference::catalogue::text::{commented, text};
 use reference::catalogue::writer::write;
-use reference::catalogue::{lookup, Entry, Refused};
+use reference::catalogue::{lookup, Entry, Form, Refused};
 use reference::random::Random;
 
 use crate::widths::Widths;
@@ -78,13 +79,16 @@ pub fn said<T>(outcome: Result<T, Refused>, accepted: impl FnOnce(T) -> Vec<u8>)
     }
 }
 
-/// Folds, lists, looks up and decodes one catalogue, and encodes its text.
+/// Folds, lists, moves, looks up and decodes one catalogue, and encodes its text.
 pub fn compare_one(bytes: &[u8], random: &mut Random) -> Result<(), String> {
-    let outcome = read(bytes);
+    let (outcome, form) = (read(bytes), shown(bytes));
     same(&["list"], bytes, listing(bytes).into_bytes())?;
-    let fold = |es: Vec<Entry>| write(&folded(&es));
+    let fold = |es: Vec<Entry>| write(form, &folded(&es));
     same(&["fold"], bytes, said(outcome.clone(), fold))?;
-    let decoded = |es: Vec<Entry>| text(&es).into_bytes();
+    for (command, to) in [("new-form", Form::New), ("old-form", Form::Old)] {
+        same(&[command], bytes, said(moved(to, bytes), |bytes| bytes))?;
+    }
+    let decoded = |es: Vec<Entry>| text(form, &es).into_bytes();
     same(&["decode"], bytes, said(outcome.clone(), decoded))?;
     let number = outcome
         .as_ref()
@@ -97,7 +101,7 @@ pub fn compare_one(bytes: &[u8], random: &mut Random) -> Result<(), String> {
     )?;
     match outcome {
         Ok(entries) => {
-            let texts = [text(&entries), commented(&entries, random)];
+            let texts = [text(form, &entries), commented(form, &entries, random)];
             texts
                 .iter()
                 .try_for_each(|t| same(&["encode"], t.as_bytes(), bytes.to_vec()))
@@ -120,8 +124,8 @@ pub fn compare(count: usize, seed: u64) -> Result<(), String> {
         drafts += entries.iter().any(|e| e.draft) as u64;
     }
     println!(
-        "{count} catalogues by the command line, with drafts {drafts}: folded, listed, looked up, decoded and encoded, with comments and without, \
-         as the reference does"
+        "{count} catalogues by the command line, with drafts {drafts}: folded, listed, moved to either form, looked up, decoded and encoded, with \
+         comments and without, as the reference does"
     );
     widths.print("catalogues accepted", count)
 }

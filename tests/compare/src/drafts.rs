@@ -1,19 +1,23 @@
 //! The small catalogues with drafts whose outcome the reference has by hand, by the library and by the command line.
 
 use reference::catalogue::drafts::{ACCEPTED, WRONG};
-use reference::catalogue::text::entries;
-use reference::catalogue::writer::{bytes, write};
+use reference::catalogue::moves::moved;
+use reference::catalogue::text::encoded;
+use reference::catalogue::writer::bytes;
+use reference::catalogue::Form;
 use reference::random::Random;
 
 use crate::catalogue::{self, Rooms};
 use crate::commands;
 
-/// Each of them, with its name.
+/// Each of them, with its name; those that are accepted in both forms.
 fn all() -> Vec<(&'static str, Vec<u8>)> {
-    let of_text = |text: &str| write(&entries(text).expect("an accepted catalogue"));
-    let accepted = ACCEPTED.iter().map(|a| (a.name, of_text(a.text)));
+    let of_text = |text: &str| encoded(text).expect("an accepted catalogue");
+    let old = ACCEPTED.iter().map(|a| (a.name, of_text(a.text)));
+    let new = |bytes: Vec<u8>| moved(Form::New, &bytes).expect("an accepted catalogue");
+    let new = old.clone().map(|(name, bytes)| (name, new(bytes)));
     let wrong = WRONG.iter().map(|w| (w.name, bytes(w.words)));
-    accepted.chain(wrong).collect()
+    old.chain(new).chain(wrong).collect()
 }
 
 /// Compares the library, with outputs of every length.

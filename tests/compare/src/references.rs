@@ -5,7 +5,7 @@ use reference::catalogue::fold::{carried, folded, leads, standing};
 use reference::catalogue::listing::listing;
 use reference::catalogue::made::referring;
 use reference::catalogue::writer::write;
-use reference::catalogue::Entry;
+use reference::catalogue::{Entry, Form};
 use reference::random::Random;
 
 use crate::widths::Widths;
@@ -148,14 +148,16 @@ pub fn compare(count: usize, seed: u64) -> Result<(), String> {
     let mut counts = Counts::default();
     for index in 0..count {
         let mut random = Random::new(seed ^ (index as u64).wrapping_mul(0x9FB2_1C65_1E98_DF25));
-        let mut entries = referring(&mut random);
+        let form = random.pick(&Form::BOTH);
+        let mut entries = referring(form, &mut random);
         counts.add(&entries);
-        let of =
-            |what, entries: &[Entry]| format!("{what}\nseed {seed}, index {index}:\n{entries:?}");
-        answered_alike(&entries).map_err(|what| of(what, &entries))?;
+        let of = |what, entries: &[Entry]| {
+            format!("{what}\nseed {seed}, index {index}, {form:?}:\n{entries:?}")
+        };
+        answered_alike(form, &entries).map_err(|what| of(what, &entries))?;
         if index % UNMARKED == 0 {
             entries.iter_mut().for_each(|e| e.draft = false);
-            answered_alike(&entries).map_err(|what| of(what, &entries))?;
+            answered_alike(form, &entries).map_err(|what| of(what, &entries))?;
         }
     }
     counts.print(count);
@@ -167,8 +169,8 @@ pub fn compare(count: usize, seed: u64) -> Result<(), String> {
     }
 }
 
-fn answered_alike(entries: &[Entry]) -> Result<(), String> {
-    let (bytes, wanted) = (write(entries), write(&folded(entries)));
+fn answered_alike(form: Form, entries: &[Entry]) -> Result<(), String> {
+    let (bytes, wanted) = (write(form, entries), write(form, &folded(entries)));
     for (bytes, of) in [(&bytes, "the fold"), (&wanted, "the fold again")] {
         let given = engine::fold(bytes);
         if given.as_deref() != Ok(&wanted[..]) {

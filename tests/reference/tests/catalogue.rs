@@ -5,10 +5,10 @@ use reference::catalogue::fold::{folded, standing};
 use reference::catalogue::hermite::hermite;
 use reference::catalogue::listing::listing;
 use reference::catalogue::made::largest;
-use reference::catalogue::reader::{read, words};
-use reference::catalogue::text::{commented, entries, text};
+use reference::catalogue::reader::{read, shown, words};
+use reference::catalogue::text::{commented, encoded, entries, parsed, text};
 use reference::catalogue::writer::{bytes, write};
-use reference::catalogue::{fold, lookup, write_out, Refused, MOST_BYTES};
+use reference::catalogue::{fold, lookup, write_out, Form, Refused};
 use reference::random::Random;
 use reference::vectors::coordinate;
 
@@ -82,11 +82,11 @@ fn rows_of_the_table() {
 /// Entries of eight and of five coordinates: 2 has the lattice of 1 in another basis, 3 has another m.
 #[test]
 fn wide_entries() {
-    let list = entries(
+    let bytes = encoded(
         "1 2 8 ; 0 0 0 0 0 0 1 1 0 0 0 0 0 0 0 3 ; 3\n2 2 8 ; 0 0 0 0 0 0 -1 2 0 0 0 0 0 0 2 -1 ; 2\n\
          3 2 5 ; 0 0 0 1 1 0 0 0 0 3 ; 2\n4 2 8 ; 0 0 0 0 0 0 1 2 0 0 0 0 0 0 0 4\n",
     );
-    let bytes = write(&list.unwrap());
+    let bytes = bytes.unwrap();
     assert_eq!(words(&bytes)[..2], [0x10000128, 0x20004E20]);
     let expected = "4 3\n1 1 3 1\nv 0 0 0 0 0 0 1 1\nv 0 0 0 0 0 0 -1 2\n2 1 0 2\n\
                     3 3 1 1\nv 0 0 0 1 1\nv 0 0 0 -1 2\n4 4 0 2\nv 0 0 0 0 0 0 -2 0\nv 0 0 0 0 0 0 -1 2\n";
@@ -98,13 +98,15 @@ fn wide_entries() {
 /// 256 entries of four vectors of eight coordinates, drafts with see words, are the most bytes that are read.
 #[test]
 fn the_largest_catalogue() {
-    let all = largest(&mut Random::new(5));
-    let mut bytes = write(&all);
-    assert_eq!(bytes.len(), MOST_BYTES);
-    assert!(all.iter().all(|e| (e.d(), e.m(), e.draft) == (4, 8, true)));
-    assert_eq!(read(&bytes), Ok(all));
-    bytes.extend([0, 0, 0, 0x40]);
-    assert_eq!(read(&bytes).map_err(|r| r.number), Err(9));
+    for form in Form::BOTH {
+        let all = largest(form, &mut Random::new(5));
+        let mut bytes = write(form, &all);
+        assert_eq!(bytes.len(), form.most_bytes());
+        assert!(all.iter().all(|e| (e.d(), e.m(), e.draft) == (4, 8, true)));
+        assert_eq!(read(&bytes), Ok(all));
+        bytes.extend([0, 0, 0, 0x40]);
+        assert_eq!(read(&bytes).map_err(|r| r.number), Err(9));
+    }
 }
 
 /// Every vector is a combination with whole coefficients, by Cramer's rule.
@@ -182,7 +184,7 @@ const CARRIED: [(&str, &str); 7] = [
 #[test]
 fn the_first_see_word_that_leads_to_another() {
     for (lines, wanted) in CARRIED {
-        assert_eq!(text(&folded(&entries(lines).unwrap())), wanted);
+        assert_eq!(text(Form::Old, &folded(&entries(lines).unwrap())), wanted);
     }
 }
 
@@ -190,11 +192,12 @@ fn the_first_see_word_that_leads_to_another() {
 fn folding_again_gives_the_same() {
     let mut shorter = 0;
     for i in 0..5_000 {
-        let Ok(list) = read(&case(3, i)) else {
+        let bytes = case(3, i);
+        let Ok(list) = read(&bytes) else {
             continue;
         };
         let once = folded(&list);
-        assert_eq!(read(&write(&once)), Ok(once.clone()));
+        assert_eq!(read(&write(shown(&bytes), &once)), Ok(once.clone()));
         assert_eq!(folded(&once), once);
         assert!(standing(&once).iter().enumerate().all(|(i, &s)| i == s));
         shorter += (once.len() < list.len()) as u64;
@@ -206,9 +209,12 @@ fn folding_again_gives_the_same() {
 fn text_and_back() {
     let mut random = Random::new(4);
     for i in 0..2_000 {
-        if let Ok(list) = read(&case(4, i)) {
-            assert_eq!(entries(&commented(&list, &mut random)), Ok(list.clone()));
-            assert_eq!(entries(&text(&list)), Ok(list));
+        let bytes = case(4, i);
+        if let Ok(list) = read(&bytes) {
+            let form = shown(&bytes);
+            let again = parsed(&commented(form, &list, &mut random));
+            assert_eq!(again, Ok((form, list.clone())));
+            assert_eq!(encoded(&text(form, &list)), Ok(bytes));
         }
     }
     assert_eq!(entries("1 1 1 ; 5\n2 1 1 ; \n"), Err(2));

@@ -7,20 +7,23 @@ use reference::catalogue::listing::listing;
 use reference::catalogue::made::referring;
 use reference::catalogue::reader::{read, words};
 use reference::catalogue::separation::separate;
-use reference::catalogue::text::{entries, text};
+use reference::catalogue::text::{encoded, entries, text};
 use reference::catalogue::writer::{bytes, write};
-use reference::catalogue::{fold, lookup, Entry, Refused};
+use reference::catalogue::{fold, lookup, Entry, Form, Refused};
 use reference::random::Random;
 
 #[test]
 fn folded_and_listed() {
     for known in ACCEPTED {
         let list = entries(known.text).unwrap();
-        assert_eq!(text(&list), known.text, "{}", known.name);
-        let bytes = write(&list);
-        assert_eq!(read(&bytes), Ok(list.clone()), "{}", known.name);
-        assert_eq!(text(&folded(&list)), known.folded, "{}", known.name);
-        assert_eq!(listing(&bytes), known.listing, "{}", known.name);
+        let of_old = |list: &[Entry]| text(Form::Old, list);
+        assert_eq!(of_old(&list), known.text, "{}", known.name);
+        assert_eq!(of_old(&folded(&list)), known.folded, "{}", known.name);
+        for form in Form::BOTH {
+            let bytes = write(form, &list);
+            assert_eq!(read(&bytes), Ok(list.clone()), "{}", known.name);
+            assert_eq!(listing(&bytes), known.listing, "{}", known.name);
+        }
     }
 }
 
@@ -28,7 +31,7 @@ fn folded_and_listed() {
 #[test]
 fn looked_up() {
     for known in ACCEPTED {
-        let bytes = write(&entries(known.text).unwrap());
+        let bytes = encoded(known.text).unwrap();
         let lines = known.listing.lines().skip(1);
         let mut found = 0;
         for line in lines.filter(|l| !l.starts_with('v')) {
@@ -43,12 +46,12 @@ fn looked_up() {
 /// The words of an entry of the request, "7 2 2 ; 1 0 4 1 ; draft ; 12", and of the entry that it names.
 #[test]
 fn words_of_a_draft() {
-    let list = entries("7 2 2 ; 1 0 4 1 ; draft ; 12\n12 2 2 ; 0 1 1 0\n").unwrap();
+    let bytes_of = encoded("7 2 2 ; 1 0 4 1 ; draft ; 12\n12 2 2 ; 0 1 1 0\n");
     let all = [
         0x10000722, 0x20004E21, 0x20004E20, 0x20004E24, 0x20004E21, 0x50000001, 0x3000000C,
         0x10000C22, 0x20004E20, 0x20004E21, 0x20004E21, 0x20004E20, 0x40000002,
     ];
-    assert_eq!(words(&write(&list)), all);
+    assert_eq!(words(&bytes_of.unwrap()), all);
     let mut out = [0x55; 56];
     assert_eq!(fold(&bytes(&all), &mut out), Ok(24));
     assert_eq!(words(&out[..20]), all[7..12]);
@@ -128,7 +131,7 @@ fn unmarked(list: &[Entry]) -> Vec<Entry> {
 fn standing_entries() {
     let mut random = Random::new(11);
     for _ in 0..3_000 {
-        let list = referring(&mut random);
+        let list = referring(Form::New, &mut random);
         let (now, before) = (standing(&list), standing(&unmarked(&list)));
         for i in 0..list.len() {
             let of_one = |k: &usize| before[*k] == before[i];
@@ -147,7 +150,7 @@ fn standing_entries() {
 fn what_drafts_leave() {
     let mut random = Random::new(12);
     for _ in 0..1_000 {
-        let list = referring(&mut random);
+        let list = referring(Form::New, &mut random);
         let plain = unmarked(&list);
         let all_drafts: Vec<Entry> = plain
             .iter()
@@ -159,14 +162,16 @@ fn what_drafts_leave() {
         let once = folded(&all_drafts);
         assert!(once.iter().all(|e| e.draft));
         assert_eq!(unmarked(&once), folded(&plain));
-        assert_eq!(listing(&write(&all_drafts)), listing(&write(&plain)));
+        let listed = |list: &[Entry]| listing(&write(Form::New, list));
+        assert_eq!(listed(&all_drafts), listed(&plain));
         let leading = |list: &[Entry]| -> Vec<bool> {
             let led = leads(list, &standing(list));
             led.iter().map(Option::is_some).collect()
         };
         assert_eq!(leading(&list), leading(&plain));
         let two = [0, 1].map(|_| random.pick(&list.iter().map(|e| e.number).collect::<Vec<_>>()));
-        let [marked, plain] = [&list, &plain].map(|l| separate(&write(l), two[0], two[1]));
+        let separated = |l: &[Entry]| separate(&write(Form::New, l), two[0], two[1]);
+        let [marked, plain] = [&list, &plain].map(|l| separated(l));
         assert_eq!(marked, plain);
     }
 }

@@ -4,8 +4,7 @@ use std::fs::{read, read_to_string};
 use std::path::Path;
 
 use reference::catalogue::listing::listing;
-use reference::catalogue::text::{entries, text};
-use reference::catalogue::writer::write;
+use reference::catalogue::text::{decoded, encoded};
 
 /// The lines that are entries.
 fn without_comments(text: &str) -> String {
@@ -18,11 +17,10 @@ fn counts(name: &str) -> String {
     let folder = Path::new(env!("CARGO_MANIFEST_DIR")).join("../../samples");
     let path = |end: &str| folder.join(format!("{name}.{end}"));
     let words = read_to_string(path("txt")).unwrap();
-    let list = entries(&words).unwrap();
     let bytes = read(path("catalogue")).unwrap();
     let lines = read_to_string(path("listing")).unwrap();
-    assert_eq!(text(&list), without_comments(&words));
-    assert_eq!(write(&list), bytes);
+    assert_eq!(decoded(&bytes), Ok(without_comments(&words)));
+    assert_eq!(encoded(&words).as_ref(), Ok(&bytes));
     assert_eq!(listing(&bytes), lines);
     lines.lines().next().unwrap().to_string()
 }

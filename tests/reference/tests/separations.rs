@@ -3,8 +3,7 @@
 use reference::catalogue::pairs::{pair, Kind, Pair};
 use reference::catalogue::reader::read;
 use reference::catalogue::separation::{separate, Separation};
-use reference::catalogue::text::entries;
-use reference::catalogue::writer::write;
+use reference::catalogue::text::encoded;
 use reference::catalogue::{Entry, Refused};
 use reference::enumeration::box_nearest;
 use reference::vectors::{coordinate, minus, rank, square};
@@ -137,7 +136,7 @@ fn examples() -> Vec<(&'static str, &'static str, Separation, Separation)> {
 /// Both entries with these numbers.
 fn catalogue(a: (u32, &str), b: (u32, &str)) -> Vec<u8> {
     let text = format!("{} {}\n{} {}\n", a.0, a.1, b.0, b.1);
-    write(&entries(&text).unwrap())
+    encoded(&text).unwrap()
 }
 
 #[test]

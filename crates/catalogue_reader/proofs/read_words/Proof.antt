@@ -97,17 +97,17 @@ mul-entries c = let t = c .before .before .before in omega (arith, t .if2 .taken
 array-set-from-entries : tie.Need-array-set-from-entries Inv-loop μ-loop
 array-set-from-entries c = let t = c .before .before .before in omega (arith, t .if2 .taken, few (t .before .before))
 
-note-requires : tie.Need-note-requires Inv-loop μ-loop
-note-requires c κs =
-    let e = c .before .before .before in
-    let s = e .before .before in
-    counted-head _ _ (s .before .before .before .before .before .loop .inv .1) (here s) (word s) (s .step .ensures) (goes e)
-
 store-requires : tie.Need-store-requires Inv-loop μ-loop
 store-requires c κs =
-    let e = c .before .before .before .before .before in
+    let e = c .before .before .before in
     let s = e .before .before in
     counted-cell _ _ (s .before .before .before .before .before .loop .inv .1) (here s) (word s) (s .step .ensures) (goes e)
+
+note-requires : tie.Need-note-requires Inv-loop μ-loop
+note-requires c κs =
+    let e = c .before .before .before .before .before in
+    let s = e .before .before in
+    counted-head _ _ (s .before .before .before .before .before .loop .inv .1) (here s) (word s) (s .step .ensures) (goes e)
 
 add-i : tie.Need-add-i Inv-loop μ-loop
 add-i c =
@@ -119,8 +119,8 @@ loop-less c = let i = c .before .before .before .before .before .before .before 
 
 loop-again : tie.Need-loop-again Inv-loop μ-loop
 loop-again c =
-    let n = c .before .before in
-    let j = n .before .before in
+    let p = c .before .before in
+    let j = p .before .before in
     let e = j .before .before in
     let s = e .before .before in
     let i = s .before .before .before .before in
@@ -129,11 +129,11 @@ loop-again c =
     let part = l .loop .s .part in
     let stores : j .if2 .entries ≡ put (l .loop .entries) (l .loop .s) (s .step .result) (l .loop .coordinates) (l .loop .i) w =
     ⊎-elim
-    (λ x. x .4 ∙ ap (set (l .loop .entries) (l .loop .s .count)) (x .3 .ensures ∙ ap (λ cs. wholeAt part cs (l .loop .i) w) (x .2 .ensures))
+    (λ x. x .4 ∙ ap (set (l .loop .entries) (l .loop .s .count)) (x .3 .ensures ∙ ap (λ cs. wholeAt part (s .step .result .form) cs (l .loop .i) w) (x .2 .ensures))
     ∙ stores-one (l .loop .entries) (l .loop .s) (s .step .result) (l .loop .coordinates) (l .loop .i) w (x .0 .taken))
     (λ x. x .1 ∙ stores-none (l .loop .entries) (l .loop .s) (s .step .result) (l .loop .coordinates) (l .loop .i) w (x .0 .left))
     (j .if2 .came) in
-    (omega (arith, i .loop-test .taken), keeps _ _ (l .loop .inv .1) (here s) (word s) (s .step .ensures) (goes e) stores (n .note .ensures) (c .store .ensures))
+    (omega (arith, i .loop-test .taken), keeps _ _ (l .loop .inv .1) (here s) (word s) (s .step .ensures) (goes e) stores (c .note .ensures) (p .store .ensures))
 
 closed-requires : tie.Need-closed-requires Inv-loop μ-loop
 closed-requires c κs = search needs
@@ -176,8 +176,8 @@ read-words-spec =
     whole-requires
     mul-entries
     array-set-from-entries
-    note-requires
     store-requires
+    note-requires
     add-i
     loop-less
     loop-again

@@ -11,10 +11,10 @@ use lib.Seq.{append-snoc}
 use borrow.Author.Tests.{eqb-true, ltb-false, not-false}
 use Rattle.lattices.specs.Vector.{Vec}
 use Rattle.integers.specs.All.{All}
-use Rattle.catalogue_rules.specs.Word.{Word, head, coordinate, see, end, draft, other, decode, wordsOf}
-use Rattle.catalogue_rules.specs.Catalogue.{Head, See, Entry, Outcome, refused, accepted, refusal, entries, mostBytes}
+use Rattle.catalogue_rules.specs.Word.{Word, head, coordinate, see, end, draft, headNumber, headSize, other, decode, wordsOf}
+use Rattle.catalogue_rules.specs.Catalogue.{old, new, Head, See, Entry, Outcome, refused, accepted, refusal, entries, mostBytes}
 use Rattle.integers.specs.First.{firstGiven}
-use Rattle.catalogue_rules.specs.Read.{State, outside, inside, after, closed, Step, next, stop, checked, headRows, coordinateRows, draftRows, endRows, fileRows, withEntry, coordinateOf, withCoordinate, atHead, atCoordinate, atDraft, atEnd, step, dependentAt, lostAt, afterReading, afterWords, atLast, readWords, read}
+use Rattle.catalogue_rules.specs.Read.{State, outside, numbered, inside, after, closed, Step, next, stop, checked, formShown, headRows, headNumberRows, headSizeRows, coordinateRows, draftRows, endRows, fileRows, withEntry, coordinateOf, withCoordinate, atHead, atHeadNumber, atHeadSize, atCoordinate, atDraft, atEnd, step, dependentAt, lostAt, afterReading, afterWords, atLast, readWords, readAll, read}
 
 -- ---- rows of the table
 
@@ -40,7 +40,11 @@ pub data Between : State → List Entry → Type 0 where
   unreferred : (es : List Entry) (h : Head) (vs : List Vec) (marked : Bool) → Between (after es h vs marked) (withEntry es h vs marked none)
 
 pub data Moves : State → ℕ → Word → State → Type 0 where
-  by-head : {s : State} {es : List Entry} (h : Head) → Between s es → NoneOf (headRows es h) → Moves s (h .place) (head (h .number) (h .d) (h .m)) (inside es h [] [])
+  by-head : {s : State} {es : List Entry} (n d m i : ℕ) → Between s es → NoneOf (headRows es n d m)
+      → Moves s i (head n d m) (inside es (record { form = old; number = n; d = d; m = m; place = i }) [] [])
+  by-number : {s : State} {es : List Entry} (n i : ℕ) → Between s es → NoneOf (headNumberRows es n) → Moves s i (headNumber n) (numbered es n i)
+  by-size : {i : ℕ} (es : List Entry) (n p d m : ℕ) → NoneOf (headSizeRows 0 d m)
+      → Moves (numbered es n p) i (headSize 0 d m) (inside es (record { form = new; number = n; d = d; m = m; place = p }) [] [])
   by-coordinate : {i : ℕ} (es : List Entry) (h : Head) (vs : List Vec) (v : Vec) (l : ℕ) → NoneOf (coordinateRows h (v ++ (coordinateOf l ∷ [])) l)
       → Moves (inside es h vs v) i (coordinate l) (withCoordinate es h vs (v ++ (coordinateOf l ∷ [])))
   by-draft : {i : ℕ} (es : List Entry) (h : Head) (vs : List Vec) → Moves (after es h vs false) i (draft 1) (after es h vs true)
@@ -52,8 +56,20 @@ abbrev pub Going : (State → Type 0) → Step → Type 0
 Going Q (next t) = Q t
 Going Q (stop n) = n ≢ 0
 
-head-moves : (s : State) (es : List Entry) → Between s es → (h : Head) → Going (Moves s (h .place) (head (h .number) (h .d) (h .m))) (atHead es h)
-head-moves s es b h = checked-case (λ n. n ≢ 0) (Going (Moves s (h .place) (head (h .number) (h .d) (h .m)))) stop (headRows es h) (next (inside es h [] [])) (λ n h. h) (omega arith) (λ p. by-head h b p)
+head-moves : (s : State) (es : List Entry) → Between s es → (n d m i : ℕ) → Going (Moves s i (head n d m)) (atHead es (record { form = old; number = n; d = d; m = m; place = i }))
+head-moves s es b n d m i =
+    let h : Head = record { form = old; number = n; d = d; m = m; place = i } in
+    checked-case (λ n. n ≢ 0) (Going (Moves s i (head n d m))) stop (headRows es n d m) (next (inside es h [] [])) (λ n h. h) (omega arith) (λ p. by-head n d m i b p)
+
+number-moves : (s : State) (es : List Entry) → Between s es → (n i : ℕ) → Going (Moves s i (headNumber n)) (atHeadNumber es n i)
+number-moves s es b n i =
+    checked-case (λ n. n ≢ 0) (Going (Moves s i (headNumber n))) stop (headNumberRows es n) (next (numbered es n i)) (λ n h. h) (omega arith) (λ p. by-number n i b p)
+
+size-moves : (es : List Entry) (n p i high d m : ℕ) → Going (Moves (numbered es n p) i (headSize high d m)) (atHeadSize es high (record { form = new; number = n; d = d; m = m; place = p }))
+size-moves es n p i high d m =
+    let h : Head = record { form = new; number = n; d = d; m = m; place = p } in
+    checked-case (λ n. n ≢ 0) (Going (Moves (numbered es n p) i (headSize high d m))) stop (headSizeRows high d m) (next (inside es h [] [])) (λ n h. h) (omega arith)
+    (λ q. subst (λ z. Moves (numbered es n p) i (headSize z d m) (inside es h [] [])) (sym (eqb-true high 0 (not-false _ (q .0)))) (by-size es n p d m (refl, q .1)))
 
 end-moves : (s : State) (es : List Entry) → Between s es → (i count : ℕ) → Going (Moves s i (end count)) (atEnd es count)
 end-moves s es b i count =
@@ -73,23 +89,37 @@ draft-moves es h vs marked i l =
 
 pub moved : (s : State) (i : ℕ) (w : Word) → Going (Moves s i w) (step s i w)
 unfolding step
-moved (outside es) i (head number d m) = head-moves (outside es) es (between es) (record { number = number; d = d; m = m; place = i })
+moved (outside es) i (head number d m) = head-moves (outside es) es (between es) number d m i
 moved (outside es) i (coordinate l) = omega arith
 moved (outside es) i (see number) = omega arith
 moved (outside es) i (end count) = end-moves (outside es) es (between es) i count
 moved (outside es) i (draft l) = omega arith
+moved (outside es) i (headNumber number) = number-moves (outside es) es (between es) number i
+moved (outside es) i (headSize high d m) = omega arith
 moved (outside es) i (other k l) = omega arith
+moved (numbered es n p) i (head number d m) = omega arith
+moved (numbered es n p) i (coordinate l) = omega arith
+moved (numbered es n p) i (see number) = omega arith
+moved (numbered es n p) i (end count) = omega arith
+moved (numbered es n p) i (draft l) = omega arith
+moved (numbered es n p) i (headNumber number) = omega arith
+moved (numbered es n p) i (headSize high d m) = size-moves es n p i high d m
+moved (numbered es n p) i (other k l) = omega arith
 moved (inside es h vs v) i (head number d m) = omega arith
 moved (inside es h vs v) i (coordinate l) = coordinate-moves es h vs v i l
 moved (inside es h vs v) i (see number) = omega arith
 moved (inside es h vs v) i (end count) = omega arith
 moved (inside es h vs v) i (draft l) = omega arith
+moved (inside es h vs v) i (headNumber number) = omega arith
+moved (inside es h vs v) i (headSize high d m) = omega arith
 moved (inside es h vs v) i (other k l) = omega arith
-moved (after es h vs marked) i (head number d m) = head-moves (after es h vs marked) (withEntry es h vs marked none) (unreferred es h vs marked) (record { number = number; d = d; m = m; place = i })
+moved (after es h vs marked) i (head number d m) = head-moves (after es h vs marked) (withEntry es h vs marked none) (unreferred es h vs marked) number d m i
 moved (after es h vs marked) i (coordinate l) = omega arith
 moved (after es h vs marked) i (see number) = by-see es h vs marked (record { number = number; place = i })
 moved (after es h vs marked) i (end count) = end-moves (after es h vs marked) (withEntry es h vs marked none) (unreferred es h vs marked) i count
 moved (after es h vs marked) i (draft l) = draft-moves es h vs marked i l
+moved (after es h vs marked) i (headNumber number) = number-moves (after es h vs marked) (withEntry es h vs marked none) (unreferred es h vs marked) number i
+moved (after es h vs marked) i (headSize high d m) = omega arith
 moved (after es h vs marked) i (other k l) = omega arith
 moved (closed es) i w = omega arith
 
@@ -123,7 +153,7 @@ then-ended {R = R} (accepted es) f q = ended R es (λ e. f es q e)
 -- what is known of accepted bytes, when P is kept
 pub record Kept (P : List ℕ → State → Type 0) (bytes : List ℕ) (es : List Entry) : Type 0 where
   pub whole : length bytes % 4 ≡ 0
-  pub few : length bytes ≤ mostBytes
+  pub few : length bytes ≤ mostBytes (formShown (wordsOf bytes))
   pub kept : P (wordsOf bytes) (closed es)
   pub ended : Ended es
 
@@ -131,6 +161,7 @@ pub record Kept (P : List ℕ → State → Type 0) (bytes : List ℕ) (es : Lis
 module _ (P : List ℕ → State → Type 0) (keeps : (past : List ℕ) (s t : State) (i w : ℕ) → P past s → Moves s i (decode w) t → P (past ++ (w ∷ [])) t) where
   last-kept : (past : List ℕ) (s : State) (i : ℕ) → P past s → WhenAccepted (λ es. P past (closed es)) (atLast s i)
   last-kept past (outside es) i p = omega arith
+  last-kept past (numbered es n q) i p = omega arith
   last-kept past (inside es h vs v) i p = omega arith
   last-kept past (after es h vs marked) i p = omega arith
   last-kept past (closed es) i p = p
@@ -149,7 +180,7 @@ module _ (P : List ℕ → State → Type 0) (keeps : (past : List ℕ) (s t : S
   bytes-kept : (bytes : List ℕ) → P [] (outside []) → WhenAccepted (Kept P bytes) (read bytes)
   unfolding read
   bytes-kept bytes p =
-      checked-case (λ n. n ≢ 0) (WhenAccepted (Kept P bytes)) (λ n. refused n 0) (fileRows bytes) (afterWords (readWords (outside []) 0 (wordsOf bytes))) (λ n h. h) (omega arith)
+      checked-case (λ n. n ≢ 0) (WhenAccepted (Kept P bytes)) (λ n. refused n 0) (fileRows bytes) (readAll bytes) (λ n h. h) (omega arith)
       (λ r. then-ended (readWords (outside []) 0 (wordsOf bytes))
       (λ es q e. record { whole = eqb-true _ 0 (not-false _ (r .0)); few = ltb-false _ _ (r .1 .0); kept = q; ended = e })
       (words-kept (wordsOf bytes) [] (outside []) 0 p))

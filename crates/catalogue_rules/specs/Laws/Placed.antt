@@ -8,7 +8,7 @@ use lib.ListN.{length}
 use Rattle.integers.specs.All.{All, Some}
 use Rattle.catalogue_rules.specs.Word.{Word, end, encode, bytesOf}
 use Rattle.catalogue_rules.specs.Catalogue.{See, Entry, coordinates}
-use Rattle.catalogue_rules.specs.Write.{headWord, coordinateWord, draftWords, seeWords, entriesWords, write}
+use Rattle.catalogue_rules.specs.Write.{headWords, coordinateWord, draftWords, seeWords, entriesWords, write}
 use Rattle.catalogue_rules.specs.Form.{seeAt, pastSee, pastMark, entryAt, placed}
 
 pub length-placed : (i : ℕ) (es : List Entry) → length (placed i es) ≡ length es
@@ -17,14 +17,14 @@ length-placed i (e ∷ es) = ap suc (length-placed _ es)
 
 -- ---- writing
 
-see-words : (i : ℕ) (o : Option See) → seeWords (seeAt i o) ≡ seeWords o
+pub see-words : (i : ℕ) (o : Option See) → seeWords (seeAt i o) ≡ seeWords o
 see-words i none = refl
 see-words i (some s) = refl
 
 entries-words : (i : ℕ) (es : List Entry) → entriesWords (placed i es) ≡ entriesWords es
 entries-words i [] = refl
 entries-words i (e ∷ es) =
-    ap₂ (λ (s t : List Word). headWord (e .head) ∷ (map coordinateWord (coordinates (e .vectors)) ++ (draftWords (e .draft) ++ s)) ++ t) (see-words (pastMark i e) (e .see)) (entries-words _ es)
+    ap₂ (λ (s t : List Word). (headWords (e .head) ++ (map coordinateWord (coordinates (e .vectors)) ++ (draftWords (e .draft) ++ s))) ++ t) (see-words (pastMark i e) (e .see)) (entries-words _ es)
 
 pub write-placed : (i : ℕ) (es : List Entry) → write (placed i es) ≡ write es
 unfolding write

@@ -1,5 +1,5 @@
 -- Well-formed entries, written and read again, are accepted as they are, each head and see word at its place; and accepted entries stand at their places.
-use mathlib.Core.Path.{_≡_, refl, sym, ap, _∙_}
+use mathlib.Core.Path.{_≡_, refl, sym, ap, _∙_, subst}
 use mathlib.Core.Bool.{Bool, true, false, not, _||_, false≢true}
 use mathlib.Core.List.{List, [], _∷_, map, map-append}
 use mathlib.Core.Option.{Option, none, some}
@@ -11,12 +11,12 @@ use Rattle.integers.specs.Every.{any}
 use Rattle.integers.specs.All.{All}
 use Rattle.integers.specs.First.{firstGiven}
 use Rattle.integers.specs.FirstLaws.{given-none}
-use Rattle.catalogue_rules.specs.Word.{end, encode, bytesOf}
+use Rattle.catalogue_rules.specs.Word.{end, encode, wordsOf, bytesOf}
 use Rattle.catalogue_rules.specs.Laws.Word.{words-bytes, length-bytes}
-use Rattle.catalogue_rules.specs.Catalogue.{See, Entry, refused, accepted, entries, mostBytes, mostEntries}
-use Rattle.catalogue_rules.specs.Read.{State, step, outside, closed, fileRows, isNumbered, dependentAt, lostAt, afterReading, afterWords, readWords, read}
+use Rattle.catalogue_rules.specs.Catalogue.{new, mostNumber, See, Entry, refused, accepted, entries, mostBytes, mostEntries}
+use Rattle.catalogue_rules.specs.Read.{State, step, outside, closed, formShown, fileRows, isNumbered, dependentAt, lostAt, afterReading, afterWords, readWords, read}
 use Rattle.catalogue_rules.specs.Write.{entriesWords, catalogueWords, write}
-use Rattle.catalogue_rules.specs.Form.{mostNumber, EntryFits, EntryIndependent, Names, WellFormed, seeAt, pastMark, entryAt, placed}
+use Rattle.catalogue_rules.specs.Form.{EntryFits, EntryIndependent, Names, WellFormed, seeAt, pastMark, entryAt, placed}
 use Rattle.catalogue_rules.specs.Laws.Placed.{length-placed, all-placed}
 use Rattle.catalogue_rules.specs.Laws.Moves.{Between, between}
 use Rattle.catalogue_rules.specs.Laws.RoundTrip.{same-entries}
@@ -24,16 +24,17 @@ use Rattle.catalogue_rules.specs.Laws.WellFormed.{well-formed}
 use Rattle.catalogue_rules.specs.Laws.ReadVectors.{passes, one-word, at-end}
 use Rattle.lattices.specs.Laws.Refusal.{one-to}
 use Rattle.catalogue_rules.specs.Laws.ReadEntries.{SeeFits, pastEntries, New, entries-read}
-use Rattle.catalogue_rules.specs.Laws.WrittenSize.{words-small, length-written}
+use Rattle.catalogue_rules.specs.Laws.WrittenSize.{words-small}
+use Rattle.catalogue_rules.specs.Laws.Opening.{numbers-room, written-allowed}
 
 -- ---- see words
 
-number-of : (es : List Entry) (n : ℕ) → All EntryFits es → any (isNumbered n) es ≡ true → n ≤ mostNumber
+number-of : (es : List Entry) (n : ℕ) → All EntryFits es → any (isNumbered n) es ≡ true → n ≤ mostNumber new
 number-of [] n p e = absurd (false≢true e)
 number-of (x ∷ es) n p e = go (isNumbered n x) refl e (number-of es n (p .1))
   where
-    go : (t : Bool) → isNumbered n x ≡ t → (t || any (isNumbered n) es) ≡ true → (any (isNumbered n) es ≡ true → n ≤ mostNumber) → n ≤ mostNumber
-    go true q e more = let r = one-to mostNumber (x .head .number) (p .0 .head .number) in omega (arith, eqb-true (x .head .number) n q)
+    go : (t : Bool) → isNumbered n x ≡ t → (t || any (isNumbered n) es) ≡ true → (any (isNumbered n) es ≡ true → n ≤ mostNumber new) → n ≤ mostNumber new
+    go true q e more = let r = one-to (mostNumber (x .head .form)) (x .head .number) (p .0 .head .number) in omega (arith, numbers-room (x .head .form), eqb-true (x .head .number) n q)
     go false q e more = more e
 
 see-fits : (es : List Entry) → All EntryFits es → (o : Option See) → Names es o → SeeFits o
@@ -86,7 +87,7 @@ words-read es w =
     let fs = placed 0 es in
     let few = w .entered .few in
     let sees = sees-fit es es (w .entered .fits) (w .named) in
-    let r = entries-read (outside []) [] es 0 (encode (end (length es)) ∷ []) (between []) (omega arith) (w .entered .fits) sees (w .entered .distinct) (all-new es) in
+    let r = entries-read (outside []) [] es 0 (encode (end (length es)) ∷ []) (between []) (w .entered .one .form) refl (w .entered .one .heads) (omega arith) (w .entered .fits) sees (w .entered .distinct) (all-new es) in
     ap (readWords (outside []) 0) (map-append encode (entriesWords es) (end (length es) ∷ []))
     ∙ r .same
     ∙ to-end (r .state) fs (pastEntries 0 es) (length es) (r .here) (sym (length-placed 0 es)) few
@@ -103,8 +104,11 @@ read-written es w =
     let few = w .entered .few in
     let fits = w .entered .fits in
     let whole : length (bytesOf words) % 4 ≡ 0 = omega (arith, length-bytes words) in
-    passes (λ n. refused n 0) (fileRows (bytesOf words)) _ (ap not (eq-eqb _ 0 whole), (le-ltb mostBytes _ (length-written es few fits), tt))
-    ∙ ap afterWords (ap (readWords (outside []) 0) (words-bytes words (words-small es few fits (sees-fit es es fits (w .named)))) ∙ words-read es w)
+    let back = words-bytes words (words-small es few fits (sees-fit es es fits (w .named))) in
+    let room : length (bytesOf words) ≤ mostBytes (formShown (wordsOf (bytesOf words))) =
+    subst (λ ws. length (bytesOf words) ≤ mostBytes (formShown ws)) (sym back) (written-allowed (w .entered .one .form) es few (w .entered .one .heads) fits) in
+    passes (λ n. refused n 0) (fileRows (bytesOf words)) _ (ap not (eq-eqb _ 0 whole), (le-ltb _ _ room, tt))
+    ∙ ap afterWords (ap (readWords (outside []) 0) back ∙ words-read es w)
     ∙ all-pass es w
 
 -- the heads and see words of accepted entries stand where reading found them

@@ -17,11 +17,11 @@ use Rattle.lattices.specs.Vector.{Vec, N}
 use Rattle.integers.specs.Every.{any}
 use Rattle.lattices.specs.Refusal.{mostSquare, mostSize}
 use Rattle.integers.specs.All.{All}
-use Rattle.catalogue_rules.specs.Word.{Word, end, encode}
+use Rattle.catalogue_rules.specs.Word.{Word, head, end, headNumber, headSize, encode}
 use Rattle.catalogue_rules.specs.Laws.Word.{InRange, decode-encode}
-use Rattle.catalogue_rules.specs.Catalogue.{Head, Entry, refused, coordinates, mostLoad}
-use Rattle.catalogue_rules.specs.Read.{State, inside, after, closed, next, stop, checked, headRows, coordinateRows, endRows, withEntry, coordinateOf, withVector, withCoordinate, atEnd, step, readWords}
-use Rattle.catalogue_rules.specs.Write.{headWord, coordinateWord, encodedCoordinates}
+use Rattle.catalogue_rules.specs.Catalogue.{old, new, Head, Entry, refused, coordinates, mostLoad}
+use Rattle.catalogue_rules.specs.Read.{State, numbered, inside, after, closed, next, stop, checked, headRows, headNumberRows, headSizeRows, coordinateRows, endRows, withEntry, coordinateOf, withVector, withCoordinate, atEnd, step, readWords}
+use Rattle.catalogue_rules.specs.Write.{coordinateWord, encodedCoordinates}
 use Rattle.catalogue_rules.specs.Form.{VectorFits}
 use Rattle.catalogue_rules.specs.Laws.Moves.{NoneOf, Between, between, unreferred}
 use Rattle.integers.specs.Tests.{neither}
@@ -37,10 +37,21 @@ unfolding readWords
 one-word s t i w words h e =
     ap (λ r. elim r [ next t ↦ readWords t (suc i) words | stop n ↦ refused n i ]) (ap (step s i) (decode-encode w h) ∙ e)
 
-pub at-head : {s : State} {es : List Entry} (h : Head) → Between s es → NoneOf (headRows es h) → step s (h .place) (headWord h) ≡ next (inside es h [] [])
+pub at-head : {s : State} {es : List Entry} (n d m i : ℕ) → Between s es → NoneOf (headRows es n d m)
+    → step s i (head n d m) ≡ next (inside es (record { form = old; number = n; d = d; m = m; place = i }) [] [])
 unfolding step
-at-head h (between es) p = passes stop (headRows es h) _ p
-at-head h (unreferred es g vs marked) p = passes stop (headRows (withEntry es g vs marked none) h) _ p
+at-head n d m i (between es) p = passes stop (headRows es n d m) _ p
+at-head n d m i (unreferred es g vs marked) p = passes stop (headRows (withEntry es g vs marked none) n d m) _ p
+
+pub at-number : {s : State} {es : List Entry} (n i : ℕ) → Between s es → NoneOf (headNumberRows es n) → step s i (headNumber n) ≡ next (numbered es n i)
+unfolding step
+at-number n i (between es) p = passes stop (headNumberRows es n) _ p
+at-number n i (unreferred es g vs marked) p = passes stop (headNumberRows (withEntry es g vs marked none) n) _ p
+
+pub at-size : (es : List Entry) (n p i d m : ℕ) → NoneOf (headSizeRows 0 d m)
+    → step (numbered es n p) i (headSize 0 d m) ≡ next (inside es (record { form = new; number = n; d = d; m = m; place = p }) [] [])
+unfolding step
+at-size es n p i d m q = passes stop (headSizeRows 0 d m) _ q
 
 end-passes : (es : List Entry) → atEnd es (length es) ≡ next (closed es)
 end-passes es = passes stop (endRows es (length es)) (next (closed es)) (ap not (eq-eqb (length es) (length es) refl), tt)

@@ -9,17 +9,18 @@ use lib.IntN.{ℤ, pos, natAbs, -ℤ-+ℤ-cancel}
 use lib.ListN.{length, getD}
 use Rattle.lattices.specs.Vector.{Vec}
 use Rattle.lattices.specs.Refusal.{mostSize}
-use Rattle.catalogue_rules.specs.Word.{Word, coordinate, decode, encode, bytesOf}
+use Rattle.catalogue_rules.specs.Word.{Word, coordinate, headNumber, headSize, decode, encode, wordsOf, bytesOf}
 use Rattle.catalogue_rules.specs.Laws.Word.{encode-decode, bytes-words}
 use Rattle.catalogue_rules.specs.Catalogue.{Head, Entry, coordinates, accepted}
-use Rattle.catalogue_rules.specs.Read.{State, outside, inside, after, closed, withEntry, coordinateOf, withVector, withCoordinate, read}
-use Rattle.catalogue_rules.specs.Write.{headWord, coordinateWord, entryWords, entriesWords, catalogueWords, write}
-use Rattle.catalogue_rules.specs.Laws.Moves.{between, unreferred, Moves, by-head, by-coordinate, by-draft, by-see, by-end, kept-to-end}
+use Rattle.catalogue_rules.specs.Read.{State, outside, numbered, inside, after, closed, withEntry, coordinateOf, withVector, withCoordinate, read}
+use Rattle.catalogue_rules.specs.Write.{headWords, coordinateWord, entryWords, entriesWords, catalogueWords, write}
+use Rattle.catalogue_rules.specs.Laws.Moves.{between, unreferred, Moves, by-head, by-number, by-size, by-coordinate, by-draft, by-see, by-end, kept-to-end}
 
 -- the words that a state has read
 abbrev wordsSoFar : State → List Word
 wordsSoFar (outside es) = entriesWords es
-wordsSoFar (inside es h vs v) = entriesWords es ++ (headWord h ∷ map coordinateWord (coordinates vs ++ v))
+wordsSoFar (numbered es n i) = entriesWords es ++ (headNumber n ∷ [])
+wordsSoFar (inside es h vs v) = entriesWords es ++ (headWords h ++ map coordinateWord (coordinates vs ++ v))
 wordsSoFar (after es h vs marked) = entriesWords (withEntry es h vs marked none)
 wordsSoFar (closed es) = catalogueWords es
 
@@ -56,8 +57,11 @@ one-coordinate : (es : List Entry) (h : Head) (vs : List Vec) (v : Vec) (x : ℤ
 one-coordinate es h vs v x = simp (append-assoc, map-append)
 
 grows : {s t : State} {i : ℕ} {w : Word} → Moves s i w t → wordsSoFar t ≡ wordsSoFar s ++ (w ∷ [])
-grows (by-head h (between es) p) = refl
-grows (by-head h (unreferred es g vs marked) p) = refl
+grows (by-head n d m i (between es) p) = refl
+grows (by-head n d m i (unreferred es g vs marked) p) = refl
+grows (by-number n i (between es) p) = refl
+grows (by-number n i (unreferred es g vs marked) p) = refl
+grows (by-size es n i d m p) = sym (append-assoc (entriesWords es) (headNumber n ∷ []) (headSize 0 d m ∷ []))
 grows (by-coordinate es h vs v l p) =
     coordinate-words es h vs (v ++ (coordinateOf l ∷ []))
     ∙ one-coordinate es h vs v (coordinateOf l)
@@ -73,6 +77,10 @@ Same past s = map encode (wordsSoFar s) ≡ past
 
 same-kept : (past : List ℕ) (s t : State) (i w : ℕ) → Same past s → Moves s i (decode w) t → Same (past ++ (w ∷ [])) t
 same-kept past s t i w p m = ap (map encode) (grows m) ∙ map-append encode (wordsSoFar s) (decode w ∷ []) ∙ ap₂ (λ l x. l ++ (x ∷ [])) p (encode-decode w)
+
+-- the words of an accepted file are those of its entries
+pub same-words : (bytes : List ℕ) (es : List Entry) → read bytes ≡ accepted es → map encode (catalogueWords es) ≡ wordsOf bytes
+same-words bytes es e = kept-to-end Same same-kept bytes es refl e .kept
 
 pub same-bytes : (bytes : List ℕ) (es : List Entry) → ((i : ℕ) → getD bytes i 0 < 256) → read bytes ≡ accepted es → write es ≡ bytes
 unfolding write

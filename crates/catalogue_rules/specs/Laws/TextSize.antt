@@ -13,4 +13,4 @@ mostShown = mostVectors * mostVectorLine
 
 -- those of all entries, each with a line of its own before its vectors, and the first line
 abbrev pub mostText : ℕ
-mostText = mostEntries * (36 + mostShown) + 8
+mostText = mostEntries * (42 + mostShown) + 8

@@ -9,7 +9,7 @@ use lib.Dec.{eqb}
 use lib.ListN.{length, getD}
 use borrow.Author.Tests.{eqb-true, eqb-false}
 use Rattle.integers.specs.All.{All}
-use Rattle.catalogue_rules.specs.Word.{Word, head, coordinate, see, end, draft, other, kind, load, headOf, wordOf, decode, kindOf, loadOf, encode, wordsOf, bytesOf}
+use Rattle.catalogue_rules.specs.Word.{Word, head, coordinate, see, end, draft, headNumber, headSize, other, kind, load, headOf, headSizeOf, wordOf, decode, kindOf, loadOf, encode, wordsOf, bytesOf}
 
 -- ---- words
 
@@ -19,23 +19,29 @@ by-test Q true a b p q = p refl
 by-test Q false a b p q = q refl
 
 by-kind : (Q : Word → Type 0) (k l : ℕ)
-    → (k ≡ 1 → Q (headOf l)) → (k ≡ 2 → Q (coordinate l)) → (k ≡ 3 → Q (see l)) → (k ≡ 4 → Q (end l)) → (k ≡ 5 → Q (draft l))
-    → (k ≢ 1 → k ≢ 2 → k ≢ 3 → k ≢ 4 → k ≢ 5 → Q (other k l)) → Q (wordOf k l)
-by-kind Q k l p₁ p₂ p₃ p₄ p₅ q =
+    → (k ≡ 1 → Q (headOf l)) → (k ≡ 2 → Q (coordinate l)) → (k ≡ 3 → Q (see l)) → (k ≡ 4 → Q (end l)) → (k ≡ 5 → Q (draft l)) → (k ≡ 6 → Q (headNumber l)) → (k ≡ 7 → Q (headSizeOf l))
+    → (k ≢ 1 → k ≢ 2 → k ≢ 3 → k ≢ 4 → k ≢ 5 → k ≢ 6 → k ≢ 7 → Q (other k l)) → Q (wordOf k l)
+by-kind Q k l p₁ p₂ p₃ p₄ p₅ p₆ p₇ q =
     by-test Q (eqb k 1) _ _ (λ e. p₁ (eqb-true k 1 e)) λ n₁.
     by-test Q (eqb k 2) _ _ (λ e. p₂ (eqb-true k 2 e)) λ n₂.
     by-test Q (eqb k 3) _ _ (λ e. p₃ (eqb-true k 3 e)) λ n₃.
     by-test Q (eqb k 4) _ _ (λ e. p₄ (eqb-true k 4 e)) λ n₄.
-    by-test Q (eqb k 5) _ _ (λ e. p₅ (eqb-true k 5 e)) λ n₅. q (eqb-false k 1 n₁) (eqb-false k 2 n₂) (eqb-false k 3 n₃) (eqb-false k 4 n₄) (eqb-false k 5 n₅)
+    by-test Q (eqb k 5) _ _ (λ e. p₅ (eqb-true k 5 e)) λ n₅.
+    by-test Q (eqb k 6) _ _ (λ e. p₆ (eqb-true k 6 e)) λ n₆.
+    by-test Q (eqb k 7) _ _ (λ e. p₇ (eqb-true k 7 e)) λ n₇.
+    q (eqb-false k 1 n₁) (eqb-false k 2 n₂) (eqb-false k 3 n₃) (eqb-false k 4 n₄) (eqb-false k 5 n₅) (eqb-false k 6 n₆) (eqb-false k 7 n₇)
 
 head-load : (l : ℕ) → loadOf (headOf l) ≡ l
 head-load l = omega arith
+
+size-load : (l : ℕ) → loadOf (headSizeOf l) ≡ l
+size-load l = omega arith
 
 pub encode-decode : (w : ℕ) → encode (decode w) ≡ w
 unfolding decode encode
 encode-decode w =
     by-kind (λ x. kindOf x * 2 ^ 28 + loadOf x ≡ w) (kind w) (load w) (λ e. omega (arith, head-load (load w))) (λ e. omega arith) (λ e. omega arith) (λ e. omega arith) (λ e. omega arith)
-    (λ n₁ n₂ n₃ n₄ n₅. omega arith)
+    (λ e. omega arith) (λ e. omega (arith, size-load (load w))) (λ n₁ n₂ n₃ n₄ n₅ n₆ n₇. omega arith)
 
 -- the loads that a word has room for
 abbrev pub InRange : Word → Type 0
@@ -44,13 +50,15 @@ InRange (coordinate l) = l < 2 ^ 28
 InRange (see number) = number < 2 ^ 28
 InRange (end count) = count < 2 ^ 28
 InRange (draft l) = l < 2 ^ 28
-InRange (other k l) = (k ≢ 1) × (k ≢ 2) × (k ≢ 3) × (k ≢ 4) × (k ≢ 5) × (l < 2 ^ 28)
+InRange (headNumber number) = number < 2 ^ 28
+InRange (headSize high d m) = (high < 2 ^ 20) × (d < 16) × (m < 16)
+InRange (other k l) = (k ≢ 1) × (k ≢ 2) × (k ≢ 3) × (k ≢ 4) × (k ≢ 5) × (k ≢ 6) × (k ≢ 7) × (l < 2 ^ 28)
 
 pub decode-range : (w : ℕ) → InRange (decode w)
 unfolding decode
 decode-range w =
     by-kind InRange (kind w) (load w) (λ e. omega arith) (λ e. omega arith) (λ e. omega arith) (λ e. omega arith) (λ e. omega arith)
-    (λ n₁ n₂ n₃ n₄ n₅. (n₁, n₂, n₃, n₄, n₅, omega arith))
+    (λ e. omega arith) (λ e. omega arith) (λ n₁ n₂ n₃ n₄ n₅ n₆ n₇. (n₁, n₂, n₃, n₄, n₅, n₆, n₇, omega arith))
 
 load-range : (w : Word) → InRange w → loadOf w < 2 ^ 28
 load-range (head number d m) h = omega arith
@@ -58,7 +66,9 @@ load-range (coordinate l) h = h
 load-range (see number) h = h
 load-range (end count) h = h
 load-range (draft l) h = h
-load-range (other k l) h = h .5
+load-range (headNumber number) h = h
+load-range (headSize high d m) h = omega arith
+load-range (other k l) h = h .7
 
 back : (w : Word) → InRange w → wordOf (kindOf w) (loadOf w) ≡ w
 back (head number d m) h =
@@ -69,14 +79,24 @@ back (coordinate l) h = refl
 back (see number) h = refl
 back (end count) h = refl
 back (draft l) h = refl
+back (headNumber number) h = refl
+back (headSize high d m) h =
+    let l = high * 256 + d * 16 + m in
+    let p : (l / 256 ≡ high) × (l / 16 % 16 ≡ d) × (l % 16 ≡ m) = omega arith in
+    rw (p .0, p .1, p .2)
 back (other k l) h =
-    by-kind (λ w. w ≡ other k l) k l (λ e. absurd (h .0 e)) (λ e. absurd (h .1 e)) (λ e. absurd (h .2 e)) (λ e. absurd (h .3 e)) (λ e. absurd (h .4 e)) (λ n₁ n₂ n₃ n₄ n₅. refl)
+    by-kind (λ w. w ≡ other k l) k l (λ e. absurd (h .0 e)) (λ e. absurd (h .1 e)) (λ e. absurd (h .2 e)) (λ e. absurd (h .3 e)) (λ e. absurd (h .4 e))
+    (λ e. absurd (h .5 e)) (λ e. absurd (h .6 e)) (λ n₁ n₂ n₃ n₄ n₅ n₆ n₇. refl)
 
 kind-back : (k l : ℕ) → l < 2 ^ 28 → kind (k * 2 ^ 28 + l) ≡ k
 kind-back k l h = omega arith
 
 load-back : (k l : ℕ) → l < 2 ^ 28 → load (k * 2 ^ 28 + l) ≡ l
 load-back k l h = omega arith
+
+pub kind-encode : (w : Word) → InRange w → kind (encode w) ≡ kindOf w
+unfolding encode
+kind-encode w h = kind-back (kindOf w) (loadOf w) (load-range w h)
 
 pub decode-encode : (w : Word) → InRange w → decode (encode w) ≡ w
 unfolding decode encode

@@ -1,9 +1,10 @@
--- The words written for well-formed entries have 32 bits, and make at most 35,844 bytes.
-use mathlib.Core.Path.{_≡_, sym, subst}
+-- The words written for well-formed entries have 32 bits, and make no more bytes than their form allows.
+use mathlib.Core.Path.{_≡_, refl, sym, subst}
 use mathlib.Core.Bool.{Bool, true, false}
 use mathlib.Core.List.{List, [], _∷_, _++_, map, map-append}
 use mathlib.Core.Option.{Option, none, some}
 use Prim.Native.Nat.{ℕ, _+_, _*_, _^_, _≤_, _<_}
+use native.Mathlib.Nat.{mul-le-mul-right}
 use native.Mathlib.Omega.{arith}
 use lib.Dec.{ltb}
 use lib.IntN.{pos, natAbs}
@@ -11,27 +12,33 @@ use lib.ListN.{length, length-append, length-map}
 use lib.Signed.{ltZ}
 use Rattle.lattices.specs.Vector.{Vec, N}
 use Rattle.integers.specs.Every.{any}
-use Rattle.lattices.specs.Refusal.{mostSquare, mostSize}
+use Rattle.lattices.specs.Refusal.{mostSquare, mostSize, mostVectors, mostCoordinates}
+use Rattle.lattices.specs.Laws.Refusal.{one-to}
 use Rattle.integers.specs.All.{All}
 use Rattle.integers.specs.AllLaws.{all-append, all-map}
-use Rattle.catalogue_rules.specs.Word.{Word, head, see, end, draft, encode, bytesOf}
+use Rattle.catalogue_rules.specs.Word.{Word, see, end, draft, encode, bytesOf}
 use Rattle.catalogue_rules.specs.Laws.Word.{length-bytes}
-use Rattle.catalogue_rules.specs.Catalogue.{Head, See, Entry, coordinates, mostEntries, mostNumbers, mostBytes}
-use Rattle.catalogue_rules.specs.Write.{headWord, coordinateWord, draftWords, seeWords, entryWords, entriesWords, catalogueWords}
+use Rattle.catalogue_rules.specs.Catalogue.{Form, old, new, headLength, mostNumber, Head, See, Entry, coordinates, mostEntries, mostNumbers, mostBytes}
+use Rattle.catalogue_rules.specs.Write.{headWordsIn, headWords, coordinateWord, draftWords, seeWords, entryWords, entriesWords, catalogueWords}
 use Rattle.catalogue_rules.specs.Form.{HeadFits, VectorFits, EntryFits}
 use Rattle.integers.specs.Tests.{neither}
 use Rattle.catalogue_rules.specs.Laws.EntriesAccepted.{few-coordinates}
 use Rattle.catalogue_rules.specs.Laws.ReadVectors.{load-most}
-use Rattle.catalogue_rules.specs.Laws.ReadEntries.{SeeFits, head-range}
+use Rattle.catalogue_rules.specs.Laws.ReadEntries.{SeeFits}
 
 abbrev pub SmallWords : Word → Type 0
 SmallWords w = encode w < 2 ^ 32
 
 -- ---- 32 bits
 
-head-small : (h : Head) → HeadFits h → SmallWords (headWord h)
+small-in : (f : Form) (n d m : ℕ) → n ≤ mostNumber f → d ≤ mostVectors → m ≤ mostCoordinates → All SmallWords (headWordsIn f n d m)
 unfolding encode
-head-small h p = let r = head-range h p in omega arith
+small-in old n d m p q r = (omega arith, tt)
+small-in new n d m p q r = (omega arith, (omega arith, tt))
+
+head-small : (h : Head) → HeadFits h → All SmallWords (headWords h)
+head-small h p =
+    small-in (h .form) (h .number) (h .d) (h .m) (one-to (mostNumber (h .form)) (h .number) (p .number) .1) (one-to mostVectors (h .d) (p .d) .1) (one-to mostCoordinates (h .m) (p .m) .1)
 
 vector-small : (v : Vec) → any (λ y. ltb mostSize (natAbs y)) v ≡ false → All SmallWords (map coordinateWord v)
 unfolding encode
@@ -59,13 +66,14 @@ draft-small false = tt
 
 entries-small : (es : List Entry) → All EntryFits es → All (λ e. SeeFits (e .see)) es → All SmallWords (entriesWords es)
 entries-small [] p q = tt
-entries-small (e ∷ es) p q = (
-  head-small (e .head) (p .0 .head),
-  all-append SmallWords (map coordinateWord (coordinates (e .vectors)) ++ (draftWords (e .draft) ++ seeWords (e .see))) (entriesWords es)
-      (all-append SmallWords (map coordinateWord (coordinates (e .vectors))) (draftWords (e .draft) ++ seeWords (e .see)) (vectors-small (e .head .m) (e .vectors) (p .0 .vectors))
-      (all-append SmallWords (draftWords (e .draft)) (seeWords (e .see)) (draft-small (e .draft)) (see-small (e .see) (q .0))))
-      (entries-small es (p .1) (q .1)),
-)
+entries-small (e ∷ es) p q =
+    let marks = draftWords (e .draft) ++ seeWords (e .see) in
+    let numbers = map coordinateWord (coordinates (e .vectors)) in
+    all-append SmallWords (entryWords e) (entriesWords es)
+    (all-append SmallWords (headWords (e .head)) (numbers ++ marks) (head-small (e .head) (p .0 .head))
+    (all-append SmallWords numbers marks (vectors-small (e .head .m) (e .vectors) (p .0 .vectors))
+    (all-append SmallWords (draftWords (e .draft)) (seeWords (e .see)) (draft-small (e .draft)) (see-small (e .see) (q .0)))))
+    (entries-small es (p .1) (q .1))
 
 pub words-small : (es : List Entry) → length es ≤ mostEntries → All EntryFits es → All (λ e. SeeFits (e .see)) es → All (λ w. w < 2 ^ 32) (map encode (catalogueWords es))
 unfolding encode
@@ -82,12 +90,21 @@ length-see : (o : Option See) → length (seeWords o) ≤ 1
 length-see none = omega arith
 length-see (some s) = omega arith
 
-pub length-entry : (e : Entry) → EntryFits e → length (entryWords e) ≤ mostNumbers + 3
+pub length-head : (h : Head) → length (headWords h) ≡ headLength (h .form)
+length-head h = go (h .form)
+  where
+    go : (f : Form) → length (headWordsIn f (h .number) (h .d) (h .m)) ≡ headLength f
+    go old = refl
+    go new = refl
+
+pub length-entry : (e : Entry) → EntryFits e → length (entryWords e) ≤ headLength (e .head .form) + mostNumbers + 2
 length-entry e p =
     let cs = coordinates (e .vectors) in
     omega (
       arith,
       few-coordinates e p,
+      length-head (e .head),
+      length-append (headWords (e .head)) (map coordinateWord cs ++ (draftWords (e .draft) ++ seeWords (e .see))),
       length-append (map coordinateWord cs) (draftWords (e .draft) ++ seeWords (e .see)),
       length-map cs coordinateWord,
       length-append (draftWords (e .draft)) (seeWords (e .see)),
@@ -95,10 +112,24 @@ length-entry e p =
       length-see (e .see),
     )
 
-pub length-entries : (es : List Entry) → All EntryFits es → length (entriesWords es) ≤ length es * (mostNumbers + 3)
-length-entries [] p = omega arith
-length-entries (e ∷ es) p = omega (arith, length-append (entryWords e) (entriesWords es), length-entry e (p .0), length-entries es (p .1))
+-- whatever the forms
+pub length-any : (es : List Entry) → All EntryFits es → length (entriesWords es) ≤ length es * (headLength new + mostNumbers + 2)
+length-any [] p = omega arith
+length-any (e ∷ es) p = omega (arith, length-append (entryWords e) (entriesWords es), length-entry e (p .0), most (e .head .form), length-any es (p .1))
+  where
+    most : (f : Form) → headLength f ≤ headLength new
+    most old = omega arith
+    most new = omega arith
 
-pub length-written : (es : List Entry) → length es ≤ mostEntries → All EntryFits es → length (bytesOf (map encode (catalogueWords es))) ≤ mostBytes
-length-written es few p =
-    omega (arith, length-bytes (map encode (catalogueWords es)), length-map (catalogueWords es) encode, length-append (entriesWords es) (end (length es) ∷ []), length-entries es p)
+module _ (f : Form) where
+  pub length-entries : (es : List Entry) → All (λ e. e .head .form ≡ f) es → All EntryFits es → length (entriesWords es) ≤ length es * (headLength f + mostNumbers + 2)
+  length-entries [] one p = omega arith
+  length-entries (e ∷ es) one p =
+      let here : length (entryWords e) ≤ headLength f + mostNumbers + 2 = subst (λ g. length (entryWords e) ≤ headLength g + mostNumbers + 2) (one .0) (length-entry e (p .0)) in
+      omega (arith, length-append (entryWords e) (entriesWords es), here, length-entries es (one .1) (p .1))
+
+  pub length-written : (es : List Entry) → length es ≤ mostEntries → All (λ e. e .head .form ≡ f) es → All EntryFits es
+      → length (bytesOf (map encode (catalogueWords es))) ≤ mostBytes f
+  length-written es few one p =
+      let most : length es * (headLength f + mostNumbers + 2) ≤ mostEntries * (headLength f + mostNumbers + 2) = mul-le-mul-right (headLength f + mostNumbers + 2) few in
+      omega (arith, length-bytes (map encode (catalogueWords es)), length-map (catalogueWords es) encode, length-append (entriesWords es) (end (length es) ∷ []), length-entries es one p, most)

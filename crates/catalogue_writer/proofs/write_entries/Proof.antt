@@ -13,7 +13,7 @@ use Rattle.catalogue_writer.specs.Over.{overWords}
 use Rattle.catalogue_writer.specs.Upto.{few-words}
 use Rattle.catalogue_writer.specs.Writing.{length-write, end-written}
 use Rattle.catalogue_records.specs.Catalogues.{writtenOf}
-use Rattle.catalogue_rules.specs.Catalogue.{mostEntries, mostWords}
+use Rattle.catalogue_rules.specs.Catalogue.{new, mostEntries, mostWords}
 use borrow.Author.Needs.{needs}
 use Rattle.catalogue_writer.proofs.write_entries.Statement.{statement}
 use Rattle.catalogue_writer.proofs.write_entries.Tie as tie
@@ -24,7 +24,7 @@ count-words-requires c κs = search needs
 full : (c : tie.Start) → length (c .args .c .entries) ≡ mostEntries
 full c = all-stored (c .args .c) _ (c .good .0 .1 .1 .1 .1 .1 .0 .1 .0 .1)
 
-few : (c : tie.After-count-words) → c .count-words .result < mostWords
+few : (c : tie.After-count-words) → c .count-words .result < mostWords new
 few c =
     let s = c .before .before in
     omega (arith, c .count-words .ensures, few-words (s .args .c) (full s) (s .pre .0) (s .pre .1 .entered .fits))

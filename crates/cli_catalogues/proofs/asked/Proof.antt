@@ -1,6 +1,6 @@
 -- The definition's two cases.
 use borrow.Author.Needs.{needs}
-use mathlib.Core.Path.{_≡_, sym, ap, _∙_}
+use mathlib.Core.Path.{_≡_, ap, _∙_}
 use native.Mathlib.Omega.{arith}
 use mir.Facts.{toZ-ofZ}
 use Rattle.text_parts.specs.Counts.{countOf}
@@ -13,6 +13,9 @@ count-requires c κs = search needs
 
 is : (c : tie.After-count) → c .count .result ≡ countOf (c .before .args .n)
 is c = c .count .ensures ∙ ap countOf (toZ-ofZ (c .before .fits .n))
+
+cast-if1 : tie.Need-cast-if1
+cast-if1 c = search needs
 
 returns : tie.Need-returns
 returns c =
@@ -28,4 +31,4 @@ returns-2 c =
     is k ∙ within (k .before .args .n) (omega (arith, is k, c .if1 .left))
 
 pub asked-spec : {M : Type 1} → statement M
-asked-spec = tie.close (tie.spec count-requires returns cast-result returns-2)
+asked-spec = tie.close (tie.spec count-requires cast-if1 returns cast-result returns-2)

@@ -21,12 +21,13 @@ use Rattle.lattices.specs.Refusal.{tooLong}
 use Rattle.greedy_reduction.specs.Start.{Coordinates}
 use Rattle.greedy_reduction.specs.Lattice.{reduction-volume}
 use Rattle.greedy_reduction.specs.Promise.{reduced-short}
-use Rattle.catalogue_rules.specs.Catalogue.{See, Entry, accepted, mostBytes}
+use Rattle.catalogue_rules.specs.Catalogue.{Form, new, See, Entry, accepted, mostBytes}
 use Rattle.catalogue_rules.specs.Read.{isNumbered, read}
 use Rattle.catalogue_rules.specs.Write.{write}
 use Rattle.catalogue_rules.specs.Form.{VectorFits, Distinct, Names, WellFormed}
-use Rattle.catalogue_rules.specs.Laws.Placed.{write-placed}
+use Rattle.catalogue_rules.specs.Laws.Placed.{write-placed, all-placed}
 use Rattle.catalogue_rules.specs.Laws.WrittenSize.{length-written}
+use Rattle.catalogue_rules.specs.Laws.Opening.{bytes-room}
 use Rattle.catalogue_rules.specs.Laws.ReadBack.{read-written}
 use Rattle.fold_rules.specs.Fold.{reducedOf, sameLattice, standing, Stood, stoodOf, closedList, stands, standingIn, unlessOwn, led, followed, leads, leadsFrom, orElse, carried, printed, printedIn, folded}
 use Rattle.fold_rules.specs.Laws.SameLattice.{Sound, sound-entries, entry-basis, entry-count, entry-full, one-lattice}
@@ -89,6 +90,12 @@ module _ (all : List Entry) where
 
   shown-sound : (es : List Entry) → All Sound es → All Sound (shown es)
   shown-sound = shown-ind (λ es gs. All Sound es → All Sound gs) (λ p. tt) (λ e es gs q h p. (reduced-sound e (p .0) _, h (p .1))) (λ e es gs q h p. h (p .1))
+
+  shown-forms : (f : Form) (es : List Entry) → All (λ e. e .head .form ≡ f) es → All (λ e. e .head .form ≡ f) (shown es)
+  shown-forms f = shown-ind (λ es gs. All (λ e. e .head .form ≡ f) es → All (λ e. e .head .form ≡ f) gs) (λ p. tt) (λ e es gs q h p. (p .0, h (p .1))) (λ e es gs q h p. h (p .1))
+
+  shown-numbers : (n : ℕ) (es : List Entry) → All (λ e. e .head .number ≤ n) es → All (λ e. e .head .number ≤ n) (shown es)
+  shown-numbers n = shown-ind (λ es gs. All (λ e. e .head .number ≤ n) es → All (λ e. e .head .number ≤ n) gs) (λ p. tt) (λ e es gs q h p. (p .0, h (p .1))) (λ e es gs q h p. h (p .1))
 
   -- numbers: none is new, none comes twice, and that of an entry that stands is there
   shown-distinct : (es : List Entry) → ((n : ℕ) → any (isNumbered n) es ≡ false → any (isNumbered n) (shown es) ≡ false) × (Distinct es → Distinct (shown es))
@@ -158,7 +165,12 @@ module _ (all : List Entry) where
     prints-form =
         let s = shown-sound all sound in
         record {
-          entered = record { few = omega (arith, shown-few all, w .entered .few); fits = all-imp (λ e p. p .fits) (printedIn ss) s; distinct = shown-distinct all .1 (w .entered .distinct) };
+          entered = record {
+            one = record { form = w .entered .one .form; heads = shown-forms (w .entered .one .form) all (w .entered .one .heads) };
+            few = omega (arith, shown-few all, w .entered .few);
+            fits = all-imp (λ e p. p .fits) (printedIn ss) s;
+            distinct = shown-distinct all .1 (w .entered .distinct);
+          };
           independent = all-imp (λ e p. p .independent) (printedIn ss) s;
           named = shown-names all (w .named);
         }
@@ -168,13 +180,26 @@ pub folded-written : (es : List Entry) → write (folded es) ≡ write (printedI
 unfolding folded
 folded-written es = write-placed 0 (printedIn (closedList es))
 
--- and what is written is within the limit of a file
-pub folded-size : (es : List Entry) → WellFormed es → length (write (folded es)) ≤ mostBytes
+-- the form of the heads is that of the file, and no number is larger
+pub printed-forms : (es : List Entry) (f : Form) → All (λ e. e .head .form ≡ f) es → All (λ e. e .head .form ≡ f) (printedIn (closedList es))
+printed-forms es f p = shown-forms es f es p
+
+pub folded-forms : (es : List Entry) (f : Form) → All (λ e. e .head .form ≡ f) es → All (λ e. e .head .form ≡ f) (folded es)
+unfolding folded
+folded-forms es f p = all-placed (λ e. e .head .form ≡ f) (λ e. e .head .form ≡ f) (λ i e h. h) 0 (printedIn (closedList es)) (printed-forms es f p)
+
+pub folded-numbers : (es : List Entry) (n : ℕ) → All (λ e. e .head .number ≤ n) es → All (λ e. e .head .number ≤ n) (folded es)
+unfolding folded
+folded-numbers es n p = all-placed (λ e. e .head .number ≤ n) (λ e. e .head .number ≤ n) (λ i e h. h) 0 (printedIn (closedList es)) (shown-numbers es n es p)
+
+-- and what is written is within the limit of a file in either form
+pub folded-size : (es : List Entry) → WellFormed es → length (write (folded es)) ≤ mostBytes new
 unfolding write
 folded-size es w =
     let p = printedIn (closedList es) in
     let v = prints-form es w .entered in
-    subst (λ l. length l ≤ mostBytes) (sym (folded-written es)) (length-written p (v .few) (v .fits))
+    let f = v .one .form in
+    subst (λ l. length l ≤ mostBytes new) (sym (folded-written es)) (omega (arith, length-written f p (v .few) (v .one .heads) (v .fits), bytes-room f))
 
 -- what is written for the folded catalogue is read as the folded catalogue
 pub folded-accepted : (es : List Entry) → WellFormed es → read (write (folded es)) ≡ accepted (folded es)

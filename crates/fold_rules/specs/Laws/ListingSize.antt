@@ -1,4 +1,4 @@
--- The listing of an accepted catalogue has at most `mostText` bytes: for each entry a line of at most 36 and those of its vectors, and the first line.
+-- The listing of an accepted catalogue has at most `mostText` bytes: for each entry a line of at most 42 and those of its vectors, and the first line.
 use mathlib.Core.Path.{_≡_, refl, sym, ap, subst}
 use mathlib.Core.Bool.{Bool, true, false}
 use mathlib.Core.List.{List, [], _∷_, _++_, map}
@@ -26,10 +26,11 @@ use Rattle.lattices.specs.Laws.Refusal.{one-to}
 use Rattle.greedy_reduction.specs.Exactness.{length-begin, begin}
 use Rattle.greedy_reduction.specs.Sizes.{no-longer-of}
 use Rattle.greedy_reduction.specs.Passes.{passes-most}
-use Rattle.catalogue_rules.specs.Catalogue.{See, Entry, accepted, seeNumber}
+use Rattle.catalogue_rules.specs.Catalogue.{mostNumber, See, Entry, accepted, seeNumber}
 use Rattle.catalogue_rules.specs.Read.{isNumbered, read}
-use Rattle.catalogue_rules.specs.Form.{VectorFits, mostNumber}
+use Rattle.catalogue_rules.specs.Form.{VectorFits}
 use Rattle.catalogue_rules.specs.Laws.WellFormed.{well-formed}
+use Rattle.catalogue_rules.specs.Laws.Opening.{numbers-room}
 use Rattle.fold_rules.specs.Fold.{reducedOf, standing, Stood, stoodOf, closedList, stands, standingIn, lookup, unlessOwn, followed, leads}
 use Rattle.fold_rules.specs.Listing.{vectorLines, entryLine, vectorsShown, entryLines}
 use Rattle.fold_rules.specs.Services.{listingText}
@@ -65,7 +66,7 @@ vector-lines m h (v ∷ vs) p =
 
 -- ---- the numbers of a line
 abbrev Short : ℕ → Type 0
-Short n = n < 10 ^ 7
+Short n = n < 10 ^ 9
 
 lookup-short : (ss : List Stood) → All (λ s. Short (s .standing .head .number)) ss → (n k : ℕ) → lookup ss n ≡ some k → Short k
 lookup-short [] h n k e = absurd (Option·some-ne-none k (sym e))
@@ -87,16 +88,16 @@ lead-short ss h own (some w) = go (lookup ss (w .number)) refl
     go none e = omega arith
     go (some k) e = word (eqb k own) k (lookup-short ss h (w .number) k e)
 
-line-length : (a b c p : ℕ) → Short a → Short b → Short c → p < 10 ^ 11 → length (line (decimal a) (decimal b ∷ decimal c ∷ decimal p ∷ [])) ≤ 36
+line-length : (a b c p : ℕ) → Short a → Short b → Short c → p < 10 ^ 11 → length (line (decimal a) (decimal b ∷ decimal c ∷ decimal p ∷ [])) ≤ 42
 line-length a b c p x y z w = omega (
   arith,
   length-append (decimal a) (after (decimal b ∷ decimal c ∷ decimal p ∷ [])),
   length-append (decimal b) (after (decimal c ∷ decimal p ∷ [])),
   length-append (decimal c) (after (decimal p ∷ [])),
   length-append (decimal p) (after []),
-  decimal-length 7 a (omega arith) x,
-  decimal-length 7 b (omega arith) y,
-  decimal-length 7 c (omega arith) z,
+  decimal-length 9 a (omega arith) x,
+  decimal-length 9 b (omega arith) y,
+  decimal-length 9 c (omega arith) z,
   decimal-length 11 p (omega arith) w,
 )
 
@@ -107,7 +108,7 @@ record Listed (s : Stood) : Type 0 where
   passes : reduction (s .entry .vectors) .passes < 10 ^ 11
   shown : length (vectorsShown s) ≤ mostShown
 
-entry-lines : (ss : List Stood) → All (λ s. Short (s .standing .head .number)) ss → (more : List Stood) → All Listed more → length (entryLines ss more) ≤ length more * (36 + mostShown)
+entry-lines : (ss : List Stood) → All (λ s. Short (s .standing .head .number)) ss → (more : List Stood) → All Listed more → length (entryLines ss more) ≤ length more * (42 + mostShown)
 entry-lines ss h [] p = omega arith
 entry-lines ss h (s ∷ more) p =
     let l = line-length (s .entry .head .number) (s .standing .head .number) (seeNumber (leads ss s)) (reduction (s .entry .vectors) .passes)
@@ -123,7 +124,7 @@ few-passes e s =
     omega arith
 
 number-short : (e : Entry) → Sound e → Short (e .head .number)
-number-short e s = let r = one-to mostNumber (e .head .number) (s .fits .head .number) in omega arith
+number-short e s = let r = one-to (mostNumber (e .head .form)) (e .head .number) (s .fits .head .number) in omega (arith, numbers-room (e .head .form))
 
 shown-length : (all : List Entry) (e : Entry) → Sound e → length (vectorsShown (stoodOf all e)) ≤ mostShown
 shown-length all e s = go (stands (stoodOf all e))

@@ -40,6 +40,7 @@ module _ (all : List Entry) (w : WellFormed all) where
     entry-prints =
         let B = entry-basis e sound-here in
         record {
+          form = refl;
           number = refl;
           d = refl;
           count = entry-count e sound-here ∙ sound-here .fits .count;
@@ -74,6 +75,7 @@ sees-placed i g n = (
 
 prints-placed : {all : List Entry} {e : Entry} (i : ℕ) (g : Entry) → Prints all e g → Prints all e (entryAt i g)
 prints-placed i g p = record {
+  form = p .form;
   number = p .number;
   d = p .d;
   count = p .count;

@@ -1,135 +1,98 @@
--- The word stands behind the lines before `from`.
-use mathlib.Core.Path.{_≡_, ap, _∙_}
-use Prim.Native.Nat.{_+_, _-_, _≤_}
+-- Among the lines of a text, or those behind the line `new`, which counts.
+use mathlib.Core.Path.{_≡_, sym, ap, _∙_}
+use mathlib.Core.Bool.{true, false}
+use Prim.Native.Nat.{_+_, _≤_}
 use native.Mathlib.Omega.{arith}
-use lib.ListN.{length, take, drop, length-drop}
+use lib.ListN.{length, drop, length-drop}
 use borrow.Author.Needs.{needs}
-use Rattle.text_rules.specs.Encoding.{lineWords}
+use borrow.Author.Tests.{not-true, not-false}
+use Rattle.catalogue_rules.specs.Catalogue.{new}
+use Rattle.text_rules.specs.Encoding.{linesOf, further, lineHolding, toldHolding}
 use Rattle.text_lines.specs.Fields.{to-end}
-use Rattle.text_encoding.specs.Splits.{lineLength}
-use Rattle.text_encoding.specs.Counts.{Passing, passing-begins, passing-found, passing-on, passing-ends, passing-none}
+use Rattle.text_encoding.specs.Splits.{opensNew, new-second, holding-old, holding-new}
+use Rattle.text_encoding.specs.Counts.{further-one}
 use Rattle.text_encoding.proofs.line_of_word.Statement.{statement}
 use Rattle.text_encoding.proofs.line_of_word.Tie as tie
 
-abbrev Inv-loop : tie.InvT-loop
-Inv-loop text k from₀ passed₀ left₀ from passed left = (from ≤ length text) × Passing text k from passed left
+opens-new-requires : tie.Need-opens-new-requires
+opens-new-requires c κs = search needs
 
-abbrev μ-loop : tie.MeasureT-loop
-μ-loop text k from₀ passed₀ left₀ from passed left = length text - from
+line-among-requires : tie.Need-line-among-requires
+line-among-requires c κs = search needs
 
-loop-holds : tie.Need-loop-holds Inv-loop μ-loop
-loop-holds c = (omega arith, passing-begins _ _)
-
-sub-length-before : tie.Need-sub-length-before Inv-loop μ-loop
-sub-length-before c = search needs
-
-part-length-before-start : tie.Need-part-length-before-start Inv-loop μ-loop
-part-length-before-start c = search needs
-
-part-length-before-end : tie.Need-part-length-before-end Inv-loop μ-loop
-part-length-before-end c = search needs
-
-length-before-requires : tie.Need-length-before-requires Inv-loop μ-loop
-length-before-requires c κs = search needs
-
--- the line of this turn
-n-is : (c : tie.After-length-before Inv-loop μ-loop) → c .length-before .result ≡ lineLength (drop (c .before .before .before .loop .from) (c .before .before .before .before .before .args .text .now))
-n-is c = c .length-before .ensures .0 ∙ ap lineLength (to-end (c .before .before .before .loop .from) (c .before .before .before .before .before .args .text .now))
-
-within : (c : tie.After-length-before Inv-loop μ-loop) → c .before .before .before .loop .from + c .length-before .result ≤ length (c .before .before .before .before .before .args .text .now)
-within c =
-    let from = c .before .before .before .loop .from in
-    let text = c .before .before .before .before .before .args .text .now in
-    omega (arith, c .length-before .ensures .1, ap length (to-end from text), length-drop from text, c .before .before .loop-test .taken)
-
-add-end : tie.Need-add-end Inv-loop μ-loop
-add-end c = let h = within c in search needs
-
-sub-words-in : tie.Need-sub-words-in Inv-loop μ-loop
-sub-words-in c = omega arith
-
-part-words-in-start : tie.Need-part-words-in-start Inv-loop μ-loop
-part-words-in-start c = omega arith
-
-part-words-in-end : tie.Need-part-words-in-end Inv-loop μ-loop
-part-words-in-end c = omega (arith, within c)
-
-words-in-requires : tie.Need-words-in-requires Inv-loop μ-loop
-words-in-requires c κs = search needs
-
-here-is : (c : tie.After-words-in Inv-loop μ-loop)
-    → let n = c .before .before in c .words-in .result ≡ lineWords (take (n .length-before .result) (drop (n .before .before .before .loop .from) (n .before .before .before .before .before .args .text .now)))
-here-is c =
-    let n = c .before .before in
-    let l = n .before .before .before in
-    let from = l .loop .from in
-    let cut : from + n .length-before .result - from ≡ n .length-before .result = omega arith in
-    c .words-in .ensures ∙ ap (λ k. lineWords (take k (drop from (l .before .before .args .text .now)))) cut
-
--- no more lines are passed than bytes
-few : (c : tie.In-loop Inv-loop μ-loop) → c .before .loop .passed + 1 ≤ length (c .before .before .before .args .text .now)
-few c = omega (arith, c .before .loop .inv .1 .few, c .loop-test .taken)
-
-add-result : tie.Need-add-result Inv-loop μ-loop
-add-result c = let h = few (c .before .before .before .before .before) in search needs
-
-returns : tie.Need-returns Inv-loop μ-loop
+returns : tie.Need-returns
 returns c =
-    let w = c .before in
-    let n = w .before .before in
-    passing-found (n .before .before .before .loop .inv .1) (n-is n) (here-is w) (c .if1 .taken)
+    let o = c .before in
+    let a = o .before .before .before .args in
+    let no : opensNew (a .text .now) ≡ false = sym (o .before .opens-new .ensures) ∙ not-true (o .before .opens-new .result) (o .if1 .taken) in
+    c .line-among .ensures .0 ∙ sym (holding-old (a .text .now) (a .k) no)
 
-returns-2 : tie.Need-returns-2 Inv-loop μ-loop
-returns-2 c =
-    let e = c .before in
-    let w = e .before in
-    let n = w .before .before in
-    passing-ends (n .before .before .before .loop .inv .1) (n-is n) (here-is w) (e .if1 .left) (omega (arith, c .if2 .taken))
+second-line-requires : tie.Need-second-line-requires
+second-line-requires c κs = search needs
 
-add-passed : tie.Need-add-passed Inv-loop μ-loop
-add-passed c = let h = few (c .before .before .before .before .before .before) in search needs
+sub-line-among : tie.Need-sub-line-among
+sub-line-among c = search needs
 
-add-from : tie.Need-add-from Inv-loop μ-loop
-add-from c =
-    let n = c .before .before .before .before in
-    let l = n .before .before .before in
-    let h : l .loop .from + n .length-before .result + 1 ≤ length (l .before .before .args .text .now) = omega (arith, within n, c .if2 .left) in
-    search needs
+part-line-among-start : tie.Need-part-line-among-start
+part-line-among-start c = search needs
 
-loop-less : tie.Need-loop-less Inv-loop μ-loop
-loop-less c = omega (arith, c .before .before .before .before .before .before .loop-test .taken)
+part-line-among-end : tie.Need-part-line-among-end
+part-line-among-end c = search needs
 
-loop-again : tie.Need-loop-again Inv-loop μ-loop
-loop-again c =
-    let e = c .before in
-    let w = e .before in
-    let n = w .before .before in
-    (omega (arith, within n, c .if2 .left), passing-on (n .before .before .before .loop .inv .1) (n-is n) (here-is w) (e .if1 .left))
+line-among-requires-2 : tie.Need-line-among-requires-2
+line-among-requires-2 c κs = search needs
 
-returns-3 : tie.Need-returns-3 Inv-loop μ-loop
-returns-3 c = passing-none (c .before .loop .inv .1) (c .loop-test .left)
+opened : (c : tie.Else1) → opensNew (c .before .before .before .args .text .now) ≡ true
+opened c = sym (c .before .opens-new .ensures) ∙ not-false (c .before .opens-new .result) (c .if1 .left)
+
+-- what was found is counted from the second line on
+found : (c : tie.After-line-among2) → let a = c .before .before .before .before .before .before .args in toldHolding (linesOf (a .text .now)) (a .k) ≡ further (c .line-among2 .result)
+found c =
+    let l = c .before .before in
+    let a = l .before .before .before .before .args in
+    let text = a .text .now in
+    let n = l .second-line .ensures .0 in
+    holding-new text (a .k) (opened (l .before))
+    ∙ ap further (ap (λ i. lineHolding new (linesOf (drop i text)) (a .k)) (sym n)
+    ∙ ap (λ s. lineHolding new (linesOf s) (a .k)) (sym (to-end (l .second-line .result) text)) ∙ sym (c .line-among2 .ensures .0))
+
+-- the line `new` has bytes, so there are no more lines than bytes
+few : (c : tie.After-line-among2) → c .line-among2 .result + 1 ≤ length (c .before .before .before .before .before .before .args .text .now)
+few c =
+    let l = c .before .before in
+    let text = l .before .before .before .before .args .text .now in
+    let at = l .second-line .result in
+    omega (
+      arith,
+      c .line-among2 .ensures .1,
+      ap length (to-end at text),
+      length-drop at text,
+      l .second-line .ensures .0,
+      l .second-line .ensures .1,
+      new-second text (opened (l .before)),
+    )
+
+returns-2 : tie.Need-returns-2
+returns-2 c = sym (found (c .before) ∙ ap further (c .if2 .taken))
+
+add-result : tie.Need-add-result
+add-result c = let h = few (c .before) in search needs
+
+returns-3 : tie.Need-returns-3
+returns-3 c = further-one (c .before .line-among2 .result) (omega (arith, c .if2 .left)) ∙ sym (found (c .before))
 
 pub line-of-word-spec : {M : Type 1} → statement M
 line-of-word-spec =
     tie.close
     (tie.spec
-    Inv-loop
-    μ-loop
-    loop-holds
-    sub-length-before
-    part-length-before-start
-    part-length-before-end
-    length-before-requires
-    add-end
-    sub-words-in
-    part-words-in-start
-    part-words-in-end
-    words-in-requires
-    add-result
+    opens-new-requires
+    line-among-requires
     returns
+    second-line-requires
+    sub-line-among
+    part-line-among-start
+    part-line-among-end
+    line-among-requires-2
     returns-2
-    add-passed
-    add-from
-    loop-less
-    loop-again
+    add-result
     returns-3)

@@ -5,8 +5,8 @@ use Rattle.text_encoding.specs.Tells.{tells-nothing}
 use Rattle.text_encoding.proofs.tell.Statement.{statement}
 use Rattle.text_encoding.proofs.tell.Tie as tie
 
-tell-lines-requires : tie.Need-tell-lines-requires
-tell-lines-requires c κs = search needs
+tell-text-requires : tie.Need-tell-text-requires
+tell-text-requires c κs = search needs
 
 same-length : tie.Need-same-length
 same-length c = search needs
@@ -20,4 +20,4 @@ returns-2 c =
     (tells-nothing (a .text .now) (a .out .now) (c .if1 .left), omega arith)
 
 pub tell-spec : {M : Type 1} → statement M
-tell-spec = tie.close (tie.spec tell-lines-requires same-length returns returns-2)
+tell-spec = tie.close (tie.spec tell-text-requires same-length returns returns-2)

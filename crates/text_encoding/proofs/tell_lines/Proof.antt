@@ -1,9 +1,10 @@
 -- The lines before `from` are told.
-use mathlib.Core.Path.{_≡_, sym, ap, _∙_, subst}
+use mathlib.Core.Path.{_≡_, ap, _∙_, subst}
 use Prim.Native.Nat.{_+_, _-_, _≤_}
 use native.Mathlib.Omega.{arith}
 use lib.ListN.{length, take, drop, length-drop}
 use borrow.Author.Needs.{needs}
+use Rattle.catalogue_records.specs.EntriesIn.{formIn}
 use Rattle.text_lines.specs.Fields.{to-end}
 use Rattle.text_encoding.specs.Stores.{Room, stores-length, stores-room}
 use Rattle.text_encoding.specs.Splits.{lineLength}
@@ -12,13 +13,13 @@ use Rattle.text_encoding.proofs.tell_lines.Statement.{statement}
 use Rattle.text_encoding.proofs.tell_lines.Tie as tie
 
 abbrev Inv-loop : tie.InvT-loop
-Inv-loop text out₀ e₀ from₀ out e from = (from ≤ length text + 1) × Going text out₀ from out e
+Inv-loop form text out₀ e₀ from₀ out e from = (from ≤ length text + 1) × Going (formIn form) text out₀ from out e
 
 abbrev μ-loop : tie.MeasureT-loop
-μ-loop text out₀ e₀ from₀ out e from = length text - from
+μ-loop form text out₀ e₀ from₀ out e from = length text - from
 
 loop-holds : tie.Need-loop-holds Inv-loop μ-loop
-loop-holds c = (omega arith, going-begins _ _)
+loop-holds c = (omega arith, going-begins _ _ _)
 
 sub-length-before : tie.Need-sub-length-before Inv-loop μ-loop
 sub-length-before c = search needs
@@ -78,7 +79,7 @@ loop-again c =
     let from = l .loop .from in
     let text = s .args .text .now in
     let cut : from + n .length-before .result - from ≡ n .length-before .result = omega arith in
-    let adds = subst (λ m. Adds (take m (drop from text)) (l .loop .out) (l .loop .e) (w .with-line .last .1 .0) (w .with-line .result)) cut (w .with-line .ensures) in
+    let adds = subst (λ m. Adds (formIn (s .args .form)) (take m (drop from text)) (l .loop .out) (l .loop .e) (w .with-line .last .1 .1 .0) (w .with-line .result)) cut (w .with-line .ensures) in
     (omega (arith, within n), going-on (begins s) (l .loop .inv .1) (n-is n) adds)
 
 end-word-requires : tie.Need-end-word-requires Inv-loop μ-loop
@@ -102,7 +103,7 @@ returns c =
     let l = p .before .before .before .before in
     let s = l .before .before .before in
     let stored = p .put .ensures in (
-      going-ends (s .pre) (begins s) (l .loop .inv .1) (p .before .before .before .loop-test .left) (p .before .before .end-word .ensures) stored,
+      going-ends (begins s) (l .loop .inv .1) (p .before .before .before .loop-test .left) (p .before .before .end-word .ensures) stored,
       omega (arith, stores-room (room l) stored .few, stores-length (room l) stored, stores-length (begins s) (l .loop .inv .1 .stored)),
     )
 

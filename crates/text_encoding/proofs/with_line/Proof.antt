@@ -5,6 +5,7 @@ use mathlib.Core.Option.{none, some}
 use native.Mathlib.Omega.{arith}
 use borrow.Author.Needs.{needs}
 use borrow.Author.Tests.{not-true, not-false}
+use Rattle.catalogue_records.specs.EntriesIn.{formIn}
 use Rattle.text_rules.specs.Encoding.{lineFrom, content, isEmpty}
 use Rattle.text_lines.specs.Told.{isNone, wordsIn, told, encodedLine}
 use Rattle.text_lines.specs.ToldLaws.{line-blank, line-told}
@@ -17,16 +18,16 @@ read-line-requires c κs = search needs
 
 -- the line, as the rules of text have it
 blank-is : (c : tie.After-read-line) → c .read-line .result .blank ≡ isEmpty (content (c .before .before .before .args .s .now))
-blank-is c = let s = c .before .before .before .args .s .now in ap (λ l. l .blank) (c .read-line .ensures .0) ∙ line-blank s
+blank-is c = let a = c .before .before .before .args in ap (λ l. l .blank) (c .read-line .ensures .0) ∙ line-blank (formIn (a .form)) (a .s .now)
 
-told-is : (c : tie.After-read-line) → isEmpty (content (c .before .before .before .args .s .now)) ≡ false → told (c .read-line .result) ≡ encodedLine (lineFrom (content (c .before .before .before .args .s .now)))
-told-is c e = ap told (c .read-line .ensures .0) ∙ line-told (c .before .before .before .args .s .now) e
+told-is : (c : tie.After-read-line) → let a = c .before .before .before .args in isEmpty (content (a .s .now)) ≡ false → told (c .read-line .result) ≡ encodedLine (lineFrom (formIn (a .form)) (content (a .s .now)))
+told-is c e = let a = c .before .before .before .args in ap told (c .read-line .ensures .0) ∙ line-told (formIn (a .form)) (a .s .now) e
 
 returns : tie.Need-returns
 returns c =
     let r = c .before in
     let a = r .before .before .before .args in
-    adds-nothing (a .s .now) (a .out .now) (a .e) (sym (blank-is r) ∙ c .if1 .taken)
+    adds-nothing (formIn (a .form)) (a .s .now) (a .out .now) (a .e) (sym (blank-is r) ∙ c .if1 .taken)
 
 full : (c : tie.Else1) → isEmpty (content (c .before .before .before .before .args .s .now)) ≡ false
 full c = sym (blank-is (c .before)) ∙ c .if1 .left
@@ -41,13 +42,13 @@ returns-2 c =
     let r = e .before in
     let a = r .before .before .before .args in
     let wrong : isNone (r .read-line .result .mistake) ≡ false = sym (n .is-none .ensures) ∙ not-true (n .is-none .result) (c .if2 .taken) in
-    adds-wrong (a .s .now) (a .out .now) (a .e) (full e) (sym (ap (λ b. cond b (some (wordsIn (r .read-line .result))) none) wrong) ∙ told-is r (full e))
+    adds-wrong (formIn (a .form)) (a .s .now) (a .out .now) (a .e) (full e) (sym (ap (λ b. cond b (some (wordsIn (r .read-line .result))) none) wrong) ∙ told-is r (full e))
 
 put-line-requires : tie.Need-put-line-requires
 put-line-requires c κs = let r = c .before .before .before .before in (r .before .before .before .pre .0, r .read-line .ensures .1)
 
-add-t11 : tie.Need-add-t11
-add-t11 c = omega (arith, c .before .before .before .before .before .before .before .before .before .before .before .pre .1)
+add-t12 : tie.Need-add-t12
+add-t12 c = omega (arith, c .before .before .before .before .before .before .before .before .before .before .before .pre .1)
 
 same-length : tie.Need-same-length
 same-length c = search needs
@@ -61,7 +62,7 @@ returns-3 c =
     let r = e .before in
     let a = r .before .before .before .args in
     let right : isNone (r .read-line .result .mistake) ≡ true = sym (n .is-none .ensures) ∙ not-false (n .is-none .result) (o .if2 .left) in
-    adds-entry (a .s .now) (full e) (sym (ap (λ b. cond b (some (wordsIn (r .read-line .result))) none) right) ∙ told-is r (full e)) (p .put-line .ensures)
+    adds-entry (formIn (a .form)) (a .s .now) (full e) (sym (ap (λ b. cond b (some (wordsIn (r .read-line .result))) none) right) ∙ told-is r (full e)) (p .put-line .ensures)
 
 pub with-line-spec : {M : Type 1} → statement M
 with-line-spec =
@@ -72,6 +73,6 @@ with-line-spec =
     is-none-requires
     returns-2
     put-line-requires
-    add-t11
+    add-t12
     same-length
     returns-3)

@@ -4,6 +4,7 @@ use mathlib.Core.Bool.{true, false, cond}
 use mathlib.Core.Option.{none, some}
 use borrow.Author.Needs.{needs}
 use borrow.Author.Tests.{not-true, not-false}
+use Rattle.catalogue_records.specs.EntriesIn.{formIn}
 use Rattle.text_rules.specs.Encoding.{lineFrom, content, isEmpty}
 use Rattle.text_lines.specs.Told.{isNone, wordsIn, told, encodedLine}
 use Rattle.text_lines.specs.ToldLaws.{line-blank, line-told}
@@ -16,13 +17,13 @@ read-line-requires c κs = search needs
 
 -- the line, as the rules of text have it
 blank-is : (c : tie.After-read-line) → c .read-line .result .blank ≡ isEmpty (content (c .before .before .args .s .now))
-blank-is c = ap (λ l. l .blank) (c .read-line .ensures .0) ∙ line-blank (c .before .before .args .s .now)
+blank-is c = let a = c .before .before .args in ap (λ l. l .blank) (c .read-line .ensures .0) ∙ line-blank (formIn (a .form)) (a .s .now)
 
-told-is : (c : tie.After-read-line) → isEmpty (content (c .before .before .args .s .now)) ≡ false → told (c .read-line .result) ≡ encodedLine (lineFrom (content (c .before .before .args .s .now)))
-told-is c e = ap told (c .read-line .ensures .0) ∙ line-told (c .before .before .args .s .now) e
+told-is : (c : tie.After-read-line) → let a = c .before .before .args in isEmpty (content (a .s .now)) ≡ false → told (c .read-line .result) ≡ encodedLine (lineFrom (formIn (a .form)) (content (a .s .now)))
+told-is c e = let a = c .before .before .args in ap told (c .read-line .ensures .0) ∙ line-told (formIn (a .form)) (a .s .now) e
 
 returns : tie.Need-returns
-returns c = blank-words (c .before .before .before .args .s .now) (sym (blank-is (c .before)) ∙ c .if1 .taken)
+returns c = let a = c .before .before .before .args in blank-words (formIn (a .form)) (a .s .now) (sym (blank-is (c .before)) ∙ c .if1 .taken)
 
 full : (c : tie.Else1) → isEmpty (content (c .before .before .before .args .s .now)) ≡ false
 full c = sym (blank-is (c .before)) ∙ c .if1 .left
@@ -36,7 +37,7 @@ returns-2 c =
     let e = n .before in
     let r = e .before in
     let wrong : isNone (r .read-line .result .mistake) ≡ false = sym (n .is-none .ensures) ∙ not-true (n .is-none .result) (c .if2 .taken) in
-    wrong-words (r .before .before .args .s .now) (full e) (sym (ap (λ b. cond b (some (wordsIn (r .read-line .result))) none) wrong) ∙ told-is r (full e))
+    wrong-words (formIn (r .before .before .args .form)) (r .before .before .args .s .now) (full e) (sym (ap (λ b. cond b (some (wordsIn (r .read-line .result))) none) wrong) ∙ told-is r (full e))
 
 count-words-requires : tie.Need-count-words-requires
 count-words-requires c κs = search needs
@@ -49,7 +50,7 @@ returns-3 c =
     let r = e .before in
     let right : isNone (r .read-line .result .mistake) ≡ true = sym (n .is-none .ensures) ∙ not-false (n .is-none .result) (o .if2 .left) in
     c .count-words .ensures
-    ∙ right-words (r .before .before .args .s .now) (full e) (sym (ap (λ b. cond b (some (wordsIn (r .read-line .result))) none) right) ∙ told-is r (full e))
+    ∙ right-words (formIn (r .before .before .args .form)) (r .before .before .args .s .now) (full e) (sym (ap (λ b. cond b (some (wordsIn (r .read-line .result))) none) right) ∙ told-is r (full e))
 
 pub words-in-spec : {M : Type 1} → statement M
 words-in-spec =

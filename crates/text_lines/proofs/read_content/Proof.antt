@@ -11,11 +11,13 @@ use mir.Facts.{toZ-ofZ}
 use borrow.Author.Needs.{needs}
 use borrow.Author.Tests.{not-true, not-false}
 use Rattle.lattices.specs.Vector.{nth}
-use Rattle.catalogue_rules.specs.Word.{head, encode}
+use Rattle.catalogue_rules.specs.Catalogue.{mostNumber}
+use Rattle.catalogue_rules.specs.Laws.Opening.{numbers-room}
+use Rattle.catalogue_records.specs.EntriesIn.{formIn}
 use Rattle.text_parts.specs.Counts.{countOf}
 use Rattle.text_parts.specs.Parts.{takenAt}
 use Rattle.text_rules.specs.Encoding.{at, isHead}
-use Rattle.text_lines.specs.Told.{isNone, wrongLine, headMistake, partsRead}
+use Rattle.text_lines.specs.Told.{isNone, wrongLine, headMistake, headTold, partsRead}
 use Rattle.text_lines.specs.Fields.{fits-size, fits-most, to-end, put-at}
 use Rattle.text_lines.specs.Parts.{head-fits}
 use Rattle.text_lines.specs.ToldLaws.{mistake, is-head, content-wrong, content-right}
@@ -49,13 +51,13 @@ nth-of c i =
     let p = takenAt 3 (c .before .before .before .args .s .now) in
     ap (λ l. getD l i (pos 0)) (c .read-part .ensures .1 .0) ∙ put-at (p .numbers) 3 (length (p .numbers)) i
 
-tested : (c : tie.After-head-mistake) → c .head-mistake .result ≡ mistake (c .before .before .before .before .before .before .before .before .args .s .now)
+tested : (c : tie.After-head-mistake) → let a = c .before .before .before .before .before .before .before .before .args in c .head-mistake .result ≡ mistake (formIn (a .form)) (a .s .now)
 tested c =
     let r = c .before .before .before .before .before in
     let number = toZ-ofZ {w = w64} (record { sfits = c .before .before .before .head-mistake-arg .given }) ∙ nth-of r 0 in
     let d = toZ-ofZ {w = w64} (record { sfits = c .before .before .head-mistake-arg2 .given }) ∙ nth-of r 1 in
     let m = toZ-ofZ {w = w64} (record { sfits = c .before .head-mistake-arg3 .given }) ∙ nth-of r 2 in
-    c .head-mistake .ensures ∙ (λ i. headMistake (r .read-part .ensures .0 i .stop) (r .read-part .ensures .0 i .count) (number i) (d i) (m i))
+    c .head-mistake .ensures ∙ (λ i. headMistake (formIn (r .before .before .before .args .form)) (r .read-part .ensures .0 i .stop) (r .read-part .ensures .0 i .count) (number i) (d i) (m i))
 
 wrong-is : (c : tie.Then1) → isNone (c .before .before .head-mistake .result) ≡ false
 wrong-is c = sym (c .before .is-none .ensures) ∙ not-true (c .before .is-none .result) (c .if1 .taken)
@@ -66,15 +68,15 @@ wrong-requires c κs = search needs
 returns : tie.Need-returns
 returns c =
     let t = c .before in
-    let s = t .before .before .before .before .before .before .before .before .before .before .args .s .now in
+    let a = t .before .before .before .before .before .before .before .before .before .before .args in
     let is = tested (t .before .before) in
-    (c .wrong .ensures ∙ ap wrongLine is ∙ content-wrong s (sym (ap isNone is) ∙ wrong-is t), omega (arith, ap (λ l. l .count) (c .wrong .ensures)))
+    (c .wrong .ensures ∙ ap wrongLine is ∙ content-wrong (formIn (a .form)) (a .s .now) (sym (ap isNone is) ∙ wrong-is t), omega (arith, ap (λ l. l .count) (c .wrong .ensures)))
 
-right : (c : tie.Else1) → isNone (mistake (c .before .before .before .before .before .before .before .before .before .before .args .s .now)) ≡ true
+right : (c : tie.Else1) → let a = c .before .before .before .before .before .before .before .before .before .before .args in isNone (mistake (formIn (a .form)) (a .s .now)) ≡ true
 right c = sym (ap isNone (tested (c .before .before))) ∙ sym (c .before .is-none .ensures) ∙ not-false (c .before .is-none .result) (c .if1 .left)
 
-heads : (c : tie.Else1) → isHead (takenAt 3 (c .before .before .before .before .before .before .before .before .before .before .args .s .now)) ≡ true
-heads c = sym (is-head (c .before .before .before .before .before .before .before .before .before .before .args .s .now)) ∙ right c
+heads : (c : tie.Else1) → let a = c .before .before .before .before .before .before .before .before .before .before .args in isHead (formIn (a .form)) (takenAt 3 (a .s .now)) ≡ true
+heads c = let a = c .before .before .before .before .before .before .before .before .before .before .args in sym (is-head (formIn (a .form)) (a .s .now)) ∙ right c
 
 array-copy-out-count : tie.Need-array-copy-out-count
 array-copy-out-count c = search needs
@@ -97,36 +99,54 @@ count-requires-3 c κs = search needs
 -- number, d and m as the definition has them, and how large they are
 number : (c : tie.After-count) → c .count .result ≡ at (takenAt 3 (c .before .before .before .before .before .before .before .before .before .before .before .before .args .s .now) .numbers) 0
 number c =
-    let p = takenAt 3 (c .before .before .before .before .before .before .before .before .before .before .before .before .args .s .now) in
-    c .count .ensures ∙ ap countOf (toZ-ofZ {w = w64} (record { sfits = c .before .count-arg .given }) ∙ nth-of (c .before .before .before .before .before .before .before .before .before) 0) ∙ fits-size 1048575 (nth (p .numbers) 0) (head-fits p (heads (c .before .before)) .0)
+    let a = c .before .before .before .before .before .before .before .before .before .before .before .before .args in
+    let p = takenAt 3 (a .s .now) in
+    c .count .ensures
+    ∙ ap countOf (toZ-ofZ {w = w64} (record { sfits = c .before .count-arg .given }) ∙ nth-of (c .before .before .before .before .before .before .before .before .before) 0)
+    ∙ fits-size (mostNumber (formIn (a .form))) (nth (p .numbers) 0) (head-fits (formIn (a .form)) p (heads (c .before .before)) .0)
 
 d : (c : tie.After-count2) → c .count2 .result ≡ at (takenAt 3 (c .before .before .before .before .before .before .before .before .before .before .before .before .before .before .args .s .now) .numbers) 1
 d c =
-    let p = takenAt 3 (c .before .before .before .before .before .before .before .before .before .before .before .before .before .before .args .s .now) in
-    c .count2 .ensures ∙ ap countOf (toZ-ofZ {w = w64} (record { sfits = c .before .count-arg2 .given }) ∙ nth-of (c .before .before .before .before .before .before .before .before .before .before .before) 1) ∙ fits-size 15 (nth (p .numbers) 1) (head-fits p (heads (c .before .before .before .before)) .1 .0)
+    let a = c .before .before .before .before .before .before .before .before .before .before .before .before .before .before .args in
+    let p = takenAt 3 (a .s .now) in
+    c .count2 .ensures
+    ∙ ap countOf (toZ-ofZ {w = w64} (record { sfits = c .before .count-arg2 .given }) ∙ nth-of (c .before .before .before .before .before .before .before .before .before .before .before) 1)
+    ∙ fits-size 15 (nth (p .numbers) 1) (head-fits (formIn (a .form)) p (heads (c .before .before .before .before)) .1 .0)
 
 m : (c : tie.After-count3) → c .count3 .result ≡ at (takenAt 3 (c .before .before .before .before .before .before .before .before .before .before .before .before .before .before .before .before .args .s .now) .numbers) 2
 m c =
-    let p = takenAt 3 (c .before .before .before .before .before .before .before .before .before .before .before .before .before .before .before .before .args .s .now) in
-    c .count3 .ensures ∙ ap countOf (toZ-ofZ {w = w64} (record { sfits = c .before .count-arg3 .given }) ∙ nth-of (c .before .before .before .before .before .before .before .before .before .before .before .before .before) 2) ∙ fits-size 15 (nth (p .numbers) 2) (head-fits p (heads (c .before .before .before .before .before .before)) .1 .1)
+    let a = c .before .before .before .before .before .before .before .before .before .before .before .before .before .before .before .before .args in
+    let p = takenAt 3 (a .s .now) in
+    c .count3 .ensures
+    ∙ ap countOf (toZ-ofZ {w = w64} (record { sfits = c .before .count-arg3 .given }) ∙ nth-of (c .before .before .before .before .before .before .before .before .before .before .before .before .before) 2)
+    ∙ fits-size 15 (nth (p .numbers) 2) (head-fits (formIn (a .form)) p (heads (c .before .before .before .before .before .before)) .1 .1)
 
-number-most : (c : tie.After-count) → c .count .result ≤ 1048575
-number-most c = let p = takenAt 3 (c .before .before .before .before .before .before .before .before .before .before .before .before .args .s .now) in omega (arith, number c, fits-most 1048575 (nth (p .numbers) 0) (head-fits p (heads (c .before .before)) .0))
+number-most : (c : tie.After-count) → c .count .result ≤ mostNumber (formIn (c .before .before .before .before .before .before .before .before .before .before .before .before .args .form))
+number-most c =
+    let a = c .before .before .before .before .before .before .before .before .before .before .before .before .args in
+    let p = takenAt 3 (a .s .now) in
+    omega (arith, number c, fits-most (mostNumber (formIn (a .form))) (nth (p .numbers) 0) (head-fits (formIn (a .form)) p (heads (c .before .before)) .0))
 
 d-most : (c : tie.After-count2) → c .count2 .result ≤ 15
-d-most c = let p = takenAt 3 (c .before .before .before .before .before .before .before .before .before .before .before .before .before .before .args .s .now) in omega (arith, d c, fits-most 15 (nth (p .numbers) 1) (head-fits p (heads (c .before .before .before .before)) .1 .0))
+d-most c =
+    let a = c .before .before .before .before .before .before .before .before .before .before .before .before .before .before .args in
+    let p = takenAt 3 (a .s .now) in
+    omega (arith, d c, fits-most 15 (nth (p .numbers) 1) (head-fits (formIn (a .form)) p (heads (c .before .before .before .before)) .1 .0))
 
 m-most : (c : tie.After-count3) → c .count3 .result ≤ 15
-m-most c = let p = takenAt 3 (c .before .before .before .before .before .before .before .before .before .before .before .before .before .before .before .before .args .s .now) in omega (arith, m c, fits-most 15 (nth (p .numbers) 2) (head-fits p (heads (c .before .before .before .before .before .before)) .1 .1))
+m-most c =
+    let a = c .before .before .before .before .before .before .before .before .before .before .before .before .before .before .before .before .args in
+    let p = takenAt 3 (a .s .now) in
+    omega (arith, m c, fits-most 15 (nth (p .numbers) 2) (head-fits (formIn (a .form)) p (heads (c .before .before .before .before .before .before)) .1 .1))
 
-cast-head-word : tie.Need-cast-head-word
-cast-head-word c = omega (arith, number-most (c .before .before .before .before))
+cast-head-words : tie.Need-cast-head-words
+cast-head-words c = omega (arith, number-most (c .before .before .before .before), numbers-room (formIn (c .before .before .before .before .before .before .before .before .before .before .before .before .before .before .before .before .args .form)))
 
-head-word-requires : tie.Need-head-word-requires
-head-word-requires c κs =
+head-words-requires : tie.Need-head-words-requires
+head-words-requires c κs =
     let d-few = d-most (c .before .before) in
     let m-few = m-most c in
-    (omega (arith, number-most (c .before .before .before .before)), (omega (arith, d-few, m-few), omega (arith, d-few, m-few)))
+    (number-most (c .before .before .before .before), (omega (arith, d-few, m-few), omega (arith, d-few, m-few)))
 
 sub-with-parts : tie.Need-sub-with-parts
 sub-with-parts c = search needs
@@ -150,14 +170,16 @@ returns-2 c =
     let c2 = c3 .before .before in
     let c1 = c2 .before .before in
     let r = c1 .before .before .before .before .before .before .before .before .before in
-    let s = r .before .before .before .args .s .now in
-    let word = h .head-word .ensures ∙ (λ i. encode (head (number c1 i) (d c2 i) (m c3 i))) in
+    let a = r .before .before .before .args in
+    let f = formIn (a .form) in
+    let s = a .s .now in
+    let words = h .head-words .ensures ∙ (λ i. headTold f (number c1 i) (d c2 i) (m c3 i)) in
     let length-is = ap (λ q. q .length) (r .read-part .ensures .0) in
     let n = c2 .count2 .result * c3 .count3 .result in (
       c .with-parts .ensures .0
-          ∙ ap (λ l. partsRead (h .head-word .result) n (takenAt 225 l) l) (to-end (r .read-part .result .length) s)
-          ∙ (λ i. partsRead (word i) (d c2 i * m c3 i) (takenAt 225 (drop (length-is i) s)) (drop (length-is i) s))
-          ∙ content-right s (right (c1 .before .before)),
+          ∙ ap (λ l. partsRead (h .head-words .result) n (takenAt 225 l) l) (to-end (r .read-part .result .length) s)
+          ∙ (λ i. partsRead (words i) (d c2 i * m c3 i) (takenAt 225 (drop (length-is i) s)) (drop (length-is i) s))
+          ∙ content-right f s (right (c1 .before .before)),
       c .with-parts .ensures .1,
     )
 
@@ -180,8 +202,8 @@ read-content-spec =
     count-requires-2
     array-copy-out-count-3
     count-requires-3
-    cast-head-word
-    head-word-requires
+    cast-head-words
+    head-words-requires
     sub-with-parts
     part-with-parts-start
     part-with-parts-end

@@ -4,6 +4,7 @@ use native.Mathlib.Omega.{arith}
 use lib.ListN.{take}
 use lib.Seq.{length-take-le}
 use borrow.Author.Needs.{needs}
+use Rattle.catalogue_records.specs.EntriesIn.{formIn}
 use Rattle.text_lines.specs.Told.{textRead}
 use Rattle.text_lines.proofs.read_line.Statement.{statement}
 use Rattle.text_lines.proofs.read_line.Tie as tie
@@ -20,8 +21,8 @@ read-text-requires c κs = search needs
 returns : tie.Need-returns
 returns c =
     let n = c .before .before in
-    let s = n .before .before .args .s .now in
-    (c .read-text .ensures .0 ∙ ap (λ k. textRead (take k s)) (n .length-before .ensures .0), c .read-text .ensures .1)
+    let a = n .before .before .args in
+    (c .read-text .ensures .0 ∙ ap (λ k. textRead (formIn (a .form)) (take k (a .s .now))) (n .length-before .ensures .0), c .read-text .ensures .1)
 
 pub read-line-spec : {M : Type 1} → statement M
 read-line-spec =

@@ -14,6 +14,7 @@ use Rattle.catalogue_rules.specs.Write.{encodedCoordinates}
 use Rattle.input_checks.specs.Any.{beyond}
 use Rattle.text_parts.specs.Parts.{Taken, takenAt}
 use Rattle.text_lines.specs.declared.Mistake.the-variants.{None, NotAll, Beyond, NoSee}
+use Rattle.text_lines.specs.declared.Head.{Head}
 use Rattle.text_lines.specs.declared.Line.{Line}
 use Rattle.text_lines.specs.declared.Rest.{Rest}
 use Rattle.text_lines.specs.Told.{wrongLine, rightLine, stopMistake, isLast, restRead}
@@ -22,7 +23,7 @@ use Rattle.text_lines.proofs.with_parts.Statement.{statement}
 use Rattle.text_lines.proofs.with_parts.Tie as tie
 
 -- the definition, of its tests
-abbrev tests : ℕ → Taken → (last all far right : Bool) → Rest → Line
+abbrev tests : Head → Taken → (last all far right : Bool) → Rest → Line
 tests head p last all far right rest =
     cond last (cond all (cond far (wrongLine Beyond) (cond right (rightLine head (p .numbers) rest) (wrongLine NoSee))) (wrongLine NotAll)) (wrongLine (stopMistake (p .stop)))
 
@@ -181,7 +182,7 @@ returns-5 c =
     let p = takenAt 225 (a .s .now) in
     let rest = restIn p (a .s .now) in
     let yes : rest .right ≡ true = sym (ap (λ r. r .right) (found v)) ∙ not-false (v .rest-of .result .right) (c .if4 .left) in (
-      (λ i. record { mistake = None; blank = false; head = a .head; count = counted r i; coordinates = words w i; draft = found v i .draft; see = found v i .see })
+      (λ i. record { mistake = None; blank = false; head = a .head .first; size = a .head .size; count = counted r i; coordinates = words w i; draft = found v i .draft; see = found v i .see })
           ∙ sym (λ i. tests (a .head) p (last (o .before) i) (all o i) (near w i) (yes i) rest),
       few r,
     )

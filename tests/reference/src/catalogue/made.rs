@@ -1,19 +1,22 @@
 //! Accepted catalogues: few lattices, most of them in several bases.
 
-use super::{Entry, MOST_ENTRIES, MOST_NUMBER};
+use super::{Entry, Form, MOST_ENTRIES};
 use crate::bases::{basis, placed, scrambled, widened};
 use crate::cases::{ACCEPTED, KINDS};
 use crate::random::Random;
 use crate::vectors::rank;
 use crate::{fits, MOST_COORDINATES, MOST_VECTORS};
 
-/// A catalogue of so many entries.
-pub fn made(count: usize, random: &mut Random) -> Vec<Entry> {
+/// Numbers at the limits of the forms: the greatest of the old one, the next, and the greatest of the new one.
+pub const LIMITS: [u32; 3] = [1_048_575, 1_048_576, 268_435_455];
+
+/// A catalogue of so many entries, with numbers for this form.
+pub fn made(form: Form, count: usize, random: &mut Random) -> Vec<Entry> {
     let most = random.pick(&[2, 6, 40]);
     let lattices: Vec<Vec<Vec<i64>>> = (0..1 + random.index(count.min(most)))
         .map(|_| independent(random))
         .collect();
-    let numbers = numbers(count, random);
+    let numbers = numbers(form, count, random);
     let drafts = match random.between(0, 2) {
         0 => vec![0; lattices.len()],
         _ => drafts(lattices.len(), random),
@@ -32,8 +35,8 @@ pub fn made(count: usize, random: &mut Random) -> Vec<Entry> {
 }
 
 /// The largest catalogue: each entry with four vectors of eight coordinates, a mark and a see word.
-pub fn largest(random: &mut Random) -> Vec<Entry> {
-    let numbers = numbers(MOST_ENTRIES, random);
+pub fn largest(form: Form, random: &mut Random) -> Vec<Entry> {
+    let numbers = numbers(form, MOST_ENTRIES, random);
     let some = (0..40).map(|_| loop {
         let vectors = independent(random);
         if vectors.len() == MOST_VECTORS {
@@ -53,9 +56,9 @@ pub fn largest(random: &mut Random) -> Vec<Entry> {
 
 /// A catalogue with drafts and with many see words on entries that do not stand: up to 32 entries of few lattices of small vectors, most with
 /// a see word; the first of a lattice has one half the time, and often one that leads to itself.
-pub fn referring(random: &mut Random) -> Vec<Entry> {
+pub fn referring(form: Form, random: &mut Random) -> Vec<Entry> {
     let count = 2 + random.index(31);
-    let numbers = numbers(count, random);
+    let numbers = numbers(form, count, random);
     let lattices: Vec<(i64, usize)> = (0..1 + random.index(6))
         .map(|k| (k as i64 + 2, 1 + random.index(MOST_COORDINATES)))
         .collect();
@@ -124,9 +127,10 @@ pub fn is_basis(vectors: &[Vec<i64>]) -> bool {
     vectors.iter().all(|v| fits(v)) && rank(vectors) == vectors.len()
 }
 
-/// Different numbers, often small ones or the greatest.
-pub fn numbers(count: usize, random: &mut Random) -> Vec<u32> {
-    let most = random.pick(&[count as u32, 300 + count as u32, MOST_NUMBER]);
+/// Different numbers for this form, often small ones, and often some at the limits.
+pub fn numbers(form: Form, count: usize, random: &mut Random) -> Vec<u32> {
+    let (few, most_old) = (count as u32, Form::Old.most_number());
+    let most = random.pick(&[few, 300 + few, most_old, form.most_number()]);
     let mut all = vec![];
     while all.len() < count {
         let number = random.between(1, most as i64) as u32;
@@ -134,8 +138,10 @@ pub fn numbers(count: usize, random: &mut Random) -> Vec<u32> {
             all.push(number);
         }
     }
-    if random.between(0, 4) == 0 && !all.contains(&MOST_NUMBER) {
-        all[count - 1] = MOST_NUMBER;
+    for limit in LIMITS.into_iter().filter(|&n| n <= form.most_number()) {
+        if random.between(0, 4) == 0 && !all.contains(&limit) {
+            all[random.index(count)] = limit;
+        }
     }
     all
 }

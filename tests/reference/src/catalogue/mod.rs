@@ -1,12 +1,15 @@
-//! Catalogues by the rules of document 01: read, written, folded, looked up and listed, plainly and slowly; and what separates two entries.
+//! Catalogues by the rules of documents 01 and 02: read, written, folded, looked up, listed and moved from one form to the other, plainly and
+//! slowly; and what separates two entries.
 
 pub mod cases;
 pub mod damage;
 pub mod drafts;
 pub mod fold;
+pub mod forms;
 pub mod hermite;
 pub mod listing;
 pub mod made;
+pub mod moves;
 pub mod pairs;
 pub mod reader;
 pub mod related;
@@ -15,9 +18,48 @@ pub mod text;
 pub mod writer;
 
 pub const MOST_ENTRIES: usize = 256;
-pub const MOST_BYTES: usize = 35_844;
-/// The greatest entry number.
-pub const MOST_NUMBER: u32 = 1_048_575;
+
+/// How heads are written: as one word, or as two, a number and a size.
+#[derive(Clone, Copy, Debug, PartialEq, Eq)]
+pub enum Form {
+    Old,
+    New,
+}
+
+impl Form {
+    pub const BOTH: [Form; 2] = [Form::Old, Form::New];
+
+    /// The form whose heads begin with a word of this kind.
+    pub fn of_head(kind: u32) -> Option<Form> {
+        match kind {
+            reader::HEAD => Some(Form::Old),
+            reader::NUMBER => Some(Form::New),
+            _ => None,
+        }
+    }
+
+    pub fn other(self) -> Form {
+        match self {
+            Form::Old => Form::New,
+            Form::New => Form::Old,
+        }
+    }
+
+    pub fn most_bytes(self) -> usize {
+        match self {
+            Form::Old => 35_844,
+            Form::New => 36_868,
+        }
+    }
+
+    /// The greatest entry number.
+    pub fn most_number(self) -> u32 {
+        match self {
+            Form::Old => 1_048_575,
+            Form::New => 268_435_455,
+        }
+    }
+}
 
 /// An entry: its number, d vectors of m coordinates each, whether it is a draft, and the number in its see word.
 #[derive(Clone, Debug, PartialEq, Eq)]
@@ -61,12 +103,14 @@ pub fn lend(bytes: &[u8], out: &mut [u8]) -> Result<usize, Refused> {
 
 /// Reads a catalogue and writes its entries to the lent output, unfolded.
 pub fn write_out(bytes: &[u8], out: &mut [u8]) -> Result<usize, Refused> {
-    lend(&writer::write(&reader::read(bytes)?), out)
+    let entries = reader::read(bytes)?;
+    lend(&writer::write(reader::shown(bytes), &entries), out)
 }
 
 /// Reads a catalogue and writes the folded one to the lent output.
 pub fn fold(bytes: &[u8], out: &mut [u8]) -> Result<usize, Refused> {
-    lend(&writer::write(&fold::folded(&reader::read(bytes)?)), out)
+    let entries = fold::folded(&reader::read(bytes)?);
+    lend(&writer::write(reader::shown(bytes), &entries), out)
 }
 
 /// The number of the standing entry of the entry with this number.

@@ -5,7 +5,7 @@ use super::damage::{made_dependent, wrong_length};
 use super::made::{independent, is_draft, largest, numbers, see};
 use super::related;
 use super::writer::write;
-use super::Entry;
+use super::{Entry, Form};
 use crate::random::Random;
 
 /// What a pair is made to try.
@@ -72,13 +72,14 @@ pub fn pair(seed: u64, index: usize) -> Pair {
     let mut random = Random::new(seed ^ (index as u64).wrapping_mul(0xE703_7ED1_A0B4_28DB));
     let random = &mut random;
     let kind = kind(index);
+    let form = random.pick(&Form::BOTH);
     let (mut entries, i, j) = match kind {
         Kind::Largest => {
-            let all = largest(random);
+            let all = largest(form, random);
             let (i, j) = (random.index(all.len()), random.index(all.len()));
             (all, i, j)
         }
-        _ => among_others(two(kind, random), random),
+        _ => among_others(form, two(kind, random), random),
     };
     let known = (entries[i].number, entries[j].number);
     let (first, second) = match kind {
@@ -88,8 +89,8 @@ pub fn pair(seed: u64, index: usize) -> Pair {
         _ => known,
     };
     let bytes = match kind {
-        Kind::Damaged => damaged(&mut entries, random),
-        _ => write(&entries),
+        Kind::Damaged => damaged(form, &mut entries, random),
+        _ => write(form, &entries),
     };
     Pair {
         kind,
@@ -114,7 +115,11 @@ fn two(kind: Kind, random: &mut Random) -> [Vec<Vec<i64>>; 2] {
 }
 
 /// A catalogue with these two somewhere among up to three others, and their indices.
-fn among_others(two: [Vec<Vec<i64>>; 2], random: &mut Random) -> (Vec<Entry>, usize, usize) {
+fn among_others(
+    form: Form,
+    two: [Vec<Vec<i64>>; 2],
+    random: &mut Random,
+) -> (Vec<Entry>, usize, usize) {
     let mut all: Vec<Vec<Vec<i64>>> = (0..random.index(4)).map(|_| independent(random)).collect();
     let [first, second] = two;
     let mut i = random.index(all.len() + 1);
@@ -124,7 +129,7 @@ fn among_others(two: [Vec<Vec<i64>>; 2], random: &mut Random) -> (Vec<Entry>, us
     if j <= i {
         i += 1;
     }
-    let numbers = numbers(all.len(), random);
+    let numbers = numbers(form, all.len(), random);
     let entry = |(k, vectors)| Entry {
         number: numbers[k],
         vectors,
@@ -147,11 +152,12 @@ fn with_absent(known: (u32, u32), entries: &[Entry], random: &mut Random) -> (u3
 fn absent(entries: &[Entry], random: &mut Random) -> u32 {
     let used: Vec<u32> = entries.iter().map(|e| e.number).collect();
     loop {
-        let number = match random.between(0, 4) {
+        let number = match random.between(0, 5) {
             0 => 0,
             1 => u32::MAX,
             2 => random.pick(&used) + (1 << 20),
-            3 => random.pick(&used) + 1,
+            3 => random.pick(&used) + (1 << 28),
+            4 => random.pick(&used) + 1,
             _ => random.number() as u32,
         };
         if !used.contains(&number) {
@@ -160,13 +166,13 @@ fn absent(entries: &[Entry], random: &mut Random) -> u32 {
     }
 }
 
-fn damaged(entries: &mut [Entry], random: &mut Random) -> Vec<u8> {
+fn damaged(form: Form, entries: &mut [Entry], random: &mut Random) -> Vec<u8> {
     match random.between(0, 4) {
-        0 => wrong_length(write(entries), random),
+        0 => wrong_length(write(form, entries), random),
         1 => {
             made_dependent(entries, random);
-            write(entries)
+            write(form, entries)
         }
-        way => damaged_times(way as usize - 1, write(entries), random),
+        way => damaged_times(way as usize - 1, write(form, entries), random),
     }
 }

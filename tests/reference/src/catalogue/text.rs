@@ -1,19 +1,47 @@
 //! Catalogues as text, one entry to a line: `number d m ; coordinates`, vector by vector; where it is a draft `; draft` behind, and where
 //! there is a see word `; see` last. What stands behind a `#` is a comment, and lines that hold nothing else are passed
-//! over.
+//! over. The first line of a catalogue in the new form is `new`.
 
-use super::Entry;
+use super::reader::{read, shown};
+use super::writer::write;
+use super::{Entry, Form, Refused};
 use crate::random::Random;
 
 const DRAFT: &str = "draft";
+const NEW: &str = "new";
 
-/// The entries of a text, or the number of the first line that is none, from 1.
-pub fn entries(text: &str) -> Result<Vec<Entry>, usize> {
+/// The form and the entries of a text, or the number of the first line that is wrong, from 1. So is one with a number that the form has no
+/// room for.
+pub fn parsed(text: &str) -> Result<(Form, Vec<Entry>), usize> {
+    let is_new = text
+        .lines()
+        .next()
+        .is_some_and(|l| content(l).trim() == NEW);
+    let form = if is_new { Form::New } else { Form::Old };
+    let fits = |e: &Entry| e.number <= form.most_number();
     let numbered = text.lines().map(content).enumerate();
-    numbered
+    let entries = numbered
+        .skip(is_new as usize)
         .filter(|(_, line)| !line.trim().is_empty())
-        .map(|(i, line)| entry(line).ok_or(i + 1))
-        .collect()
+        .map(|(i, line)| entry(line).filter(fits).ok_or(i + 1))
+        .collect::<Result<Vec<Entry>, usize>>()?;
+    Ok((form, entries))
+}
+
+/// The entries of a text alone.
+pub fn entries(text: &str) -> Result<Vec<Entry>, usize> {
+    parsed(text).map(|(_, entries)| entries)
+}
+
+/// The catalogue of a text, not read again: what a line says may still be refused.
+pub fn encoded(text: &str) -> Result<Vec<u8>, usize> {
+    parsed(text).map(|(form, entries)| write(form, &entries))
+}
+
+/// The text of a catalogue; that of one without entries is empty.
+pub fn decoded(bytes: &[u8]) -> Result<String, Refused> {
+    let entries = read(bytes)?;
+    Ok(text(shown(bytes), &entries))
 }
 
 fn content(line: &str) -> &str {
@@ -60,12 +88,27 @@ fn numbers(part: &str) -> Option<Vec<i64>> {
 }
 
 /// One space between numbers.
-pub fn text(entries: &[Entry]) -> String {
-    entries.iter().map(line).collect()
+pub fn text(form: Form, entries: &[Entry]) -> String {
+    let lines: String = entries.iter().map(line).collect();
+    first_line(form, entries) + &lines
 }
 
-/// The same text with other blanks in some lines, with comments behind some, and with empty lines and comments between them.
-pub fn commented(entries: &[Entry], random: &mut Random) -> String {
+fn first_line(form: Form, entries: &[Entry]) -> String {
+    match form {
+        Form::New if !entries.is_empty() => format!("{NEW}\n"),
+        _ => String::new(),
+    }
+}
+
+/// The same text with other blanks in some lines, with comments behind some, and with empty lines and comments between them, but not before
+/// the line that tells the form.
+pub fn commented(form: Form, entries: &[Entry], random: &mut Random) -> String {
+    let first = match (form, random.index(3)) {
+        (Form::Old, _) => String::new(),
+        (Form::New, 0) => format!("{NEW}\n"),
+        (Form::New, 1) => format!(" \t{NEW} # 1 1 1 ; 2\n"),
+        (Form::New, _) => format!("{NEW}\t\n"),
+    };
     let with_comment = |e| {
         let line = line(e);
         match random.index(6) {
@@ -77,7 +120,8 @@ pub fn commented(entries: &[Entry], random: &mut Random) -> String {
             _ => format!(" \t#; 1 x\n{line}"),
         }
     };
-    entries.iter().map(with_comment).collect()
+    let lines: String = entries.iter().map(with_comment).collect();
+    first + &lines
 }
 
 fn line(e: &Entry) -> String {

@@ -24,8 +24,9 @@ going-requires c κs = search needs
 
 returns-2 : tie.Need-returns-2
 returns-2 c =
+    let s = c .before .before .before .before .args .self in
     c .going .ensures
-    ∙ ap (λ p. going Closed (c .before .before .before .before .args .self .count) p) (c .before .empty .ensures)
+    ∙ ap (going Closed (s .count) (s .form)) (c .before .empty .ensures)
     ∙ skips 13 [] _ (ap not (eq-eqb _ _ (c .before .before .if1 .left)))
 
 pub at-end-spec : {M : Type 1} → statement M

@@ -1,25 +1,45 @@
--- Each row in turn: what was passed and what was found.
-use mathlib.Core.Path.{_≡_, sym, ap, _∙_}
-use mathlib.Core.Bool.{not, false}
-use lib.Dec.{leb}
-use borrow.Author.Tests.{le-leb, lt-leb}
-use Rattle.lattices.specs.Refusal.{oneTo, mostVectors, mostCoordinates}
+-- Rows of the form, of the size and of the number, each with what came before it.
+use mathlib.Core.Path.{_≡_, ap, _∙_}
+use mathlib.Core.List.{List, [], _++_}
+use mathlib.Core.Bool.{Bool}
+use Prim.Native.Nat.{ℕ}
+use native.Mathlib.Omega.{arith}
+use Rattle.catalogue_rules.specs.Read.{checked, sizeRows}
+use Rattle.catalogue_records.specs.declared.Form.the-variants.{Old}
 use Rattle.catalogue_reader.specs.declared.reading.Phase.the-variants.{Inside}
-use Rattle.catalogue_reader.specs.Readings.{going}
-use Rattle.catalogue_reader.specs.Turns.{head-15, head-1, head-2, head-11, head-goes}
-use Rattle.catalogue_rules.specs.Catalogue.{mostEntries}
+use Rattle.catalogue_reader.specs.declared.reading.Reading.{Reading}
+use Rattle.catalogue_reader.specs.Parts.{started}
+use Rattle.catalogue_reader.specs.Rows.{row-stops, rows-pass}
+use Rattle.catalogue_reader.specs.Readings.{going, stopped, formRead, numberRead, headRead}
 use borrow.Author.Needs.{needs}
 use Rattle.catalogue_reader.proofs.reading.Reading.at_head.Statement.{statement}
 use Rattle.catalogue_reader.proofs.reading.Reading.at_head.Tie as tie
 
-room : (c : tie.Else1) → leb mostEntries (c .before .before .before .args .self .count) ≡ false
-room c = lt-leb mostEntries _ (c .if1 .left)
+-- the rows of the number, those of the size before them, and where no row applies
+abbrev last : (c : tie.Start) → List (Bool × ℕ)
+last c = numberRead (c .args .numbers .now) (c .args .self .count) (c .args .number)
 
-counted : (c : tie.Else2) → not (oneTo mostVectors (c .before .before .before .before .before .args .d)) ≡ false
-counted c = ap not (sym (c .before .one-to .ensures)) ∙ c .if2 .left
+abbrev sized : (c : tie.Start) → List (Bool × ℕ)
+sized c = sizeRows (c .args .d) (c .args .m)
 
-narrow : (c : tie.Else3) → not (oneTo mostCoordinates (c .before .before .before .before .before .before .before .args .m)) ≡ false
-narrow c = ap not (sym (c .before .one-to2 .ensures)) ∙ c .if3 .left
+abbrev read : (c : tie.Start) → Reading
+read c = going Inside (c .args .self .count) Old (started (c .args .number) (c .args .d) (c .args .m) (c .args .i))
+
+-- past the form, and past the size
+past-form : (c : tie.Else1) → let s = c .before .before .before in
+    checked stopped (sized s ++ last s) (read s) ≡ headRead (s .args .numbers .now) (s .args .self) (s .args .number) (s .args .d) (s .args .m) (s .args .i)
+past-form c =
+    let s = c .before .before .before in
+    rows-pass stopped (formRead (s .args .self) Old) (sized s ++ last s) (read s) (omega arith) (c .before .form-refusal .ensures) (c .if1 .left)
+
+past-size : (c : tie.Else2) → let s = c .before .before .before .before .before in
+    checked stopped (last s) (read s) ≡ headRead (s .args .numbers .now) (s .args .self) (s .args .number) (s .args .d) (s .args .m) (s .args .i)
+past-size c =
+    let s = c .before .before .before .before .before in
+    rows-pass stopped (sized s) (last s) (read s) (omega arith) (c .before .size-refusal .ensures) (c .if2 .left) ∙ past-form (c .before .before)
+
+form-refusal-requires : tie.Need-form-refusal-requires
+form-refusal-requires c κs = search needs
 
 stop-requires : tie.Need-stop-requires
 stop-requires c κs = search needs
@@ -27,10 +47,10 @@ stop-requires c κs = search needs
 returns : tie.Need-returns
 returns c =
     let s = c .before .before .before .before in
-    c .stop .ensures ∙ head-15 (s .args .numbers .now) (s .args .self) (s .args .number) (s .args .d) (s .args .m) (s .args .i) (le-leb mostEntries _ (c .before .if1 .taken))
+    c .stop .ensures ∙ row-stops stopped (formRead (s .args .self) Old) (sized s ++ last s) (read s) (c .before .before .form-refusal .ensures) (c .before .if1 .taken)
 
-one-to-requires : tie.Need-one-to-requires
-one-to-requires c κs = search needs
+size-refusal-requires : tie.Need-size-refusal-requires
+size-refusal-requires c κs = search needs
 
 stop-requires-2 : tie.Need-stop-requires-2
 stop-requires-2 c κs = search needs
@@ -38,11 +58,11 @@ stop-requires-2 c κs = search needs
 returns-2 : tie.Need-returns-2
 returns-2 c =
     let o = c .before .before in
-    let s = c .before .before .before .before .before .before in
-    c .stop2 .ensures ∙ head-1 (s .args .numbers .now) (s .args .self) (s .args .number) (s .args .d) (s .args .m) (s .args .i) (room (o .before)) (ap not (sym (o .one-to .ensures)) ∙ c .before .if2 .taken)
+    let s = o .before .before .before .before in
+    c .stop2 .ensures ∙ row-stops stopped (sized s) (last s) (read s) (o .size-refusal .ensures) (c .before .if2 .taken) ∙ past-form (o .before)
 
-one-to-requires-2 : tie.Need-one-to-requires-2
-one-to-requires-2 c κs = search needs
+number-refusal-requires : tie.Need-number-refusal-requires
+number-refusal-requires c κs = search needs
 
 stop-requires-3 : tie.Need-stop-requires-3
 stop-requires-3 c κs = search needs
@@ -50,50 +70,38 @@ stop-requires-3 c κs = search needs
 returns-3 : tie.Need-returns-3
 returns-3 c =
     let o = c .before .before in
-    let s = c .before .before .before .before .before .before .before .before in
-    c .stop3 .ensures ∙ head-2 (s .args .numbers .now) (s .args .self) (s .args .number) (s .args .d) (s .args .m) (s .args .i) (room (o .before .before .before)) (counted (o .before)) (ap not (sym (o .one-to2 .ensures)) ∙ c .before .if3 .taken)
-
-not-free-requires : tie.Need-not-free-requires
-not-free-requires c κs = search needs
-
-stop-requires-4 : tie.Need-stop-requires-4
-stop-requires-4 c κs = search needs
-
-returns-4 : tie.Need-returns-4
-returns-4 c =
-    let o = c .before .before in
-    let s = c .before .before .before .before .before .before .before .before .before .before in
-    c .stop4 .ensures ∙ head-11 (s .args .numbers .now) (s .args .self) (s .args .number) (s .args .d) (s .args .m) (s .args .i) (room (o .before .before .before .before .before)) (counted (o .before .before .before)) (narrow (o .before)) (sym (o .not-free .ensures) ∙ c .before .if4 .taken)
+    let s = o .before .before .before .before .before .before in
+    c .stop3 .ensures ∙ row-stops stopped (last s) [] (read s) (o .number-refusal .ensures) (c .before .if3 .taken) ∙ past-size (o .before)
 
 start-requires : tie.Need-start-requires
 start-requires c κs = search needs
 
-going-requires : tie.Need-going-requires
-going-requires c κs = search needs
+headed-requires : tie.Need-headed-requires
+headed-requires c κs = search needs
 
-returns-5 : tie.Need-returns-5
-returns-5 c =
-    let o = c .before .before .before in
-    let s = c .before .before .before .before .before .before .before .before .before .before .before in
-    c .going .ensures
-    ∙ ap (λ p. going Inside (s .args .self .count) p) (c .before .start .ensures)
-    ∙ head-goes (s .args .numbers .now) (s .args .self) (s .args .number) (s .args .d) (s .args .m) (s .args .i) (room (o .before .before .before .before .before)) (counted (o .before .before .before)) (narrow (o .before)) (sym (o .not-free .ensures) ∙ c .before .before .if4 .left)
+returns-4 : tie.Need-returns-4
+returns-4 c =
+    let e = c .before .before in
+    let o = e .before in
+    let s = o .before .before .before .before .before .before in
+    c .headed .ensures
+    ∙ ap (going Inside (s .args .self .count) Old) (c .before .start .ensures)
+    ∙ rows-pass stopped (last s) [] (read s) (omega arith) (o .number-refusal .ensures) (e .if3 .left)
+    ∙ past-size (o .before)
 
 pub at-head-spec : {M : Type 1} → statement M
 at-head-spec =
     tie.close
     (tie.spec
+    form-refusal-requires
     stop-requires
     returns
-    one-to-requires
+    size-refusal-requires
     stop-requires-2
     returns-2
-    one-to-requires-2
+    number-refusal-requires
     stop-requires-3
     returns-3
-    not-free-requires
-    stop-requires-4
-    returns-4
     start-requires
-    going-requires
-    returns-5)
+    headed-requires
+    returns-4)

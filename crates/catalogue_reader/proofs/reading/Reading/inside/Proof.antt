@@ -42,23 +42,57 @@ enum-told-5 c = search needs
 stop-requires-5 : tie.Need-stop-requires-5
 stop-requires-5 c κs = search needs
 
+enum-told-6 : tie.Need-enum-told-6
+enum-told-6 c = search needs
+
+stop-requires-6 : tie.Need-stop-requires-6
+stop-requires-6 c κs = search needs
+
+enum-told-7 : tie.Need-enum-told-7
+enum-told-7 c = search needs
+
+stop-requires-7 : tie.Need-stop-requires-7
+stop-requires-7 c κs = search needs
+
 returns : tie.Need-returns
-returns c = c .stop .ensures ∙ sym (ap (λ w. insideRead (c .before .before .before .args .self) (wordIn w)) (c .before .enum-told .given .1))
+returns c =
+    let s = c .before .before .before in
+    c .stop .ensures ∙ sym (ap (λ w. insideRead (s .args .self) (wordIn w)) (c .before .enum-told .given .1))
 
 returns-2 : tie.Need-returns-2
-returns-2 c = c .at-coordinate .ensures ∙ sym (ap (λ w. insideRead (c .before .before .before .before .args .self) (wordIn w)) (c .before .before .w .given .1))
+returns-2 c =
+    let s = c .before .before .before .before in
+    c .at-coordinate .ensures ∙ sym (ap (λ w. insideRead (s .args .self) (wordIn w)) (c .before .before .w .given .1))
 
 returns-3 : tie.Need-returns-3
-returns-3 c = c .stop2 .ensures ∙ sym (ap (λ w. insideRead (c .before .before .before .args .self) (wordIn w)) (c .before .enum-told2 .given .1))
+returns-3 c =
+    let s = c .before .before .before in
+    c .stop2 .ensures ∙ sym (ap (λ w. insideRead (s .args .self) (wordIn w)) (c .before .enum-told2 .given .1))
 
 returns-4 : tie.Need-returns-4
-returns-4 c = c .stop3 .ensures ∙ sym (ap (λ w. insideRead (c .before .before .before .args .self) (wordIn w)) (c .before .enum-told3 .given .1))
+returns-4 c =
+    let s = c .before .before .before in
+    c .stop3 .ensures ∙ sym (ap (λ w. insideRead (s .args .self) (wordIn w)) (c .before .enum-told3 .given .1))
 
 returns-5 : tie.Need-returns-5
-returns-5 c = c .stop4 .ensures ∙ sym (ap (λ w. insideRead (c .before .before .before .args .self) (wordIn w)) (c .before .enum-told4 .given .1))
+returns-5 c =
+    let s = c .before .before .before in
+    c .stop4 .ensures ∙ sym (ap (λ w. insideRead (s .args .self) (wordIn w)) (c .before .enum-told4 .given .1))
 
 returns-6 : tie.Need-returns-6
-returns-6 c = c .stop5 .ensures ∙ sym (ap (λ w. insideRead (c .before .before .before .args .self) (wordIn w)) (c .before .enum-told5 .given .1))
+returns-6 c =
+    let s = c .before .before .before in
+    c .stop5 .ensures ∙ sym (ap (λ w. insideRead (s .args .self) (wordIn w)) (c .before .enum-told5 .given .1))
+
+returns-7 : tie.Need-returns-7
+returns-7 c =
+    let s = c .before .before .before in
+    c .stop6 .ensures ∙ sym (ap (λ w. insideRead (s .args .self) (wordIn w)) (c .before .enum-told6 .given .1))
+
+returns-8 : tie.Need-returns-8
+returns-8 c =
+    let s = c .before .before .before in
+    c .stop7 .ensures ∙ sym (ap (λ w. insideRead (s .args .self) (wordIn w)) (c .before .enum-told7 .given .1))
 
 pub inside-spec : {M : Type 1} → statement M
 inside-spec =
@@ -76,9 +110,15 @@ inside-spec =
     stop-requires-4
     enum-told-5
     stop-requires-5
+    enum-told-6
+    stop-requires-6
+    enum-told-7
+    stop-requires-7
     returns
     returns-2
     returns-3
     returns-4
     returns-5
-    returns-6)
+    returns-6
+    returns-7
+    returns-8)

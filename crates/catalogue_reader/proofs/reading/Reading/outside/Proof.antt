@@ -36,11 +36,23 @@ enum-told-3 c = search needs
 stop-requires-3 : tie.Need-stop-requires-3
 stop-requires-3 c κs = search needs
 
+enum-known-w-3 : tie.Need-enum-known-w-3
+enum-known-w-3 c = search needs
+
+at-head-number-requires : tie.Need-at-head-number-requires
+at-head-number-requires c κs = search needs
+
 enum-told-4 : tie.Need-enum-told-4
 enum-told-4 c = search needs
 
 stop-requires-4 : tie.Need-stop-requires-4
 stop-requires-4 c κs = search needs
+
+enum-told-5 : tie.Need-enum-told-5
+enum-told-5 c = search needs
+
+stop-requires-5 : tie.Need-stop-requires-5
+stop-requires-5 c κs = search needs
 
 returns : tie.Need-returns
 returns c =
@@ -69,8 +81,18 @@ returns-5 c =
 
 returns-6 : tie.Need-returns-6
 returns-6 c =
+    let s = c .before .before .before .before .before in
+    c .at-head-number .ensures ∙ sym (ap (λ w. outsideRead (s .args .numbers .now) (s .args .self) (s .args .i) (wordIn w)) (c .before .before .w3 .given .1))
+
+returns-7 : tie.Need-returns-7
+returns-7 c =
     let s = c .before .before .before .before in
     c .stop4 .ensures ∙ sym (ap (λ w. outsideRead (s .args .numbers .now) (s .args .self) (s .args .i) (wordIn w)) (c .before .enum-told4 .given .1))
+
+returns-8 : tie.Need-returns-8
+returns-8 c =
+    let s = c .before .before .before .before in
+    c .stop5 .ensures ∙ sym (ap (λ w. outsideRead (s .args .numbers .now) (s .args .self) (s .args .i) (wordIn w)) (c .before .enum-told5 .given .1))
 
 pub outside-spec : {M : Type 1} → statement M
 outside-spec =
@@ -86,11 +108,17 @@ outside-spec =
     at-end-requires
     enum-told-3
     stop-requires-3
+    enum-known-w-3
+    at-head-number-requires
     enum-told-4
     stop-requires-4
+    enum-told-5
+    stop-requires-5
     returns
     returns-2
     returns-3
     returns-4
     returns-5
-    returns-6)
+    returns-6
+    returns-7
+    returns-8)

@@ -1,6 +1,7 @@
 -- The part is empty.
 use mathlib.Core.Path.{ap}
 use Rattle.catalogue_reader.specs.declared.reading.Phase.the-variants.{Outside}
+use Rattle.catalogue_records.specs.declared.Form.the-variants.{Old}
 use Rattle.catalogue_reader.specs.declared.parts.Part.{Part}
 use Rattle.catalogue_reader.specs.declared.reading.Reading.{Reading}
 use borrow.Author.Needs.{needs}
@@ -12,7 +13,7 @@ empty-requires c κs = search needs
 
 returns : tie.Need-returns
 returns c =
-    let made : Part → Reading = λ p. record { refusal = c .before .args .refusal; phase = Outside; count = 0; part = p } in
+    let made : Part → Reading = λ p. record { refusal = c .before .args .refusal; phase = Outside; count = 0; form = Old; part = p } in
     ap made (c .empty .ensures)
 
 pub stop-spec : {M : Type 1} → statement M

@@ -7,14 +7,16 @@ use borrow.Author.Needs.{needs}
 use Rattle.catalogue_reader.proofs.reading.Reading.with_entry.Statement.{statement}
 use Rattle.catalogue_reader.proofs.reading.Reading.with_entry.Tie as tie
 
-add-t3 : tie.Need-add-t3
-add-t3 c = search needs
+add-t4 : tie.Need-add-t4
+add-t4 c = search needs
 
 empty-requires : tie.Need-empty-requires
 empty-requires c κs = search needs
 
 returns : tie.Need-returns
-returns c = ap (λ p. going Outside (c .before .before .args .self .count + 1) p) (c .empty .ensures)
+returns c =
+    let s = c .before .before .args .self in
+    ap (going Outside (s .count + 1) (s .form)) (c .empty .ensures)
 
 pub with-entry-spec : {M : Type 1} → statement M
-with-entry-spec = tie.close (tie.spec add-t3 empty-requires returns)
+with-entry-spec = tie.close (tie.spec add-t4 empty-requires returns)

@@ -1,21 +1,21 @@
--- There are no more lines than bytes.
+-- No more lines are passed than bytes.
 use mathlib.Core.Path.{ap}
 use Prim.Native.Nat.{_+_, _-_, _≤_}
 use native.Mathlib.Omega.{arith}
 use lib.ListN.{length, length-drop}
 use borrow.Author.Needs.{needs}
 use Rattle.text_lines.specs.Fields.{to-end}
-use Rattle.cli_catalogues.proofs.mistakes.report_all.Statement.{statement}
-use Rattle.cli_catalogues.proofs.mistakes.report_all.Tie as tie
+use Rattle.cli_catalogues.proofs.mistakes.report_lines.Statement.{statement}
+use Rattle.cli_catalogues.proofs.mistakes.report_lines.Tie as tie
 
 abbrev Inv-loop : tie.InvT-loop
-Inv-loop text from₀ line₀ from line = (from ≤ length text + 1) × (line ≤ from + 1)
+Inv-loop form text first from₀ line₀ from line = (from ≤ length text + 1) × (line ≤ from + 2)
 
 abbrev μ-loop : tie.MeasureT-loop
-μ-loop text from₀ line₀ from line = length text - from
+μ-loop form text first from₀ line₀ from line = length text - from
 
 loop-holds : tie.Need-loop-holds Inv-loop μ-loop
-loop-holds c = (omega arith, omega arith)
+loop-holds c = (omega arith, omega (arith, c .before .pre .1))
 
 sub-length-before : tie.Need-sub-length-before Inv-loop μ-loop
 sub-length-before c = search needs
@@ -36,7 +36,7 @@ within c =
     omega (arith, c .length-before .ensures .1, ap length (to-end from text), length-drop from text, c .before .before .loop-test .taken)
 
 add-end : tie.Need-add-end Inv-loop μ-loop
-add-end c = omega (arith, within c, c .before .before .before .before .before .pre)
+add-end c = omega (arith, within c, c .before .before .before .before .before .pre .0)
 
 sub-check : tie.Need-sub-check Inv-loop μ-loop
 sub-check c = omega arith
@@ -51,10 +51,10 @@ check-requires : tie.Need-check-requires Inv-loop μ-loop
 check-requires c κs = search needs
 
 add-from : tie.Need-add-from Inv-loop μ-loop
-add-from c = omega (arith, within (c .before .before), c .before .before .before .before .before .before .before .pre)
+add-from c = omega (arith, within (c .before .before), c .before .before .before .before .before .before .before .pre .0)
 
 add-line : tie.Need-add-line Inv-loop μ-loop
-add-line c = omega (arith, c .before .before .before .before .before .loop .inv .1, c .before .before .before .before .before .loop .inv .0, c .before .before .before .before .before .before .before .pre)
+add-line c = omega (arith, c .before .before .before .before .before .loop .inv .1, c .before .before .before .before .before .loop .inv .0, c .before .before .before .before .before .before .before .pre .0)
 
 loop-less : tie.Need-loop-less Inv-loop μ-loop
 loop-less c = omega (arith, c .before .before .before .before .loop-test .taken)
@@ -65,8 +65,8 @@ loop-again c = (omega (arith, within (c .before .before)), omega (arith, c .befo
 returns : tie.Need-returns Inv-loop μ-loop
 returns c = search needs
 
-pub report-all-spec : {M : Type 1} → statement M
-report-all-spec =
+pub report-lines-spec : {M : Type 1} → statement M
+report-lines-spec =
     tie.close
     (tie.spec
     Inv-loop
