@@ -1,4 +1,6 @@
 // The services on catalogues: reading, writing out, the moves between the forms, fold, lookup, and what separates two entries.
+#![tactic(auto)]
+
 ghost use Rattle.std.specs.Prelude.{◌≡◌};
 ghost use Rattle.catalogue_rules.specs.Read.{read};
 ghost use Rattle.catalogue_rules.specs.Catalogue.{old, new, accepted};
@@ -18,7 +20,7 @@ use catalogue_standing::standing_places::place_of;
 use separation_answers::Separation;
 
 // What lookup says: a refusal and its place, or the standing number.
-#[derive(Drop)]
+#[derive(Clone, Copy)]
 pub struct Found {
     pub refusal: u64,
     pub place: usize,

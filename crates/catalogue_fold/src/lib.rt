@@ -1,4 +1,6 @@
 // The folded catalogue: the standing entries in file order, each as it is printed.
+#![tactic(auto)]
+
 ghost use Rattle.std.specs.Prelude.{◌≡◌, ◌≤◌, length};
 ghost use Rattle.catalogue_records.specs.EntriesIn.{entry_in, entries_in};
 ghost use Rattle.catalogue_records.specs.Entries.{beyond};

@@ -40,7 +40,7 @@ fn spread(l: Lattice) -> [i64; NUMBERS]
 }
 
 // Where a see word leads: whether there is a word to print, the number it names and where the word stood.
-#[derive(Drop)]
+#[derive(Clone, Copy)]
 pub struct Way {
     pub sees: bool,
     pub number: u32,

@@ -1,6 +1,8 @@
 // The listing of a catalogue: document 01's text, as bytes of a lent output.
+#![tactic(auto)]
+
 ghost use Rattle.std.specs.Prelude.{◌≡◌};
-ghost use Rattle.io.specs.Counts.{IsPrefixLen};
+ghost use Rattle.text_output.specs.Counts.{IsPrefixLen};
 ghost use Rattle.catalogue_records.specs.Catalogues.{written_of};
 ghost use Rattle.catalogue_rules.specs.Catalogue.{accepted};
 ghost use Rattle.catalogue_rules.specs.Output.{output_by};

@@ -1,4 +1,6 @@
 // What a move between the forms does to entries: the first number that a form has no room for, and the entries with their heads in a form.
+#![tactic(auto)]
+
 ghost use Rattle.std.specs.Prelude.{◌≡◌, ◌≤◌};
 ghost use Rattle.std.proofs.Math.Option.{none};
 ghost use Rattle.integers.specs.First.{first_given};
@@ -10,7 +12,7 @@ ghost use Rattle.catalogue_moves.specs.Moved.{over_of, stored_in, catalogue_in};
 use catalogue_records::{Catalogue, Entry, Form};
 
 // Whether a head has a number that is too large, and the place of the first.
-#[derive(Drop)]
+#[derive(Clone, Copy)]
 pub struct Over {
     pub found: bool,
     pub at: usize,

@@ -1,4 +1,6 @@
 // A catalogue read out of bytes: the row "whole file", the words one after the other, and the rows "after reading".
+#![tactic(auto)]
+
 ghost use Rattle.std.specs.Prelude.{◌≡◌, [], ◌&&◌, not, ◌≤◌, length, take};
 ghost use Rattle.std.proofs.Math.Option.{none};
 ghost use Rattle.integers.specs.All.{All};
@@ -103,7 +105,7 @@ fn read_words(bytes: &[u8]) -> Catalogue
 }
 
 // What a row "after reading" finds: whether there is a fault, and the place of the first.
-#[derive(Drop)]
+#[derive(Clone, Copy)]
 pub struct Fault {
     pub found: bool,
     pub at: usize,

@@ -1,4 +1,6 @@
 // What is stored of a catalogue: entries, the outcome of reading, and what a writing says.
+#![tactic(auto)]
+
 ghost use Rattle.std.specs.Prelude.{◌≡◌, map};
 ghost use Rattle.catalogue_records.specs.Stored.{no_entry};
 ghost use Rattle.catalogue_records.specs.Catalogues.{no_catalogue};
@@ -7,7 +9,7 @@ ghost use Rattle.catalogue_records.specs.Catalogues.{no_catalogue};
 pub const NUMBERS: usize = 4 * row_operations::WIDTH;
 
 // The form of a head: one word, or two with a longer number.
-#[derive(Drop)]
+#[derive(Clone, Copy)]
 pub enum Form {
     Old,
     New,
@@ -15,7 +17,7 @@ pub enum Form {
 
 // An entry: its head, the form of the head and its place; whether it is a draft; whether it has a see word, its number and where it stands; d times m
 // coordinates, then zeros.
-#[derive(Drop)]
+#[derive(Clone, Copy)]
 pub struct Entry {
     pub form: Form,
     pub number: u32,
@@ -30,7 +32,7 @@ pub struct Entry {
 }
 
 // The outcome of reading: a refusal and its place, or the entries.
-#[derive(Drop)]
+#[derive(Clone, Copy)]
 pub struct Catalogue {
     pub refusal: u64,
     pub place: usize,
@@ -39,7 +41,7 @@ pub struct Catalogue {
 }
 
 // What a writing says: a refusal and its place, or how many bytes were written.
-#[derive(Drop)]
+#[derive(Clone, Copy)]
 pub struct Written {
     pub refusal: u64,
     pub place: usize,

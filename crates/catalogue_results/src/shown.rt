@@ -2,75 +2,75 @@
 ghost use Rattle.std.specs.Prelude.{◌≤◌};
 
 use catalogue_records::Form;
-use libc::STDOUT_FILENO;
+use cli_output::Say;
 
 // Writes a blank and n.
-fn field(n: u64) {
-    io::write_all(STDOUT_FILENO, b" ");
-    cli_output::number(n);
+fn field(rt: &(impl Print + Say), n: u64) {
+    let _ = rt.write_all(b" ");
+    cli_output::number(rt, n);
 }
 
 // Writes the refusal and its place.
-fn refused(number: u64, place: usize) {
-    io::write_all(STDOUT_FILENO, b"refused");
-    field(number);
-    field(place as u64);
-    cli_output::newline();
+fn refused(rt: &(impl Print + Say), number: u64, place: usize) {
+    let _ = rt.write_all(b"refused");
+    field(rt, number);
+    field(rt, place as u64);
+    cli_output::newline(rt);
 }
 
 // Writes a blank and z.
-fn coordinate(z: i64) {
-    io::write_all(STDOUT_FILENO, b" ");
-    cli_output::signed(z);
+fn coordinate(rt: &(impl Print + Say), z: i64) {
+    let _ = rt.write_all(b" ");
+    cli_output::signed(rt, z);
 }
 
 // Writes the coordinates at all places.
-fn vectors(coordinates: [i64; catalogue_records::NUMBERS]) {
+fn vectors(rt: &(impl Print + Say), coordinates: [i64; catalogue_records::NUMBERS]) {
     for i in 0..catalogue_records::NUMBERS {
-        coordinate(coordinates[i]);
+        coordinate(rt, coordinates[i]);
     }
-    cli_output::newline();
+    cli_output::newline(rt);
 }
 
 // Writes whether a head is new.
-fn form_of(form: Form) {
+fn form_of(rt: &(impl Print + Say), form: Form) {
     match form {
         Form::Old => {}
         Form::New => {
-            io::write_all(STDOUT_FILENO, b" new");
+            let _ = rt.write_all(b" new");
         }
     }
 }
 
 // Writes an entry: number, d, m and place, whether its head is new, whether it is a draft, the see word's number and place, the coordinates.
-fn entry(e: catalogue_records::Entry) {
-    io::write_all(STDOUT_FILENO, b"entry");
-    field(e.number as u64);
-    field(e.d as u64);
-    field(e.m as u64);
-    field(e.place as u64);
+fn entry(rt: &(impl Print + Say), e: catalogue_records::Entry) {
+    let _ = rt.write_all(b"entry");
+    field(rt, e.number as u64);
+    field(rt, e.d as u64);
+    field(rt, e.m as u64);
+    field(rt, e.place as u64);
     let form = e.form;
-    form_of(form);
+    form_of(rt, form);
     if e.draft {
-        io::write_all(STDOUT_FILENO, b" draft");
+        let _ = rt.write_all(b" draft");
     }
     if e.sees {
-        io::write_all(STDOUT_FILENO, b" see");
-        field(e.see as u64);
-        field(e.at as u64);
+        let _ = rt.write_all(b" see");
+        field(rt, e.see as u64);
+        field(rt, e.at as u64);
     }
-    cli_output::newline();
-    io::write_all(STDOUT_FILENO, b"v");
+    cli_output::newline(rt);
+    let _ = rt.write_all(b"v");
     let coordinates = e.coordinates;
-    vectors(coordinates);
+    vectors(rt, coordinates);
 }
 
 // Writes the first entries.
-fn entries(c: catalogue_records::Catalogue) {
+fn entries(rt: &(impl Print + Say), c: catalogue_records::Catalogue) {
     for k in 0..5 {
         if k < c.count {
             let e = c.entries[k];
-            entry(e);
+            entry(rt, e);
         }
     }
 }
@@ -94,47 +94,47 @@ fn digest(bytes: &[u8]) -> u64
 }
 
 // Writes the outcome of writing to the lent room, and the digest of the room afterwards.
-fn copied(bytes: &[u8], room: &mut [u8]) {
+fn copied(rt: &(impl Print + Say), bytes: &[u8], room: &mut [u8]) {
     let w = catalogue::write_out(bytes, room);
     if w.refusal != 0 {
-        refused(w.refusal, w.place);
+        refused(rt, w.refusal, w.place);
     } else {
-        io::write_all(STDOUT_FILENO, b"written");
-        field(w.length as u64);
-        cli_output::newline();
+        let _ = rt.write_all(b"written");
+        field(rt, w.length as u64);
+        cli_output::newline(rt);
     }
-    io::write_all(STDOUT_FILENO, b"out");
-    field(digest(room));
-    cli_output::newline();
+    let _ = rt.write_all(b"out");
+    field(rt, digest(room));
+    cli_output::newline(rt);
 }
 
 // Lends this many bytes.
-fn lend(bytes: &[u8], n: usize) {
+fn lend(rt: &(impl Print + Say), bytes: &[u8], n: usize) {
     let mut room = [170u8; 36872];
     if n <= 36872 {
-        copied(bytes, &mut room[..n]);
+        copied(rt, bytes, &mut room[..n]);
     }
 }
 
 // Writes the name of some bytes, what reading gives, and what writing leaves: with room beyond, and where they are accepted with room that is
 // just long enough, and with one byte less.
-pub(crate) fn outcome(name: &[u8], bytes: &[u8]) {
-    io::write_all(STDOUT_FILENO, name);
-    cli_output::newline();
+pub(crate) fn outcome(rt: &(impl Print + Say), name: &[u8], bytes: &[u8]) {
+    let _ = rt.write_all(name);
+    cli_output::newline(rt);
     let c = catalogue::read(bytes);
     if c.refusal != 0 {
-        refused(c.refusal, c.place);
-        lend(bytes, 4);
+        refused(rt, c.refusal, c.place);
+        lend(rt, bytes, 4);
         return;
     }
-    io::write_all(STDOUT_FILENO, b"read");
-    field(c.count as u64);
-    cli_output::newline();
-    entries(c);
+    let _ = rt.write_all(b"read");
+    field(rt, c.count as u64);
+    cli_output::newline(rt);
+    entries(rt, c);
     let n = bytes.len();
     if 0 < n && n <= catalogue_records::Catalogue::MOST_BYTES {
-        lend(bytes, n + 4);
-        lend(bytes, n);
-        lend(bytes, n - 1);
+        lend(rt, bytes, n + 4);
+        lend(rt, bytes, n);
+        lend(rt, bytes, n - 1);
     }
 }

@@ -1,4 +1,6 @@
 // What separates two entries: their m, their d, then membership of the vectors of each in the lattice of the other. Each entry is reduced once.
+#![tactic(auto)]
+
 ghost use Rattle.std.specs.Prelude.{◌≡◌, not, [], map, ℕ, ◌≤◌, ◌<◌, pos, get_or, ◌≤ℤ◌};
 ghost use Rattle.lattices.specs.Vector.{N};
 ghost use Rattle.lattices.specs.Refusal.{most_vectors, most_coordinates};
@@ -8,7 +10,7 @@ ghost use Rattle.lattice_membership.specs.Known.{Known, vectors_in};
 ghost use Rattle.catalogue_rules.specs.Form.{EntryFits};
 ghost use Rattle.catalogue_records.specs.EntriesIn.{entry_in};
 ghost use Rattle.catalogue_standing.specs.Places.{First};
-ghost use Rattle.fold_rules.specs.Laws.SameLattice.{Sound};
+ghost use Rattle.fold_rules.proofs.Laws.SameLattice.{Sound};
 ghost use Rattle.separation_rules.specs.Separation.{told, separation};
 ghost use Rattle.separation_answers.specs.Said.{said_by};
 ghost use Rattle.catalogue_separation.specs.Outsides.{OutsideOf};
@@ -20,7 +22,7 @@ use row_operations::Vector;
 use separation_answers::Separation;
 
 // The first vector of an entry outside a lattice: its place, d where all are inside, and its squared distance to the lattice.
-#[derive(Drop)]
+#[derive(Clone, Copy)]
 struct Outside {
     place: usize,
     square: i64,

@@ -1,10 +1,11 @@
 // The lattice of an entry, and those of all entries of a catalogue: each entry is reduced once.
 ghost use Rattle.std.specs.Prelude.{◌≤◌};
 ghost use Rattle.catalogue_records.specs.EntriesIn.{entry_in};
-ghost use Rattle.fold_rules.specs.Laws.SameLattice.{Sound};
+ghost use Rattle.fold_rules.proofs.Laws.SameLattice.{Sound};
 ghost use Rattle.catalogue_standing.specs.ReducedEntry.{reduced_entry};
 ghost use Rattle.catalogue_standing.specs.SameLattice.{LatticeOf};
 ghost use Rattle.catalogue_standing.specs.ReducedEntries.{WasRead, HoldReduced};
+ghost use Rattle.lattice_membership.specs.Known.{KnownChoice};
 
 use catalogue_records::{Catalogue, Entry};
 use lattice_membership::Lattice;
@@ -12,7 +13,8 @@ use lattice_membership::Lattice;
 // Of an entry.
 pub fn lattice_of(e: Entry) -> Lattice
     requires { Sound (entry_in e) }
-    ensures { LatticeOf (reduced_entry (entry_in e)) result }
+    ensures lattice { LatticeOf (reduced_entry (entry_in e)) result }
+    ensures chosen { KnownChoice result }
 {
     let coordinates = e.coordinates;
     let n = e.d * e.m;

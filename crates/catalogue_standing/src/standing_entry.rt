@@ -2,12 +2,12 @@
 ghost use Rattle.std.specs.Prelude.{◌≡◌, map, ◌<◌};
 ghost use Rattle.lattices.specs.Answer.{padded};
 ghost use Rattle.lattices.specs.Refusal.{most_coordinates};
-ghost use Rattle.lattice_membership.specs.Known.{Known};
+ghost use Rattle.lattice_membership.specs.Known.{KnownChoice};
 ghost use Rattle.catalogue_rules.specs.Form.{EntryFits};
 ghost use Rattle.catalogue_records.specs.EntriesIn.{entry_in, entries_in};
 ghost use Rattle.catalogue_records.specs.Entries.{beyond};
 ghost use Rattle.fold_rules.specs.Fold.{same_lattice};
-ghost use Rattle.fold_rules.specs.Laws.SameLattice.{Sound};
+ghost use Rattle.fold_rules.proofs.Laws.SameLattice.{Sound};
 ghost use Rattle.catalogue_standing.specs.ReducedEntry.{reduced_entry};
 ghost use Rattle.catalogue_standing.specs.SameLattice.{LatticeOf};
 ghost use Rattle.catalogue_standing.specs.Standing.{StandsAt};
@@ -22,9 +22,9 @@ use lattice_membership::{Lattice, holds_all, same_minor};
 // coordinates has the size of its own.
 fn generates(e: Entry, l: Lattice) -> bool
     requires entry_fits { EntryFits (entry_in e) }
-    requires known { Known l }
+    requires chosen { KnownChoice l }
     requires d_value { l.d ≡ e.d }
-    ensures { (k : Known l) → result ≡ generates_at l k.index (map (padded most_coordinates) (entry_in e).vectors) }
+    ensures { (k : KnownChoice l) → result ≡ generates_at l k.known.index (map (padded most_coordinates) (entry_in e).vectors) }
 {
     let coordinates = e.coordinates;
     let n = e.d * e.m;
@@ -36,6 +36,7 @@ fn generates(e: Entry, l: Lattice) -> bool
 pub fn same_entry(f: Entry, e: Entry, l: Lattice) -> bool
     requires sound { (Sound (entry_in f)) × (Sound (entry_in e)) }
     requires lattice_of { LatticeOf (reduced_entry (entry_in e)) l }
+    requires chosen { KnownChoice l }
     ensures { result ≡ same_lattice (entry_in f) (entry_in e) }
 {
     if f.m != e.m {

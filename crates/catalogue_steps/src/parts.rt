@@ -13,7 +13,7 @@ use catalogue_records::{Entry, Form, NUMBERS};
 
 // What is read of an entry: its head, how many vectors are whole, how many coordinates of the next one and the sum of their squares, how many
 // coordinates in all, and whether the mark of a draft was read. The coordinates themselves stand in an array beside it, so that no step copies them.
-#[derive(Drop)]
+#[derive(Clone, Copy)]
 pub struct Part {
     pub number: u32,
     pub d: usize,

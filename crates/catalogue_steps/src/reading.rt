@@ -15,7 +15,7 @@ use super::words::Word;
 use catalogue_records::{Catalogue, Form};
 
 // What may come next: a head or the end; the second word of a head; a coordinate; a mark unless it is there, a see word, a head or the end; nothing.
-#[derive(Drop)]
+#[derive(Clone, Copy)]
 pub enum Phase {
     Outside,
     Numbered,
@@ -26,7 +26,7 @@ pub enum Phase {
 
 // Where reading stands: a refusal, or what may come next, how many entries are whole, the form of the heads so far (old where there is none), and the
 // entry being read: numbers only, since each step takes it and gives it back.
-#[derive(Drop)]
+#[derive(Clone, Copy)]
 pub struct Reading {
     pub refusal: u64,
     pub phase: Phase,

@@ -4,7 +4,7 @@ ghost use Rattle.catalogue_rules.specs.Word.{decode, words_of};
 ghost use Rattle.catalogue_steps.specs.Words.{word_in};
 
 // A word's case with its load: the kinds 1 to 7, and what is refused. A head of two words is its number and its size; `high` are the bits above d.
-#[derive(Drop)]
+#[derive(Clone, Copy)]
 pub enum Word {
     Head { number: u32, d: usize, m: usize },
     Coordinate(u32),

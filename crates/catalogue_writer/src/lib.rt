@@ -1,4 +1,6 @@
 // Entries as words, and words as bytes of a lent output.
+#![tactic(auto)]
+
 ghost use Rattle.std.specs.Prelude.{◌≡◌, [], ◌∷◌, map, false, ◌+◌, ◌*◌, ◌^◌, ◌≤◌, ◌<◌, nat_abs, length};
 ghost use Rattle.integers.specs.All.{All};
 ghost use Rattle.integers.specs.Every.{any};
@@ -9,7 +11,7 @@ ghost use Rattle.catalogue_rules.specs.Write.{head_words_in, head_words, coordin
 ghost use Rattle.catalogue_rules.specs.Catalogue.{old, new, head_length, accepted, most_entries};
 ghost use Rattle.catalogue_rules.specs.Output.{output};
 ghost use Rattle.catalogue_rules.specs.Form.{HeadFits, EntryFits, WellFormed};
-ghost use Rattle.catalogue_rules.specs.Laws.ReadEntries.{SeeFits};
+ghost use Rattle.catalogue_rules.proofs.Laws.ReadEntries.{SeeFits};
 ghost use Rattle.catalogue_records.specs.EntriesIn.{form_in, entry_in, entries_in};
 ghost use Rattle.catalogue_writer.specs.Loads.{basis_words};
 ghost use Rattle.catalogue_records.specs.Catalogues.{written_of};

@@ -1,8 +1,10 @@
 // Answers as text, put into lent bytes: one space between fields, a newline after every line. Each function puts its own from a place on, asks
 // for the room that the longest answer of its kind takes, and gives the place after it.
+#![tactic(auto)]
+
 ghost use Rattle.std.specs.Prelude.{◌+◌, ◌≤◌, length};
 ghost use Rattle.text_output.specs.Puts.{Puts};
-ghost use Rattle.cli_answers.specs.Answers.{refusedText, errorText, reducedText, reductionText, foundText, nearestText, basisText, yesOrNo, membershipText};
+ghost use Rattle.cli_answers.specs.Answers.{refused_text, error_text, reduced_text, reduction_text, found_text, nearest_text, basis_text, yes_or_no, membership_text};
 ghost use Rattle.cli_output.specs.Room.{lines_room};
 ghost use Rattle.cli_answers.specs.Room.{refused_room, error_room, reduction_room, nearest_room};
 
@@ -22,7 +24,7 @@ pub const MOST_BYTES: usize = 8 + NUMBER + ROW + 3 * 4 * (1 + ROW);
 // A refusal's number and its place.
 pub fn put_refused(out: &mut [u8], at: usize, number: u64, place: u64) -> usize
     requires { at + refused_room ≤ length out.old }
-    ensures puts { Puts (refusedText number place) out.old at out.new result }
+    ensures puts { Puts (refused_text number place) out.old at out.new result }
     ensures upper_bound { result ≤ at + refused_room }
 {
     let first = text_output::put_bytes(out, at, b"refused ");
@@ -35,7 +37,7 @@ pub fn put_refused(out: &mut [u8], at: usize, number: u64, place: u64) -> usize
 // What is wrong with a line of the input.
 pub fn put_error(out: &mut [u8], at: usize, line: u64, what: &[u8]) -> usize
     requires { at + error_room + length what.now ≤ length out.old }
-    ensures puts { Puts (errorText line what.now) out.old at out.new result }
+    ensures puts { Puts (error_text line what.now) out.old at out.new result }
     ensures upper_bound { result ≤ at + error_room + length what.now }
 {
     let first = text_output::put_bytes(out, at, b"error ");
@@ -48,7 +50,7 @@ pub fn put_error(out: &mut [u8], at: usize, line: u64, what: &[u8]) -> usize
 // The passes and the squared lengths, then the reduced vectors, U and V, a line for each row.
 fn put_reduced(out: &mut [u8], at: usize, a: engine::Reduction, d: usize, m: usize) -> usize
     requires { at + reduction_room ≤ length out.old }
-    ensures puts { Puts (reducedText d m a) out.old at out.new result }
+    ensures puts { Puts (reduced_text d m a) out.old at out.new result }
     ensures upper_bound { result ≤ at + reduction_room }
 {
     let first = text_output::put_bytes(out, at, b"reduced ");
@@ -66,7 +68,7 @@ fn put_reduced(out: &mut [u8], at: usize, a: engine::Reduction, d: usize, m: usi
 // The answer to a reduction of d vectors of m coordinates.
 pub fn put_reduction(out: &mut [u8], at: usize, a: engine::Reduction, d: usize, m: usize) -> usize
     requires { at + reduction_room ≤ length out.old }
-    ensures puts { Puts (reductionText d m a) out.old at out.new result }
+    ensures puts { Puts (reduction_text d m a) out.old at out.new result }
     ensures upper_bound { result ≤ at + reduction_room }
 {
     if a.refusal != 0 {
@@ -78,7 +80,7 @@ pub fn put_reduction(out: &mut [u8], at: usize, a: engine::Reduction, d: usize, 
 // The reduced vectors alone, a line each.
 pub fn put_basis(out: &mut [u8], at: usize, a: engine::Reduction, d: usize, m: usize) -> usize
     requires { at + lines_room ≤ length out.old }
-    ensures puts { Puts (basisText d m a) out.old at out.new result }
+    ensures puts { Puts (basis_text d m a) out.old at out.new result }
     ensures upper_bound { result ≤ at + lines_room }
 {
     let vectors = a.vectors;
@@ -88,7 +90,7 @@ pub fn put_basis(out: &mut [u8], at: usize, a: engine::Reduction, d: usize, m: u
 // The squared distance, then a line with the coefficients, one with the solution in tenths and one with the vector.
 fn put_found(out: &mut [u8], at: usize, a: engine::NearestVector, d: usize, m: usize) -> usize
     requires { at + nearest_room ≤ length out.old }
-    ensures puts { Puts (foundText d m a) out.old at out.new result }
+    ensures puts { Puts (found_text d m a) out.old at out.new result }
     ensures upper_bound { result ≤ at + nearest_room }
 {
     let first = text_output::put_bytes(out, at, b"nearest");
@@ -105,7 +107,7 @@ fn put_found(out: &mut [u8], at: usize, a: engine::NearestVector, d: usize, m: u
 // The answer to a search for the vector nearest to a target.
 pub fn put_nearest(out: &mut [u8], at: usize, a: engine::NearestVector, d: usize, m: usize) -> usize
     requires { at + nearest_room ≤ length out.old }
-    ensures puts { Puts (nearestText d m a) out.old at out.new result }
+    ensures puts { Puts (nearest_text d m a) out.old at out.new result }
     ensures upper_bound { result ≤ at + nearest_room }
 {
     if a.refusal != 0 {
@@ -117,7 +119,7 @@ pub fn put_nearest(out: &mut [u8], at: usize, a: engine::NearestVector, d: usize
 // Yes or no, a line.
 fn put_yes_or_no(out: &mut [u8], at: usize, member: bool) -> usize
     requires { at + 4 ≤ length out.old }
-    ensures puts { Puts (yesOrNo member) out.old at out.new result }
+    ensures puts { Puts (yes_or_no member) out.old at out.new result }
     ensures upper_bound { result ≤ at + 4 }
 {
     if member {
@@ -129,7 +131,7 @@ fn put_yes_or_no(out: &mut [u8], at: usize, member: bool) -> usize
 // The answer to whether a target is in a lattice.
 pub fn put_membership(out: &mut [u8], at: usize, a: engine::MemberAnswer) -> usize
     requires { at + refused_room ≤ length out.old }
-    ensures puts { Puts (membershipText a) out.old at out.new result }
+    ensures puts { Puts (membership_text a) out.old at out.new result }
     ensures upper_bound { result ≤ at + refused_room }
 {
     if a.refusal != 0 {

@@ -1,7 +1,7 @@
 // What separates two entries, as a line.
 ghost use Rattle.std.specs.Prelude.{◌+◌, ◌≤◌, length};
 ghost use Rattle.text_output.specs.Puts.{Puts};
-ghost use Rattle.cli_answers.specs.Answers.{outsideText, separationText};
+ghost use Rattle.cli_answers.specs.Answers.{outside_text, separation_text};
 ghost use Rattle.cli_answers.specs.Room.{outside_room, separation_room};
 
 use super::put_refused;
@@ -10,7 +10,7 @@ use separation_answers::Separation;
 // A vector outside the other entry's lattice: the word for the entry that has it, its position, the squared distance.
 fn put_outside(out: &mut [u8], at: usize, word: &[u8], position: u32, square: i64) -> usize
     requires { at + outside_room + length word.now ≤ length out.old }
-    ensures puts { Puts (outsideText word.now position square) out.old at out.new result }
+    ensures puts { Puts (outside_text word.now position square) out.old at out.new result }
     ensures upper_bound { result ≤ at + outside_room + length word.now }
 {
     let first = text_output::put_bytes(out, at, word);
@@ -23,7 +23,7 @@ fn put_outside(out: &mut [u8], at: usize, word: &[u8], position: u32, square: i6
 // The answer to what separates two entries.
 pub fn put_separation(out: &mut [u8], at: usize, s: Separation) -> usize
     requires { at + separation_room ≤ length out.old }
-    ensures puts { Puts (separationText s) out.old at out.new result }
+    ensures puts { Puts (separation_text s) out.old at out.new result }
     ensures upper_bound { result ≤ at + separation_room }
 {
     match s {

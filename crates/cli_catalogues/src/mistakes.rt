@@ -2,28 +2,29 @@
 ghost use Rattle.std.specs.Prelude.{◌≤◌, length};
 
 use catalogue_records::Form;
+use cli_output::Say;
 use text_lines::Mistake;
 
 // Says what a mistake is.
-fn report(line: u64, mistake: Mistake) {
+fn report(rt: &impl Say, line: u64, mistake: Mistake) {
     let mut text = [0u8; cli_entries::MOST_MISTAKE];
     let n = cli_entries::put_mistake(&mut text, 0, line, mistake);
-    io::write_all(libc::STDERR_FILENO, &text[..n]);
+    rt.say(&text[..n]);
 }
 
 // Says what is wrong with a line.
-fn check(form: Form, s: &[u8], line: u64) {
+fn check(rt: &impl Say, form: Form, s: &[u8], line: u64) {
     if text_lines::is_new(s) {
-        cli_answers::refusals::say_error(line, b"new on another line than the first");
+        cli_answers::refusals::say_error(rt, line, b"new on another line than the first");
         return;
     }
     let l = text_lines::read_line(form, s);
     let mistake = l.mistake;
-    report(line, mistake);
+    report(rt, line, mistake);
 }
 
 // Says what is wrong with each of the lines, the first of which has this number.
-fn report_lines(form: Form, text: &[u8], first: u64)
+fn report_lines(rt: &impl Say, form: Form, text: &[u8], first: u64)
     requires text_len_bound { length text.now ≤ 131072 }
     requires first_bound { first ≤ 2 }
 {
@@ -32,20 +33,20 @@ fn report_lines(form: Form, text: &[u8], first: u64)
     while from < text.len() {
         let n = text_lines::length_before(&text[from..], b'\n');
         let end = from + n;
-        check(form, &text[from..end], line);
+        check(rt, form, &text[from..end], line);
         from = end + 1;
         line += 1;
     }
 }
 
 // Says what is wrong with each line of a text.
-pub(crate) fn report_all(text: &[u8])
+pub(crate) fn report_all(rt: &impl Say, text: &[u8])
     requires { length text.now ≤ 131072 }
 {
     if !text_encoding::opens_new(text) {
-        report_lines(Form::Old, text, 1);
+        report_lines(rt, Form::Old, text, 1);
         return;
     }
     let at = text_encoding::second_line(text);
-    report_lines(Form::New, &text[at..], 2);
+    report_lines(rt, Form::New, &text[at..], 2);
 }

@@ -1,10 +1,15 @@
 // The sub-commands of the command line: what the words ask for is done, and what they cannot mean is said on standard error.
-use libc::STDIN_FILENO;
+#![tactic(auto)]
+
+use cli_output::{Say, fail};
+use std::io::Read;
+use std::rt::Files;
+use std::{fs, io, str};
 
 mod help;
 
 // Whether the options of a stream stand among the two words that may follow: the number of each line, the reduced vectors.
-#[derive(Drop)]
+#[derive(Clone, Copy)]
 struct Options {
     numbered: bool,
     basis: bool,
@@ -16,24 +21,22 @@ fn with_word(o: Options, word: &[u8]) -> Options {
     if word.len() == 0 {
         return o;
     }
-    if check::same(word, b"-n") {
-        return Options {
+    match word {
+        b"-n" => Options {
             numbered: true,
             basis: o.basis,
             fit: o.fit,
-        };
-    }
-    if check::same(word, b"-r") {
-        return Options {
+        },
+        b"-r" => Options {
             numbered: o.numbered,
             basis: true,
             fit: o.fit,
-        };
-    }
-    Options {
-        numbered: o.numbered,
-        basis: o.basis,
-        fit: false,
+        },
+        _ => Options {
+            numbered: o.numbered,
+            basis: o.basis,
+            fit: false,
+        },
     }
 }
 
@@ -47,162 +50,173 @@ fn options_of(first: &[u8], second: &[u8]) -> Options {
 }
 
 // Answers a stream of requests for reductions.
-fn reduce(first: &[u8], second: &[u8]) {
+fn reduce(rt: &(impl Input + Print + Say), first: &[u8], second: &[u8]) {
     let o = options_of(first, second);
     if !o.fit || o.basis {
-        help::say_usage();
+        help::say_usage(rt);
         return;
     }
-    cli_requests::reduce(o.numbered);
+    cli_requests::reduce(rt, o.numbered);
 }
 
 // Answers a stream of requests for nearest vectors.
-fn nearest(first: &[u8], second: &[u8]) {
+fn nearest(rt: &(impl Input + Print + Say), first: &[u8], second: &[u8]) {
     let o = options_of(first, second);
     if !o.fit {
-        help::say_usage();
+        help::say_usage(rt);
         return;
     }
-    cli_requests::nearest(o.numbered, o.basis);
+    cli_requests::nearest(rt, o.numbered, o.basis);
 }
 
 // Answers a stream of questions whether a target is in a lattice.
-fn member(first: &[u8], second: &[u8]) {
+fn member(rt: &(impl Input + Print + Say), first: &[u8], second: &[u8]) {
     let o = options_of(first, second);
     if !o.fit || o.basis {
-        help::say_usage();
+        help::say_usage(rt);
         return;
     }
-    cli_requests::member(o.numbered);
+    cli_requests::member(rt, o.numbered);
 }
 
-// Does what is done with a whole catalogue, or answers the commands of a merge. False where the word is no such command. It is called from two places, so that its arrays do not
-// become part of the stack that the streams need.
-fn catalogue(word: &[u8], first: &[u8], second: &[u8], fd: i32) -> bool {
-    if check::same(word, b"fold") {
-        cli_catalogues::fold(fd);
-        return true;
+// Does what is done with a whole catalogue that the input holds. False where the word is no such command. It stays a function of its own, so
+// that its arrays do not become part of the stack that the streams need.
+#[inline(never)]
+fn catalogue(
+    rt: &(impl Print + Say),
+    input: &mut impl Read,
+    word: &[u8],
+    first: &[u8],
+    second: &[u8],
+) -> bool {
+    match word {
+        b"fold" => cli_catalogues::fold(rt, input),
+        b"lookup" => cli_catalogues::lookup(rt, input, first),
+        b"separate" => cli_catalogues::separate(rt, input, first, second),
+        b"list" => cli_catalogues::list(rt, input),
+        b"encode" => cli_catalogues::encode(rt, input),
+        b"decode" => cli_catalogues::decode(rt, input),
+        b"new-form" => cli_catalogues::new_form(rt, input),
+        b"old-form" => cli_catalogues::old_form(rt, input),
+        _ => return false,
     }
-    if check::same(word, b"lookup") {
-        cli_catalogues::lookup(fd, first);
-        return true;
-    }
-    if check::same(word, b"separate") {
-        cli_catalogues::separate(fd, first, second);
-        return true;
-    }
-    if check::same(word, b"list") {
-        cli_catalogues::list(fd);
-        return true;
-    }
-    if check::same(word, b"encode") {
-        cli_catalogues::encode(fd);
-        return true;
-    }
-    if check::same(word, b"decode") {
-        cli_catalogues::decode(fd);
-        return true;
-    }
-    if check::same(word, b"new-form") {
-        cli_catalogues::new_form(fd);
-        return true;
-    }
-    if check::same(word, b"old-form") {
-        cli_catalogues::old_form(fd);
-        return true;
-    }
-    if check::same(word, b"merge") {
-        cli_merges::serve();
-        return true;
-    }
-    false
+    true
+}
+
+// Answers the commands of a merge, a function of its own for the same reason.
+#[inline(never)]
+fn merge(rt: &(impl Input + Print + Say)) {
+    cli_merges::serve(rt);
 }
 
 // Whether the command reads a catalogue, from a file that may be named.
 fn is_catalogue(word: &[u8]) -> bool {
-    check::same(word, b"fold")
-        || check::same(word, b"lookup")
-        || check::same(word, b"separate")
-        || check::same(word, b"list")
-        || check::same(word, b"encode")
-        || check::same(word, b"decode")
-        || check::same(word, b"new-form")
-        || check::same(word, b"old-form")
+    match word {
+        b"fold"
+        | b"lookup"
+        | b"separate"
+        | b"list"
+        | b"encode"
+        | b"decode"
+        | b"new-form"
+        | b"old-form" => true,
+        _ => false,
+    }
 }
 
-// The same from the file that is named, or from standard input where none is.
-fn from_source(word: &[u8], first: &[u8], second: &[u8], path: &[u8]) {
+// Opens the file that is named. A name that is no text names none here.
+fn opened<R: Files>(rt: &R, path: &[u8]) -> io::Result<R::File> {
+    match str::from_utf8(path) {
+        Ok(name) => fs::open(rt, name),
+        Err(_) => Err(io::Error::new(io::ErrorKind::InvalidInput, "a name that is not UTF-8")),
+    }
+}
+
+// Does what is done with a catalogue or a merge whose commands come on standard input.
+fn from_input(rt: &(impl Input + Print + Say), word: &[u8], first: &[u8], second: &[u8]) {
+    if word == b"merge".as_slice() {
+        merge(rt);
+        return;
+    }
+    let mut input = rt.reader();
+    if !catalogue(rt, &mut input, word, first, second) {
+        help::say_usage(rt);
+    }
+}
+
+// Does what is done with a catalogue from the file that is named, or from standard input where none is.
+fn from_source(
+    rt: &(impl Files + Input + Print + Say),
+    word: &[u8],
+    first: &[u8],
+    second: &[u8],
+    path: &[u8],
+) {
     if path.len() == 0 {
-        if !catalogue(word, first, second, STDIN_FILENO) {
-            help::say_usage();
-        }
+        from_input(rt, word, first, second);
         return;
     }
     if !is_catalogue(word) {
-        help::say_usage();
+        help::say_usage(rt);
         return;
     }
-    let fd = os::open_read(path);
-    if fd < 0 {
-        os::fail(path);
-        return;
+    match opened(rt, path) {
+        Ok(mut file) => {
+            catalogue(rt, &mut file, word, first, second);
+        }
+        Err(error) => fail(rt, path, error),
     }
-    catalogue(word, first, second, fd);
 }
 
 // What the program says of itself. False where the word asks for something else.
-fn about(word: &[u8], first: &[u8]) -> bool {
-    if check::same(word, b"help") || check::same(word, b"--help") || check::same(word, b"-h") {
-        help::help(first);
-        return true;
+fn about(rt: &(impl Print + Say), word: &[u8], first: &[u8]) -> bool {
+    match word {
+        b"help" | b"--help" | b"-h" => help::help(rt, first),
+        b"--version" => help::version(rt),
+        b"refusals" => cli_answers::refusals::table(rt),
+        _ => return false,
     }
-    if check::same(word, b"--version") {
-        help::version();
-        return true;
-    }
-    if check::same(word, b"refusals") {
-        cli_answers::refusals::table();
-        return true;
-    }
-    false
+    true
 }
 
 // Does what the sub-command says. Three words may follow it; words are empty where there are none, and `more` says that there are others.
-pub fn run(word: &[u8], first: &[u8], second: &[u8], third: &[u8], more: bool) {
+pub fn run(
+    rt: &(impl Files + Input + Print + Say),
+    word: &[u8],
+    first: &[u8],
+    second: &[u8],
+    third: &[u8],
+    more: bool,
+) {
     if more {
-        help::say_usage();
+        help::say_usage(rt);
         return;
     }
-    if check::same(word, b"separate") {
-        from_source(word, first, second, third);
+    if word == b"separate".as_slice() {
+        from_source(rt, word, first, second, third);
         return;
     }
     if third.len() != 0 {
-        help::say_usage();
+        help::say_usage(rt);
         return;
     }
-    if check::same(word, b"reduce") {
-        reduce(first, second);
-        return;
+    match word {
+        b"reduce" => reduce(rt, first, second),
+        b"nearest" => nearest(rt, first, second),
+        b"member" => member(rt, first, second),
+        b"lookup" => from_source(rt, word, first, b"", second),
+        _ => with_one(rt, word, first, second),
     }
-    if check::same(word, b"nearest") {
-        nearest(first, second);
-        return;
-    }
-    if check::same(word, b"member") {
-        member(first, second);
-        return;
-    }
-    if check::same(word, b"lookup") {
-        from_source(word, first, b"", second);
-        return;
-    }
+}
+
+// The commands that one word may follow.
+fn with_one(rt: &(impl Files + Input + Print + Say), word: &[u8], first: &[u8], second: &[u8]) {
     if second.len() != 0 {
-        help::say_usage();
+        help::say_usage(rt);
         return;
     }
-    if about(word, first) {
+    if about(rt, word, first) {
         return;
     }
-    from_source(word, b"", b"", first);
+    from_source(rt, word, b"", b"", first);
 }

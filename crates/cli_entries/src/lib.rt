@@ -1,14 +1,16 @@
 // Entries on the command line: the number that a word writes, and what is wrong with a line that tells one.
+#![tactic(auto)]
+
 ghost use Rattle.std.specs.Prelude.{◌≡◌, ◌+◌, ◌≤◌, length};
 ghost use Rattle.text_output.specs.Puts.{Puts};
-ghost use Rattle.cli_entries.specs.Asked.{asked_number, wanted_in};
+ghost use Rattle.cli_entries.specs.Asked.{asked_or_none, wanted_in};
 ghost use Rattle.cli_entries.specs.Mistakes.{mistake_text, mistake_room};
 
 use catalogue_records::Catalogue;
 use text_lines::Mistake;
 
 // What a word asks for.
-#[derive(Drop)]
+#[derive(Clone, Copy)]
 pub enum Wanted {
     Entry(u32),
     NoNumber,
@@ -22,7 +24,7 @@ const NO_ENTRY: u32 = Catalogue::MOST_NUMBER + 1;
 
 // A number as it is asked for. What is no entry's number becomes one that none has.
 fn asked(n: i64) -> u32
-    ensures { result ≡ asked_number n }
+    ensures { result ≡ asked_or_none n }
 {
     if !text_parts::first_part::is_count(n) {
         return NO_ENTRY;

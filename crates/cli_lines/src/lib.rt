@@ -1,6 +1,10 @@
 // The lines of a stream: where one ends, what is kept of one that has not ended yet, their numbers, and the room for an answer.
+#![tactic(auto)]
+
 ghost use Rattle.std.specs.Prelude.{◌≡◌, ◌+◌, ◌-◌, ◌≤◌, min, length, take, drop};
 ghost use Rattle.cli_lines.specs.Lines.{line_length, kept};
+
+use cli_output::Say;
 
 // How long the first line is, without its newline.
 pub fn line_length(s: &[u8]) -> usize
@@ -51,14 +55,14 @@ pub fn next(line: u64) -> u64 {
 }
 
 // How far the output is filled, and whether every write went through.
-#[derive(Drop)]
+#[derive(Clone, Copy)]
 pub struct Room {
     pub at: usize,
     pub is_open: bool,
 }
 
 // Writes what stands in the output, unless it has room for an answer, which takes no more than so many bytes.
-pub fn make_room(out: &[u8], at: usize, most: usize) -> Room
+pub fn make_room(rt: &(impl Print + Say), out: &[u8], at: usize, most: usize) -> Room
     requires most_in_bounds { most ≤ length out.now }
     requires at_in_bounds { at ≤ length out.now }
     ensures { result.at + most ≤ length out.now }
@@ -68,6 +72,6 @@ pub fn make_room(out: &[u8], at: usize, most: usize) -> Room
     }
     Room {
         at: 0,
-        is_open: cli_output::write(&out[..at]),
+        is_open: cli_output::write(rt, &out[..at]),
     }
 }

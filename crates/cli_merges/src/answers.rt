@@ -2,7 +2,7 @@
 ghost use Rattle.std.specs.Prelude.{◌+◌, ◌≤◌, length};
 ghost use Rattle.text_output.specs.Puts.{Puts};
 ghost use Rattle.merges.specs.Stored.{answer_in};
-ghost use Rattle.cli_merges.specs.Answers.{provisionalText, finalText, answerText};
+ghost use Rattle.cli_merges.specs.Answers.{provisional_text, final_text, answer_text};
 ghost use Rattle.cli_merges.specs.Room.{standing_room, answer_room};
 
 use merges::Answer;
@@ -10,7 +10,7 @@ use merges::Answer;
 // A standing number of an open merge.
 fn put_provisional(out: &mut [u8], at: usize, n: u32) -> usize
     requires { at + standing_room ≤ length out.old }
-    ensures puts { Puts (provisionalText n) out.old at out.new result }
+    ensures puts { Puts (provisional_text n) out.old at out.new result }
     ensures upper_bound { result ≤ at + standing_room }
 {
     let first = text_output::put_bytes(out, at, b"standing ");
@@ -21,7 +21,7 @@ fn put_provisional(out: &mut [u8], at: usize, n: u32) -> usize
 // The same of a closed one.
 fn put_final(out: &mut [u8], at: usize, n: u32) -> usize
     requires { at + standing_room ≤ length out.old }
-    ensures puts { Puts (finalText n) out.old at out.new result }
+    ensures puts { Puts (final_text n) out.old at out.new result }
     ensures upper_bound { result ≤ at + standing_room }
 {
     let first = text_output::put_bytes(out, at, b"standing ");
@@ -33,7 +33,7 @@ fn put_final(out: &mut [u8], at: usize, n: u32) -> usize
 pub(crate) fn put_answer(out: &mut [u8], at: usize, done: &[u8], answer: Answer) -> usize
     requires answer_room_in_bounds { at + answer_room ≤ length out.old }
     requires done_len_bound { length done.now ≤ answer_room }
-    ensures puts { Puts (answerText done.now (answer_in answer)) out.old at out.new result }
+    ensures puts { Puts (answer_text done.now (answer_in answer)) out.old at out.new result }
     ensures upper_bound { result ≤ at + answer_room }
 {
     match answer {

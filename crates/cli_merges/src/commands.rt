@@ -2,12 +2,12 @@
 ghost use Rattle.std.specs.Prelude.{◌≡◌, ◌+◌, ◌≤◌, length};
 ghost use Rattle.text_parts.specs.Numbers.{leading};
 ghost use Rattle.text_parts.specs.Tokens.{is_blank};
-ghost use Rattle.cli_merges.specs.Commands.{word_length, word_end, first_word, command_of};
+ghost use Rattle.cli_merges.specs.Commands.{word_length, word_end, first_word, same, command_of};
 
 use text_parts::tokens::{blanks, is_blank};
 
 // What a line asks of the merge.
-#[derive(Drop)]
+#[derive(Clone, Copy)]
 pub enum Command {
     Add,
     Bytes,
@@ -19,14 +19,14 @@ pub enum Command {
 }
 
 // The command, and how many bytes it takes with the blanks before it.
-#[derive(Drop)]
+#[derive(Clone, Copy)]
 pub(crate) struct Asked {
     pub(crate) command: Command,
     pub(crate) length: usize,
 }
 
 // Where a word begins and where it ends.
-#[derive(Drop)]
+#[derive(Clone, Copy)]
 pub(crate) struct Word {
     pub(crate) from: usize,
     pub(crate) end: usize,
@@ -47,26 +47,33 @@ fn word_length(s: &[u8]) -> usize
     i
 }
 
+// Whether two words are the same.
+fn is_same(word: &[u8], other: &[u8]) -> bool
+    ensures { result ≡ same word.now other.now }
+{
+    word == other
+}
+
 // The command that a word is.
 fn named(word: &[u8]) -> Command
     ensures { result ≡ command_of word.now }
 {
-    if check::same(word, b"add") {
+    if is_same(word, b"add") {
         return Command::Add;
     }
-    if check::same(word, b"bytes") {
+    if is_same(word, b"bytes") {
         return Command::Bytes;
     }
-    if check::same(word, b"look") {
+    if is_same(word, b"look") {
         return Command::Look;
     }
-    if check::same(word, b"close") {
+    if is_same(word, b"close") {
         return Command::Close;
     }
-    if check::same(word, b"list") {
+    if is_same(word, b"list") {
         return Command::Listing;
     }
-    if check::same(word, b"fold") {
+    if is_same(word, b"fold") {
         return Command::Fold;
     }
     Command::Unknown

@@ -1,11 +1,14 @@
 // A merge kept for a whole run: commands on standard input, a line each, answered on standard output as they come, in fixed memory. The loops here
 // only move bytes; what is a line and what is kept of one is under contract in cli_lines, what is answered in the modules.
+#![tactic(auto)]
+
 ghost use Rattle.std.specs.Prelude.{◌+◌, ◌≤◌, length};
 ghost use Rattle.merges.specs.IsMerge.{IsMerge};
 ghost use Rattle.cli_merges.specs.Room.{reply_room};
 
-use libc::STDIN_FILENO;
+use cli_output::Say;
 use merges::Merge;
+use std::io::Read;
 
 mod answers;
 mod commands;
@@ -13,7 +16,7 @@ mod digits;
 pub mod replies;
 
 // The merge, how far the input is answered, what its next line's number is, and how far the output is filled.
-#[derive(Drop)]
+#[derive(Clone, Copy)]
 struct Place {
     merge: Merge,
     from: usize,
@@ -23,7 +26,13 @@ struct Place {
 }
 
 // Answers every line that ends, from the start of the bytes on.
-fn answer_lines(merge: Merge, bytes: &[u8], first: u64, out: &mut [u8]) -> Place
+fn answer_lines(
+    rt: &(impl Print + Say),
+    merge: Merge,
+    bytes: &[u8],
+    first: u64,
+    out: &mut [u8],
+) -> Place
     requires merge { IsMerge merge }
     requires reply_room_in_bounds { reply_room ≤ length out.old }
     ensures merge_2 { IsMerge result.merge }
@@ -39,7 +48,7 @@ fn answer_lines(merge: Merge, bytes: &[u8], first: u64, out: &mut [u8]) -> Place
         if end == bytes.len() {
             break;
         }
-        let room = cli_lines::make_room(out, at, replies::MOST_BYTES);
+        let room = cli_lines::make_room(rt, out, at, replies::MOST_BYTES);
         if !room.is_open {
             return Place {
                 merge: m,
@@ -66,7 +75,7 @@ fn answer_lines(merge: Merge, bytes: &[u8], first: u64, out: &mut [u8]) -> Place
 
 // The merge, what is kept of the line that has not ended, and the line's number; whether the input is over, and whether all reads and writes went
 // through.
-#[derive(Drop)]
+#[derive(Clone, Copy)]
 struct Turn {
     merge: Merge,
     have: usize,
@@ -76,7 +85,15 @@ struct Turn {
 }
 
 // Reads once, answers every line that ends and writes the answers, so that what has come is answered before more is waited for.
-fn take_turn(merge: Merge, bytes: &mut [u8], have: usize, line: u64, out: &mut [u8]) -> Turn
+fn take_turn(
+    rt: &(impl Print + Say),
+    input: &mut impl Read,
+    merge: Merge,
+    bytes: &mut [u8],
+    have: usize,
+    line: u64,
+    out: &mut [u8],
+) -> Turn
     requires merge { IsMerge merge }
     requires in_bounds { 4097 ≤ length bytes.old }
     requires reply_room_in_bounds { reply_room ≤ length out.old }
@@ -84,7 +101,7 @@ fn take_turn(merge: Merge, bytes: &mut [u8], have: usize, line: u64, out: &mut [
     ensures merge_2 { IsMerge result.merge }
     ensures have_bound_2 { result.have ≤ 4097 }
 {
-    let f = cli_input::read_more(STDIN_FILENO, bytes, have);
+    let f = cli_input::read_more(rt, input, bytes, have);
     let end = f.end;
     if end == have {
         return Turn {
@@ -95,7 +112,7 @@ fn take_turn(merge: Merge, bytes: &mut [u8], have: usize, line: u64, out: &mut [
             is_open: f.is_open,
         };
     }
-    let p = answer_lines(merge, &bytes[..end], line, out);
+    let p = answer_lines(rt, merge, &bytes[..end], line, out);
     let at = p.at;
     let after = p.merge;
     if !p.is_open {
@@ -107,7 +124,7 @@ fn take_turn(merge: Merge, bytes: &mut [u8], have: usize, line: u64, out: &mut [
             is_open: false,
         };
     }
-    let is_open = cli_output::write(&out[..at]);
+    let is_open = cli_output::write(rt, &out[..at]);
     Turn {
         merge: after,
         have: cli_lines::keep(bytes, p.from, end),
@@ -118,7 +135,7 @@ fn take_turn(merge: Merge, bytes: &mut [u8], have: usize, line: u64, out: &mut [
 }
 
 // Answers the last line, which no newline ends, unless a read or a write failed.
-fn finish(bytes: &[u8], t: Turn, out: &mut [u8])
+fn finish(rt: &(impl Print + Say), bytes: &[u8], t: Turn, out: &mut [u8])
     requires in_bounds { 4097 ≤ length bytes.now }
     requires reply_room_in_bounds { reply_room ≤ length out.old }
     requires merge { IsMerge t.merge }
@@ -131,35 +148,34 @@ fn finish(bytes: &[u8], t: Turn, out: &mut [u8])
     let merge = t.merge;
     let r = replies::answer(merge, &bytes[..have], t.line, out, 0);
     let at = r.at;
-    cli_output::write(&out[..at]);
+    cli_output::write(rt, &out[..at]);
 }
 
 // Takes turns until the input is over or a read or a write fails. Nothing says that a stream ends and a proved loop must, so the turns are
-// counted down from a number that no run uses up.
-fn serve_with(bytes: &mut [u8], out: &mut [u8])
+// counted up to a number that no run reaches.
+fn serve_with(rt: &(impl Print + Say), input: &mut impl Read, bytes: &mut [u8], out: &mut [u8])
     requires in_bounds { 4097 ≤ length bytes.old }
     requires reply_room_in_bounds { reply_room ≤ length out.old }
 {
     let mut merge = Merge::start();
     let mut have = 0;
     let mut line = 1;
-    let mut turns = u64::MAX;
-    while turns > 0 {
-        let t = take_turn(merge, bytes, have, line, out);
+    for _ in 0..u64::MAX {
+        let t = take_turn(rt, input, merge, bytes, have, line, out);
         if t.is_over {
-            finish(bytes, t, out);
+            finish(rt, bytes, t, out);
             return;
         }
         merge = t.merge;
         have = t.have;
         line = t.line;
-        turns -= 1;
     }
 }
 
 // Answers the commands of a run. The bytes are what all turns share: so much is read and written at a time.
-pub fn serve() {
+pub fn serve(rt: &(impl Input + Print + Say)) {
     let mut bytes = [0u8; 32768];
     let mut out = [0u8; 131072];
-    serve_with(&mut bytes, &mut out);
+    let mut input = rt.reader();
+    serve_with(rt, &mut input, &mut bytes, &mut out);
 }

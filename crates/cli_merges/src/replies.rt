@@ -5,7 +5,7 @@ ghost use Rattle.text_rules.specs.Encoding.{is_empty};
 ghost use Rattle.text_lines.specs.Told.{words_in};
 ghost use Rattle.catalogue_rules.specs.Word.{bytes_of};
 ghost use Rattle.catalogue_rules.specs.Read.{read};
-ghost use Rattle.cli_answers.specs.Answers.{errorText};
+ghost use Rattle.cli_answers.specs.Answers.{error_text};
 ghost use Rattle.cli_entries.specs.Asked.{wanted_in};
 ghost use Rattle.merges.specs.Stored.{merge_in};
 ghost use Rattle.merges.specs.IsMerge.{IsMerge};
@@ -30,7 +30,7 @@ pub const MOST_BYTES: usize = catalogue_listing::MOST_BYTES;
 const MOST_LINE: usize = 4096;
 
 // The merge after a line, and how far the output is filled.
-#[derive(Drop)]
+#[derive(Clone, Copy)]
 pub struct Reply {
     pub merge: Merge,
     pub at: usize,
@@ -46,7 +46,7 @@ fn is_blank(s: &[u8]) -> bool
 // Says that something follows a command that stands alone.
 fn put_behind(out: &mut [u8], at: usize, line: u64) -> usize
     requires { at + reply_room ≤ length out.old }
-    ensures puts { Puts (errorText line behind_command) out.old at out.new result }
+    ensures puts { Puts (error_text line behind_command) out.old at out.new result }
     ensures upper_bound { result ≤ at + reply_room }
 {
     put_error(out, at, line, b"something behind the command")

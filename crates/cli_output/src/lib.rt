@@ -1,4 +1,7 @@
 // Standard output, and the lines of an answer before they go there: fields and rows put into lent bytes, with the room that any numbers need.
+// Standard error is beside it.
+#![tactic(auto)]
+
 ghost use Rattle.std.specs.Prelude.{◌≡◌, [], ◌∷◌, map, ◌+◌, ◌*◌, ◌≤◌, min, length, take};
 ghost use Rattle.integers.specs.Decimal.{decimal, signed};
 ghost use Rattle.text_layout.specs.Fields.{after};
@@ -9,37 +12,41 @@ ghost use Rattle.lattices.specs.Refusal.{most_coordinates};
 ghost use Rattle.cli_output.specs.Rows.{row_line};
 ghost use Rattle.cli_output.specs.Room.{number_room, field_room, row_room, line_room, lines_room};
 
-use libc::STDOUT_FILENO;
+mod errors;
+
+pub use errors::{Say, fail, say_number};
 
 // Writes all bytes. A write that fails is said on standard error, and false is the answer: the caller leaves then.
-pub fn write(bytes: &[u8]) -> bool {
-    if io::write_all(STDOUT_FILENO, bytes) {
-        return true;
+pub fn write(rt: &(impl Print + Say), bytes: &[u8]) -> bool {
+    match rt.write_all(bytes) {
+        Ok(()) => true,
+        Err(error) => {
+            fail(rt, b"raghymtos: cannot write", error);
+            false
+        }
     }
-    os::fail(b"raghymtos: cannot write");
-    false
 }
 
 // Writes n.
-pub fn number(n: u64) -> bool {
+pub fn number(rt: &(impl Print + Say), n: u64) -> bool {
     let mut text = [0u8; 20];
-    let k = io::decimal(n, &mut text);
-    write(&text[..k])
+    let k = put_number(&mut text, 0, n);
+    write(rt, &text[..k])
 }
 
 // Writes z, a minus before it where it is negative.
-pub fn signed(z: i64) -> bool {
+pub fn signed(rt: &(impl Print + Say), z: i64) -> bool {
     if z < 0 {
-        if !write(b"-") {
+        if !write(rt, b"-") {
             return false;
         }
     }
-    number(text_output::magnitude(z))
+    number(rt, text_output::magnitude(z))
 }
 
 // Ends the line.
-pub fn newline() -> bool {
-    write(b"\n")
+pub fn newline(rt: &(impl Print + Say)) -> bool {
+    write(rt, b"\n")
 }
 
 // The lesser of two.

@@ -1,4 +1,6 @@
 // A line answered: a request, or what is wrong with it.
+#![tactic(auto)]
+
 ghost use Rattle.std.specs.Prelude.{◌≡◌, ◌+◌, ◌≤◌, length};
 ghost use Rattle.text_output.specs.Puts.{Puts};
 ghost use Rattle.cli_replies.specs.Replies.{mistake_text, reduced_of, reduce_with, reduce_reply, basis_of, found_on, member_on, wanted_of, with_target, with_vectors, target_reply, reply, number_text, answer};
@@ -17,7 +19,7 @@ pub const MOST_BYTES: usize = 21 + cli_answers::MOST_BYTES;
 pub const MOST_LISTED: usize = 2048;
 
 // What the lines ask for.
-#[derive(Drop)]
+#[derive(Clone, Copy)]
 pub enum Command {
     Reduce,
     Nearest,
@@ -26,7 +28,7 @@ pub enum Command {
 }
 
 // What is asked about a target.
-#[derive(Drop)]
+#[derive(Clone, Copy)]
 pub enum Wanted {
     Vector,
     VectorOnBasis,

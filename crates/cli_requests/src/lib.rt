@@ -1,14 +1,17 @@
 // Requests on standard input, a line each, answered on standard output in fixed memory, however long the stream is. The loops here only move
 // bytes; what is a line and what is kept of one is under contract in cli_lines, what is answered in cli_replies.
+#![tactic(auto)]
+
 ghost use Rattle.std.specs.Prelude.{◌+◌, ◌≤◌, ◌≡◌, length};
 ghost use Rattle.cli_replies.specs.Replies.{most_listed};
 ghost use Rattle.cli_replies.specs.Room.{answer_room};
 
+use cli_output::Say;
 use cli_replies::Command;
-use libc::STDIN_FILENO;
+use std::io::Read;
 
 // How far the input is answered, what its next line's number is, and how far the output is filled.
-#[derive(Drop)]
+#[derive(Clone, Copy)]
 struct Place {
     from: usize,
     line: u64,
@@ -18,6 +21,7 @@ struct Place {
 
 // Answers every line that ends, from the start of the bytes on.
 fn answer_lines(
+    rt: &(impl Print + Say),
     command: Command,
     numbered: bool,
     bytes: &[u8],
@@ -40,7 +44,7 @@ fn answer_lines(
         if end == bytes.len() {
             break;
         }
-        let room = cli_lines::make_room(out, at, cli_replies::MOST_BYTES);
+        let room = cli_lines::make_room(rt, out, at, cli_replies::MOST_BYTES);
         if !room.is_open {
             return Place {
                 from,
@@ -71,7 +75,7 @@ fn answer_lines(
 }
 
 // What is kept of the line that has not ended, and the line's number; whether the input is over, and whether all reads and writes went through.
-#[derive(Drop)]
+#[derive(Clone, Copy)]
 struct Turn {
     have: usize,
     line: u64,
@@ -81,6 +85,8 @@ struct Turn {
 
 // Reads once, answers every line that ends and writes the answers, so that what has come is answered before more is waited for.
 fn take_turn(
+    rt: &(impl Print + Say),
+    input: &mut impl Read,
     command: Command,
     numbered: bool,
     bytes: &mut [u8],
@@ -97,7 +103,7 @@ fn take_turn(
     requires have_bound { have ≤ 4097 }
     ensures { result.have ≤ 4097 }
 {
-    let f = cli_input::read_more(STDIN_FILENO, bytes, have);
+    let f = cli_input::read_more(rt, input, bytes, have);
     let end = f.end;
     if end == have {
         return Turn {
@@ -107,7 +113,16 @@ fn take_turn(
             is_open: f.is_open,
         };
     }
-    let p = answer_lines(command, numbered, &bytes[..end], line, numbers, target, out);
+    let p = answer_lines(
+        rt,
+        command,
+        numbered,
+        &bytes[..end],
+        line,
+        numbers,
+        target,
+        out,
+    );
     let at = p.at;
     if !p.is_open {
         return Turn {
@@ -117,7 +132,7 @@ fn take_turn(
             is_open: false,
         };
     }
-    let is_open = cli_output::write(&out[..at]);
+    let is_open = cli_output::write(rt, &out[..at]);
     Turn {
         have: cli_lines::keep(bytes, p.from, end),
         line: p.line,
@@ -128,6 +143,7 @@ fn take_turn(
 
 // Answers the last line, which no newline ends, unless a read or a write failed.
 fn finish(
+    rt: &(impl Print + Say),
     command: Command,
     numbered: bool,
     bytes: &[u8],
@@ -157,12 +173,14 @@ fn finish(
         out,
         0,
     );
-    cli_output::write(&out[..at]);
+    cli_output::write(rt, &out[..at]);
 }
 
 // Takes turns until the input is over or a read or a write fails. Nothing says that a stream ends and a proved loop must, so the turns are
-// counted down from a number that no run uses up.
+// counted up to a number that no run reaches.
 fn serve_with(
+    rt: &(impl Print + Say),
+    input: &mut impl Read,
     command: Command,
     numbered: bool,
     bytes: &mut [u8],
@@ -177,26 +195,29 @@ fn serve_with(
 {
     let mut have = 0;
     let mut line = 1;
-    let mut turns = u64::MAX;
-    while turns > 0 {
-        let t = take_turn(command, numbered, bytes, have, line, numbers, target, out);
+    for _ in 0..u64::MAX {
+        let t = take_turn(
+            rt, input, command, numbered, bytes, have, line, numbers, target, out,
+        );
         if t.is_over {
-            finish(command, numbered, bytes, t, numbers, target, out);
+            finish(rt, command, numbered, bytes, t, numbers, target, out);
             return;
         }
         have = t.have;
         line = t.line;
-        turns -= 1;
     }
 }
 
 // The bytes and the numbers that all turns share: so much is read and written at a time.
-fn serve(command: Command, numbered: bool) {
+fn serve(rt: &(impl Input + Print + Say), command: Command, numbered: bool) {
     let mut bytes = [0u8; 32768];
     let mut out = [0u8; 32768];
     let mut numbers = [0i64; cli_replies::MOST_LISTED];
     let mut target = [0i64; cli_replies::MOST_LISTED];
+    let mut input = rt.reader();
     serve_with(
+        rt,
+        &mut input,
         command,
         numbered,
         &mut bytes,
@@ -207,20 +228,20 @@ fn serve(command: Command, numbered: bool) {
 }
 
 // Answers requests for reductions, the line's number before each answer or not.
-pub fn reduce(numbered: bool) {
-    serve(Command::Reduce, numbered);
+pub fn reduce(rt: &(impl Input + Print + Say), numbered: bool) {
+    serve(rt, Command::Reduce, numbered);
 }
 
 // Answers requests for nearest vectors, with the reduced vectors before each answer or not.
-pub fn nearest(numbered: bool, basis: bool) {
+pub fn nearest(rt: &(impl Input + Print + Say), numbered: bool, basis: bool) {
     if basis {
-        serve(Command::NearestOnBasis, numbered);
+        serve(rt, Command::NearestOnBasis, numbered);
         return;
     }
-    serve(Command::Nearest, numbered);
+    serve(rt, Command::Nearest, numbered);
 }
 
 // Answers requests whether a target is in a lattice.
-pub fn member(numbered: bool) {
-    serve(Command::Member, numbered);
+pub fn member(rt: &(impl Input + Print + Say), numbered: bool) {
+    serve(rt, Command::Member, numbered);
 }

@@ -1,4 +1,6 @@
 // The lattice engine: greedy reduction with its tables, proved equal to the definition.
+#![tactic(auto)]
+
 ghost use Rattle.std.specs.Prelude.{◌≡◌, [], ◌≤◌, pos, length, take};
 ghost use Rattle.std.specs.Int.Signed.{lt_z};
 ghost use Rattle.lattices.specs.Vector.{N};
@@ -23,7 +25,7 @@ use gram_matrix::{Table, Work};
 use row_operations::{Basis, TableRow, Vector, VectorRow, WIDTH};
 
 // The answer of a reduction. Where the refusal is not 0, all else is 0; unused places hold 0.
-#[derive(Drop)]
+#[derive(Clone, Copy)]
 pub struct Reduction {
     pub refusal: u64,
     pub place: u64,
@@ -123,7 +125,7 @@ pub fn reduce(numbers: &[i64], d: usize, m: usize) -> Reduction
 // The answer of a search for the nearest vector: the vector, its coefficients on the reduced basis, the solution there in tenths, its squared
 // distance from the target.
 // Where the refusal is not 0, all else is 0; unused places hold 0.
-#[derive(Drop)]
+#[derive(Clone, Copy)]
 pub struct NearestVector {
     pub refusal: u64,
     pub place: u64,

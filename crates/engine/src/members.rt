@@ -7,7 +7,7 @@ use super::reduce;
 use row_operations::WIDTH;
 
 // The answer of a membership. Where the refusal is not 0, all else is 0 and the answer no.
-#[derive(Drop)]
+#[derive(Clone, Copy)]
 pub struct MemberAnswer {
     pub refusal: u64,
     pub place: u64,

@@ -1,4 +1,6 @@
 // The services for callers in other languages. include/raghymtos.h declares them.
+#![tactic(auto)]
+
 ghost use Rattle.std.specs.Prelude.{◌≡◌, true, [], leb, length};
 ghost use Rattle.lattices.specs.Answer.{reduction_of, nearest_of, membership_of};
 ghost use Rattle.solutions.specs.Solution.{TenthsFor};

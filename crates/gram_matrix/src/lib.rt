@@ -1,4 +1,6 @@
 // The greedy steps on the Gram matrix of the vectors: squared lengths are on its diagonal. Vectors, U and V go through the same steps beside it.
+#![tactic(auto)]
+
 ghost use Rattle.std.specs.Prelude.{◌≡◌, List, [], ◌++◌, map, ℕ, suc, ◌+◌, ◌-◌, ◌≤◌, ◌<◌, pos, nat_abs, ◌-ℤ◌, ◌*ℤ◌, length, get_or, set, take, drop};
 ghost use Rattle.lattices.specs.Vector.{nth, dot};
 ghost use Rattle.lattices.specs.Refusal.{most_coordinates};

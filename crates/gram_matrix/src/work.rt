@@ -6,7 +6,7 @@ use super::Table;
 use row_operations::{Basis, TableRow, VectorRow, WIDTH};
 
 // The work on a list of vectors: they, their tables and the passes made so far. Their Gram matrix is lent beside it.
-#[derive(Drop)]
+#[derive(Clone, Copy)]
 pub struct Work {
     pub vectors: [VectorRow; 4],
     pub u: [TableRow; 4],

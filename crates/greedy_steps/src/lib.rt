@@ -1,4 +1,6 @@
 // The greedy steps on the Gram matrix: a pass, and the reduction of the first n rows on one vector fewer at each call of itself.
+#![tactic(auto)]
+
 ghost use Rattle.std.specs.Prelude.{◌≡◌, ◌≤◌, ◌<◌, length};
 ghost use Rattle.gram_matrix.specs.Tied.{Held, Tied};
 ghost use Rattle.greedy_steps.specs.State.{pass_rows};

@@ -1,4 +1,6 @@
 // An input as an array of vectors, and its refusals 1 to 5: comparisons first, so that no number of the input makes arithmetic overflow.
+#![tactic(auto)]
+
 ghost use Rattle.std.specs.Prelude.{◌≡◌, ◌≢◌, [], ℕ, ◌+◌, ◌*◌, ◌<◌, ◌≤◌, pos, length, take, drop, get_or, ◌≤ℤ◌};
 ghost use Rattle.row_operations.specs.Front.{front};
 ghost use Rattle.lattices.specs.Vector.{N};

@@ -16,7 +16,7 @@ use row_operations::{Basis, Vector, WIDTH};
 const CHOICES: usize = 1 << WIDTH;
 
 // A choice among the coordinates: how many are taken, and which, in increasing order.
-#[derive(Drop)]
+#[derive(Clone, Copy)]
 struct Choice {
     pub count: usize,
     pub at: [usize; WIDTH],
@@ -120,7 +120,7 @@ pub fn minor_of(b: &Basis, at: [usize; WIDTH], d: usize) -> i64
 }
 
 // A choice of coordinates and the minor there.
-#[derive(Drop)]
+#[derive(Clone, Copy)]
 pub struct Minor {
     pub at: [usize; WIDTH],
     pub minor: i64,

@@ -1,17 +1,21 @@
 // Exact membership without a search, on a lattice that is made once for a reduced basis: Cramer's rule on one minor that is not zero,
 // then a comparison in every coordinate.
-ghost use Rattle.std.specs.Prelude.{◌≡◌, ◌≢◌, not, [], map, ℕ, ◌≤◌, ◌<◌, pos, length, get_or, take, ◌≤ℤ◌};
+#![tactic(auto)]
+
+ghost use Rattle.std.specs.Prelude.{◌≡◌, ◌≢◌, not, [], map, ℕ, ◌*◌, ◌≤◌, ◌<◌, pos, length, get_or, take, ◌≤ℤ◌};
 ghost use Rattle.integers.specs.Every.{any, every};
 ghost use Rattle.integers.specs.Size.{Within};
 ghost use Rattle.lattices.specs.Vector.{N, nth, dot};
 ghost use Rattle.lattices.specs.Volume.{volume};
-ghost use Rattle.lattices.specs.Refusal.{most_vectors};
+ghost use Rattle.lattices.specs.Answer.{padded};
+ghost use Rattle.lattices.specs.Refusal.{most_vectors, most_coordinates, vectors_of};
+ghost use Rattle.integers.specs.All.{All};
 ghost use Rattle.lattice_membership.specs.Nonzero.{nonzero};
 ghost use Rattle.successive_minima.specs.Member.{is_member};
 ghost use Rattle.row_operations.specs.RowStructs.{vector_row};
 ghost use Rattle.input_checks.specs.Determinant.{Small, without, three_of, cofactors_of};
 ghost use Rattle.lattice_membership.specs.Cofactor.{cofactor_rows};
-ghost use Rattle.lattice_membership.specs.Known.{ReducedBasis, Known, left_in, vectors_in, is_whole, same_size};
+ghost use Rattle.lattice_membership.specs.Known.{ReducedBasis, Known, KnownChoice, left_in, vectors_in, is_whole, same_size};
 
 use input_checks::minors::{first_minor, minor_of, pair, pick, square};
 use row_operations::{Basis, Vector, WIDTH};
@@ -74,7 +78,7 @@ fn cofactor_rows(t: [[i64; 4]; 4], d: usize) -> [row_operations::TableRow; 4]
 // A lattice of d vectors with m coordinates: what a reduction leaves, its vectors, their squared lengths and how many passes it took; and what
 // membership needs: the choice of d coordinates, the minor there, which is not zero, and for each vector the numbers that the chosen
 // coordinates of another one count in the minor with it in that vector's place.
-#[derive(Drop)]
+#[derive(Clone, Copy)]
 pub struct Lattice {
     pub d: usize,
     pub m: usize,
@@ -102,6 +106,7 @@ fn vector_rows(b: [Vector; 4]) -> [row_operations::VectorRow; 4]
 pub fn lattice_of(b: [Vector; 4], d: usize, m: usize, squares: [i64; 4], passes: u64) -> Lattice
     requires { ReducedBasis d b }
     ensures known { Known result }
+    ensures chosen { KnownChoice result }
     ensures result_value { left_in result ≡ record { d = d; m = m; vectors = map vector_row b; squares = squares; passes = passes } }
 {
     let first = first_minor(&b, d);
@@ -206,6 +211,18 @@ pub fn holds_lattice(l: Lattice, other: Lattice) -> bool
     holds_all(l, row_operations::vectors_of(vectors), other.d)
 }
 
+// Whether d vectors of m coordinates each, vector by vector, are all in the lattice.
+pub fn holds_numbers(l: Lattice, numbers: &[i64], d: usize, m: usize) -> bool
+    requires known { Known l }
+    requires shape { (d ≤ most_vectors) × (m ≤ most_coordinates) }
+    requires numbers_len { length numbers.now ≡ d * m }
+    requires short { All (λ v. N v ≤ℤ pos 400000000) (vectors_of d m numbers.now) }
+    ensures { result ≡ every (is_member (vectors_in l)) (map (padded most_coordinates) (vectors_of d m numbers.now)) }
+{
+    let b = input_checks::basis(numbers, d, m);
+    holds_all(l, b, d)
+}
+
 // Whether two numbers have the same size.
 fn same_size(a: i64, b: i64) -> bool
     requires { Within 160000000000000000 b }
@@ -216,10 +233,10 @@ fn same_size(a: i64, b: i64) -> bool
 
 // Whether the minor of as many vectors at the lattice's choice of coordinates has the size of its own: where it holds them, they then generate it.
 pub fn same_minor(l: Lattice, b: &Basis) -> bool
-    requires known { Known l }
+    requires chosen { KnownChoice l }
     requires b_len { length b.now ≡ 4 }
     requires by_index { (i : ℕ) → i < l.d → N (get_or b.now i []) ≤ℤ pos 400000000 }
-    ensures { (k : Known l) → result ≡ same_size (volume (take l.d b.now) k.index) l.minor }
+    ensures { (k : KnownChoice l) → result ≡ same_size (volume (take l.d b.now) k.known.index) l.minor }
 {
     let at = l.choice;
     same_size(minor_of(b, at, l.d), l.minor)

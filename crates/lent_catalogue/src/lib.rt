@@ -1,4 +1,6 @@
 // The services on catalogues with their answers written to lent numbers; include/raghymtos.h gives their order.
+#![tactic(auto)]
+
 ghost use Rattle.std.specs.Prelude.{◌≡◌, leb, length};
 ghost use Rattle.catalogue_rules.specs.Read.{read};
 ghost use Rattle.catalogue_rules.specs.Output.{output};

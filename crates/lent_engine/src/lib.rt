@@ -1,4 +1,6 @@
 // The engine's services with their answers written to lent numbers; include/raghymtos.h gives their order.
+#![tactic(auto)]
+
 ghost use Rattle.std.specs.Prelude.{◌≡◌, true, [], leb, length};
 ghost use Rattle.lattices.specs.Answer.{reduction_of, nearest_of, membership_of};
 ghost use Rattle.solutions.specs.Solution.{TenthsFor};

@@ -1,4 +1,6 @@
 // The moves between the forms with their answers written to lent numbers; include/raghymtos.h gives their order.
+#![tactic(auto)]
+
 ghost use Rattle.std.specs.Prelude.{◌≡◌, leb, length};
 ghost use Rattle.catalogue_rules.specs.Catalogue.{old, new};
 ghost use Rattle.catalogue_rules.specs.Moving.{move_of};

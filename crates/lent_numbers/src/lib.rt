@@ -1,4 +1,6 @@
 // Answers written to lent numbers, part by part. include/raghymtos.h gives their order.
+#![tactic(auto)]
+
 ghost use Rattle.std.specs.Prelude.{◌≡◌, ◌+◌, ◌*◌, ◌≤◌, pos, length};
 ghost use Rattle.std.proofs.lemmas.List.Edits.{sets};
 ghost use Rattle.lattices.specs.Refusal.{most_vectors, most_coordinates};

@@ -1,5 +1,7 @@
 // The linear system G·y = c of section 5 (source 000, equation (1)), solved in floats: G is the Gram matrix of d vectors, c holds the inner products of the
 // target with them. Nothing is said of how exact the solution is, and nothing depends on it: integers made from it are only bounded.
+#![tactic(auto)]
+
 ghost use Rattle.std.specs.Prelude.{◌≡◌, [], ℕ, ◌<◌, length, get_or};
 ghost use Rattle.integers.specs.Size.{Within};
 ghost use Rattle.lattices.specs.Vector.{nth};

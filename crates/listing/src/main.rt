@@ -1,4 +1,7 @@
 // The listing program: a catalogue on standard input, its listing on standard output.
-fn main() {
-    cli_catalogues::list(libc::STDIN_FILENO);
+#![tactic(auto)]
+
+fn main(rt: HostRuntime) {
+    let mut input = rt.reader();
+    cli_catalogues::list(&rt, &mut input);
 }

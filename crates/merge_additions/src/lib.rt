@@ -1,4 +1,6 @@
 // One entry's bytes read after the entries that were added before: 8, then word by word, then 5.
+#![tactic(auto)]
+
 ghost use Rattle.std.specs.Prelude.{◌≡◌, ◌≤◌, length};
 ghost use Rattle.catalogue_rules.specs.Catalogue.{most_numbers};
 ghost use Rattle.catalogue_rules.specs.Word.{kind_of, words_of};
@@ -17,7 +19,7 @@ use catalogue_steps::reading::{Phase, Reading};
 use catalogue_steps::words::{Word, decode, word_at};
 
 // What an addition is: a refusal and its place in the bytes handed over, or an entry.
-#[derive(Drop)]
+#[derive(Clone, Copy)]
 pub struct Addition {
     pub refusal: u64,
     pub place: usize,

@@ -1,5 +1,7 @@
 // The open merge: a list of entries that grows by additions, is looked up on the way, and is closed at last. It goes by value: each method takes it
 // and hands it back. What is kept of an entry does not change when others follow.
+#![tactic(auto)]
+
 ghost use Rattle.std.specs.Prelude.{◌≡◌, true, ◌≤◌, ◌<◌};
 ghost use Rattle.merge_rules.specs.Merge.{start, add_to, look_in, close_of, file_of, said};
 ghost use Rattle.fold_rules.specs.Services.{fold_of, list_of};
@@ -8,7 +10,8 @@ ghost use Rattle.separation_answers.specs.Said.{said_by};
 ghost use Rattle.catalogue_records.specs.Catalogues.{catalogue_of, written_of};
 ghost use Rattle.catalogue_rules.specs.Catalogue.{accepted, most_entries};
 ghost use Rattle.catalogue_records.specs.EntriesIn.{entry_in};
-ghost use Rattle.fold_rules.specs.Laws.SameLattice.{Sound};
+ghost use Rattle.fold_rules.proofs.Laws.SameLattice.{Sound};
+ghost use Rattle.lattice_membership.specs.Known.{KnownChoice};
 ghost use Rattle.catalogue_standing.specs.ReducedEntry.{reduced_entry};
 ghost use Rattle.catalogue_standing.specs.SameLattice.{LatticeOf};
 ghost use Rattle.catalogue_standing.specs.Places.{First};
@@ -26,7 +29,7 @@ mod looking;
 mod rows;
 
 // The vectors of an entry: d times m coordinates, none over 20,000 in size, then zeros.
-#[derive(Drop)]
+#[derive(Clone, Copy)]
 pub struct Vectors {
     pub d: usize,
     pub m: usize,
@@ -35,7 +38,7 @@ pub struct Vectors {
 
 // Whether it is closed and how many entries were added; of each its number, whether it is a draft, whether it has a see word and which number that
 // names, its vectors; the squared length of a shortest vector of its lattice, and the place of the first entry of its lattice.
-#[derive(Drop)]
+#[derive(Clone, Copy)]
 pub struct Merge {
     pub closed: bool,
     pub count: usize,
@@ -50,7 +53,7 @@ pub struct Merge {
 
 // What a call answers: it was done, a refusal and its place, a standing number that is provisional or final, or that the number is named but was not
 // added yet.
-#[derive(Drop)]
+#[derive(Clone, Copy)]
 pub enum Answer {
     Done,
     Refused(u64, usize),
@@ -60,7 +63,7 @@ pub enum Answer {
 }
 
 // The merge handed back, and the answer.
-#[derive(Drop)]
+#[derive(Clone, Copy)]
 pub struct Said {
     pub merge: Merge,
     pub answer: Answer,
@@ -244,6 +247,7 @@ impl Merge {
         requires merge { IsMerge self }
         requires sound { Sound (entry_in e) }
         requires lattice_of { LatticeOf (reduced_entry (entry_in e)) l }
+        requires chosen { KnownChoice l }
         requires square_value { square ≡ shortest_of (reduced_entry (entry_in e)) }
         ensures { First (is_first_of self (entry_in e)) self.count result }
     {

@@ -5,7 +5,8 @@ ghost use Rattle.lattices.specs.Vector.{nth};
 ghost use Rattle.merges.specs.Rows.{see_place_at, where_seen, after_word};
 ghost use Rattle.catalogue_records.specs.EntriesIn.{entry_in};
 ghost use Rattle.fold_rules.specs.Fold.{same_lattice};
-ghost use Rattle.fold_rules.specs.Laws.SameLattice.{Sound};
+ghost use Rattle.fold_rules.proofs.Laws.SameLattice.{Sound};
+ghost use Rattle.lattice_membership.specs.Known.{KnownChoice};
 ghost use Rattle.catalogue_standing.specs.ReducedEntry.{reduced_entry};
 ghost use Rattle.catalogue_standing.specs.SameLattice.{LatticeOf};
 ghost use Rattle.merges.specs.Stored.{plain_item, entry_from};
@@ -107,6 +108,7 @@ pub(crate) fn entry(
 pub(crate) fn same(number: u32, v: Vectors, e: Entry, l: Lattice) -> bool
     requires sound { (Sound (plain_item number v)) × (Sound (entry_in e)) }
     requires lattice_of { LatticeOf (reduced_entry (entry_in e)) l }
+    requires chosen { KnownChoice l }
     ensures { result ≡ same_lattice (plain_item number v) (entry_in e) }
 {
     same_entry(entry(number, 0, v, false, false, 0, 0), e, l)

@@ -1,5 +1,7 @@
 // What `raghymtos help` and `raghymtos nearest` write: a program has one compared output, and that of `raghymtos` is for reductions.
-fn main() {
-    cli_commands::run(b"help", b"", b"", b"", false);
-    cli_commands::run(b"nearest", b"", b"", b"", false);
+#![tactic(auto)]
+
+fn main(rt: HostRuntime) {
+    cli_commands::run(&rt, b"help", b"", b"", b"", false);
+    cli_commands::run(&rt, b"nearest", b"", b"", b"", false);
 }

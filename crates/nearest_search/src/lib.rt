@@ -2,6 +2,8 @@
 // the Gram matrix, r holds the inner products of the vectors with what is left of the target, x the coefficients taken so far. The linear system
 // is solved and its solution rounded (`start`), then corrected by a search around it. Up to three vectors that is the walk over the table. Of
 // four, the lattice falls into layers, one for each multiple of the last vector, and the walk finds the best of a layer.
+#![tactic(auto)]
+
 ghost use Rattle.std.specs.Prelude.{◌≡◌, List, [], ◌∷◌, ℕ, ◌≤◌, ◌<◌, ℤ, pos, nat_abs, ◌*ℤ◌, length, get_or, take, replicate};
 ghost use Rattle.integers.specs.Size.{Within};
 ghost use Rattle.lattices.specs.Vector.{Vec, N, nth, comb, ◌⊖◌};

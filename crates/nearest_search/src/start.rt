@@ -69,7 +69,7 @@ fn weighed(e: [i64; 4], w: [i64; 4]) -> i64
     sum
 }
 
-// What the step e changes the squared length by, where it leaves s of r; in the text Σ typeof.e_i².N(b_i) + 2·Σ e_i·e_j·<b_i, b_j> − 2·Σ e_i·<b_i, t>, which is
+// What the step e changes the squared length by, where it leaves s of r; in the text Σ e_i²·N(b_i) + 2·Σ e_i·e_j·<b_i, b_j> − 2·Σ e_i·<b_i, t>, which is
 // −Σ e_i·(r_i + s_i).
 pub fn gain(e: [i64; 4], r: [i64; 4], s: [i64; 4]) -> i64
     requires by_index { (i : ℕ) → nat_abs (nth r i) + nat_abs (nth s i) ≤ room }

@@ -1,6 +1,8 @@
 // The search for the nearest vector in the lattice of at most three reduced vectors (source 000, section 5: "corrected by a suitable exhaustive
 // search"), on numbers: g is the Gram matrix of four vectors, of which the first k are searched, r holds the inner products of the four with what
 // is left of the target, and x the coefficients taken so far.
+#![tactic(auto)]
+
 ghost use Rattle.std.specs.Prelude.{◌≡◌, [], ℕ, ◌+◌, ◌≤◌, ◌<◌, pos, nat_abs, ◌+ℤ◌, ◌-ℤ◌, ◌*ℤ◌, length, get_or, set, ◌<ℤ◌};
 ghost use Rattle.integers.specs.Size.{Within};
 ghost use Rattle.lattices.specs.Vector.{nth, ◌⊕◌, ◌⊖◌, ◌⊙◌};

@@ -1,6 +1,8 @@
 // The vector nearest to a target, on the Gram matrix of reduced vectors, as section 5 of source 000 has it (Theorem 11 and its proof): the inner
 // products with the target (`gram_matrix`: `products`), the linear system of equation (1) (`linear_systems`: `solution`), its solution rounded and the
 // exhaustive search around it (`nearest_search`: `around`), and what is left of the target.
+#![tactic(auto)]
+
 ghost use Rattle.std.specs.Prelude.{◌≡◌, ◌≤◌, length, take};
 ghost use Rattle.lattices.specs.Vector.{N, comb, ◌⊖◌};
 ghost use Rattle.lattices.specs.Nearest.{nearest};

@@ -1,10 +1,12 @@
 // A lattice as a value, made once of numbers that are known to be a basis: the catalogue has tested its entries when it reads them. And the squared
 // distance of a vector to it.
+#![tactic(auto)]
+
 ghost use Rattle.std.specs.Prelude.{◌≡◌, [], pos, ◌≤ℤ◌};
 ghost use Rattle.lattices.specs.Vector.{N};
 ghost use Rattle.lattices.specs.Refusal.{first_of, vector_checks};
 ghost use Rattle.successive_minima.specs.Member.{squared_to};
-ghost use Rattle.lattice_membership.specs.Known.{Known, left_in, vectors_in};
+ghost use Rattle.lattice_membership.specs.Known.{Known, KnownChoice, left_in, vectors_in};
 ghost use Rattle.reduced_lattices.specs.Left.{left_of};
 
 use lattice_membership::Lattice;
@@ -14,6 +16,7 @@ use row_operations::Vector;
 pub fn lattice(numbers: &[i64], d: usize, m: usize) -> Lattice
     requires { first_of vector_checks (record { numbers = numbers.now; d = d; m = m; target = [] }) ≡ 0 }
     ensures known { Known result }
+    ensures chosen { KnownChoice result }
     ensures result_value { left_in result ≡ left_of (record { numbers = numbers.entry.now; d = d; m = m; target = [] }) }
 {
     let b = input_checks::basis(numbers, d, m);

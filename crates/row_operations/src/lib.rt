@@ -1,4 +1,6 @@
 // Arithmetic on vectors, and the tables of an answer in row structs. Unused places are zero.
+#![tactic(auto)]
+
 ghost use Rattle.std.specs.Prelude.{◌≡◌, [], map, ℕ, ◌+◌, ◌≤◌, length, take, ◌*ℤ◌, nat_abs};
 ghost use Rattle.integers.specs.Lists.{nth};
 ghost use Rattle.integers.specs.Size.{Within, load};
@@ -16,13 +18,13 @@ pub type Vector = [i64; WIDTH];
 pub type Basis = [Vector; 4];
 
 // One vector.
-#[derive(Drop)]
+#[derive(Clone, Copy)]
 pub struct VectorRow {
     pub at: Vector,
 }
 
 // One row of a table with a number for each two vectors.
-#[derive(Drop)]
+#[derive(Clone, Copy)]
 pub struct TableRow {
     pub at: [i64; 4],
 }

@@ -1,6 +1,8 @@
 // Catalogues made: words as bytes, many entries alike, and many that differ, in the old form and in the new.
+#![tactic(auto)]
+
 ghost use Rattle.std.specs.Prelude.{◌≤◌, length};
-ghost use Rattle.io.specs.Counts.{IsPrefixLen};
+ghost use Rattle.text_output.specs.Counts.{IsPrefixLen};
 
 // The bytes of a word from n on, lowest byte first, if there is room; the index after them.
 fn put(bytes: &mut [u8], n: usize, w: u32) -> usize

@@ -1,6 +1,8 @@
 // The solution of the linear system G·y = c in whole tenths. y is the solution in floats; x holds the whole coefficients found, r the inner
 // products of the vectors with what is left of the target. What y is away from x is taken in parts, 8192 to a whole, and tested: no more than a
 // small part may be left. Floats that were wrong are set right by steps.
+#![tactic(auto)]
+
 ghost use Rattle.std.specs.Prelude.{◌≡◌, List, [], ℕ, ◌+◌, ◌≤◌, ◌<◌, pos, nat_abs, ◌-ℤ◌, ◌*ℤ◌, length, get_or};
 ghost use Rattle.integers.specs.Size.{Within};
 ghost use Rattle.lattices.specs.Vector.{Vec, nth, dot, ◌⊖◌, ◌⊙◌};

@@ -1,5 +1,7 @@
 // The text of a catalogue, an entry to a line: `number d m ; coordinates`, `; draft` where it is a draft, and `; see` where there is a see word. In
 // the new form a line `new` stands before them.
+#![tactic(auto)]
+
 ghost use Rattle.std.specs.Prelude.{◌+◌, ◌≤◌, length};
 ghost use Rattle.integers.specs.All.{All};
 ghost use Rattle.catalogue_rules.specs.Form.{EntryFits};

@@ -1,5 +1,7 @@
 // The words that a text tells, line by line, then the end word; and the line on which a word stands. A first line `new` tells the form of the
 // others.
+#![tactic(auto)]
+
 ghost use Rattle.std.specs.Prelude.{◌≡◌, [], ◌∷◌, ◌*◌, ◌≤◌, length};
 ghost use Rattle.catalogue_records.specs.EntriesIn.{form_in};
 ghost use Rattle.text_rules.specs.Encoding.{lines_of, line_words, line_holding, told_holding};
@@ -16,7 +18,7 @@ use text_lines::Line;
 pub const MOST_TEXT: usize = 131071;
 
 // How far a text is told: the words and the entries so far, and whether a line was wrong.
-#[derive(Drop)]
+#[derive(Clone, Copy)]
 pub struct Told {
     pub words: usize,
     pub entries: usize,

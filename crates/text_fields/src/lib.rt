@@ -1,4 +1,6 @@
 // Fields of a line, each put behind a blank from a place on; the place after it.
+#![tactic(auto)]
+
 ghost use Rattle.std.specs.Prelude.{◌+◌, ◌≤◌, length};
 ghost use Rattle.integers.specs.Decimal.{decimal, signed};
 ghost use Rattle.text_output.specs.Puts.{Puts};

@@ -1,5 +1,7 @@
 // The words of a line of text: `number d m ; coordinates`, `; draft` where it is a draft, and `; see` where there is a see word. What stands
 // behind a `#` is a comment. A line may be `new` instead, which tells the form of the others.
+#![tactic(auto)]
+
 ghost use Rattle.std.specs.Prelude.{◌≡◌, false, ◌++◌, ◌-◌, ◌≤◌, ◌<◌, length, replicate};
 ghost use Rattle.integers.specs.Every.{any};
 ghost use Rattle.catalogue_rules.specs.Catalogue.{most_number};
@@ -16,7 +18,7 @@ use text_parts::Kind;
 use text_parts::tokens::{blanks, read_token};
 
 // What is wrong with a line.
-#[derive(Drop)]
+#[derive(Clone, Copy)]
 pub enum Mistake {
     None,
     PartMissing,
@@ -32,7 +34,7 @@ pub enum Mistake {
 
 // What a line tells: its words, or what is wrong with it, or that it is blank. A head has a second word, its size, in the new form; 0 is none.
 // Of the mark the line tells whether it stands there. A see word 0 is none.
-#[derive(Drop)]
+#[derive(Clone, Copy)]
 pub struct Line {
     pub mistake: Mistake,
     pub blank: bool,
@@ -45,21 +47,21 @@ pub struct Line {
 }
 
 // The words of a head: its first word, and its size, 0 where there is none.
-#[derive(Drop)]
+#[derive(Clone, Copy)]
 struct Head {
     first: u32,
     size: u32,
 }
 
 // The words of some coordinates, unless one is beyond the limit.
-#[derive(Drop)]
+#[derive(Clone, Copy)]
 struct Words {
     beyond: bool,
     words: [u32; 225],
 }
 
 // What follows the coordinates: whether it is right, whether it begins with the mark, and the see word, 0 for none.
-#[derive(Drop)]
+#[derive(Clone, Copy)]
 struct Rest {
     right: bool,
     draft: bool,

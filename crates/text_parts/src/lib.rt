@@ -1,4 +1,6 @@
 // Requests as text: numbers with blanks between them, in parts with semicolons between them.
+#![tactic(auto)]
+
 ghost use Rattle.std.specs.Prelude.{◌≡◌, ◌≤◌, length};
 ghost use Rattle.text_parts.specs.Parts.{is_number, is_semicolon, is_end, taken_at, part_of, filled};
 
@@ -9,7 +11,7 @@ pub mod numbers;
 pub mod tokens;
 
 // What stands at a place of the text.
-#[derive(Drop)]
+#[derive(Clone, Copy)]
 pub enum Kind {
     Number,
     Semicolon,
@@ -21,7 +23,7 @@ pub enum Kind {
 }
 
 // The first token of some bytes: its kind, how many bytes it takes with the blanks before it, and its value if it is a number.
-#[derive(Drop)]
+#[derive(Clone, Copy)]
 pub struct Token {
     pub kind: Kind,
     pub length: usize,
@@ -29,7 +31,7 @@ pub struct Token {
 }
 
 // The numbers of a part: how many, how many bytes they take with the token after them, and that token's kind.
-#[derive(Drop)]
+#[derive(Clone, Copy)]
 pub struct Part {
     pub count: usize,
     pub length: usize,
@@ -37,7 +39,7 @@ pub struct Part {
 }
 
 // The counts d and m that a request begins with, and how the part that holds them stops.
-#[derive(Drop)]
+#[derive(Clone, Copy)]
 pub struct Counts {
     pub d: usize,
     pub m: usize,

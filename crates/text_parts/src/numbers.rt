@@ -11,7 +11,7 @@ fn is_digit(b: u8) -> bool
 }
 
 // The digits that bytes begin with: how many, and the number that they write, or where no i64 has it the least such number.
-#[derive(Drop)]
+#[derive(Clone, Copy)]
 struct Scan {
     count: usize,
     size: u64,
