@@ -12,7 +12,7 @@ use Rattle.catalogue_rules.specs.Read.{read, checked}
 use Rattle.catalogue_rules.specs.Form.{WellFormed}
 use Rattle.catalogue_rules.specs.Output.{untouched, filled_with, lent_rows, output}
 use Rattle.catalogue_rules.specs.Moving.{entry_to_form, to_form, read_to_move, over_at, moved, move_of}
-use Rattle.catalogue_rules.specs.Laws.Moving.{to-form-written, form-formed, move-not-refused, numbers_fit, read_first}
+use Rattle.catalogue_rules.proofs.Laws.Moving.{to-form-written, form-formed, move-not-refused, numbers_fit, read_first}
 use Rattle.catalogue_records.specs.declared.Form.{Form}
 use Rattle.catalogue_records.specs.declared.Catalogue.{Catalogue}
 use Rattle.catalogue_records.specs.Stored.{no_entry, entry_of}

@@ -9,7 +9,7 @@ use Rattle.catalogue_rules.specs.Form.{WellFormed}
 use Rattle.catalogue_rules.specs.Output.{untouched, filled_with, lent_rows, output}
 use Rattle.fold_rules.specs.Fold.{closed_list, printed_in, folded}
 use Rattle.fold_rules.specs.Services.{folded_outcome, fold_of}
-use Rattle.fold_rules.specs.Laws.FoldedForm.{prints-form, folded-written}
+use Rattle.fold_rules.proofs.Laws.FoldedForm.{prints-form, folded-written}
 use Rattle.catalogue_records.specs.declared.Catalogue.{Catalogue}
 use Rattle.catalogue_records.specs.Catalogues.{catalogue_of}
 use Rattle.catalogue_records.specs.EntriesIn.{entries_in}

@@ -7,10 +7,10 @@ use Rattle.catalogue_rules.specs.Catalogue as definition
 use Rattle.catalogue_rules.specs.Catalogue.{Outcome, refused, accepted}
 use Rattle.catalogue_rules.specs.Read.{read}
 use Rattle.catalogue_rules.specs.Form.{WellFormed}
-use Rattle.fold_rules.specs.Laws.Searching.{among-at}
+use Rattle.fold_rules.proofs.Laws.Searching.{among-at}
 use Rattle.separation_rules.specs.Separation.{refused_at, told, with_number, separated_by, separated_in, separation, separate_of}
-use Rattle.separation_rules.specs.Laws.Numbers.{number-finds, number_misses}
-use Rattle.separation_rules.specs.Demand.{either_unknown}
+use Rattle.separation_rules.proofs.Laws.Numbers.{number-finds, number_misses}
+use Rattle.separation_rules.proofs.Demand.{either_unknown}
 use Rattle.catalogue_records.specs.declared.Catalogue.{Catalogue}
 use Rattle.catalogue_records.specs.Catalogues.{catalogue_of}
 use Rattle.catalogue_records.specs.EntriesIn.{entries_in}

@@ -10,7 +10,7 @@ use Rattle.catalogue_rules.specs.Catalogue as definition
 use Rattle.catalogue_rules.specs.Catalogue.{See, coordinates, see_number, most_entries, most_numbers}
 use Rattle.catalogue_rules.specs.Form.{WellFormed}
 use Rattle.fold_rules.specs.Fold.{Stood, stood_of, closed_list, stands, standing_in, carried, printed, printed_in}
-use Rattle.fold_rules.specs.Laws.SameLattice.{Sound}
+use Rattle.fold_rules.proofs.Laws.SameLattice.{Sound}
 use Rattle.catalogue_records.specs.declared.Catalogue.{Catalogue}
 use Rattle.catalogue_records.specs.declared.Form.{Form}
 use Rattle.catalogue_records.specs.declared.Form.TheVariants.{Old, New}

@@ -6,7 +6,7 @@ use Rattle.catalogue_rules.specs.Catalogue as definition
 use Rattle.catalogue_rules.specs.Catalogue.{See, coordinates, see_number, most_numbers}
 use Rattle.catalogue_rules.specs.Form.{WellFormed}
 use Rattle.fold_rules.specs.Fold.{closed_list, lookup, led, followed}
-use Rattle.fold_rules.specs.Laws.See.{led-own, led-other}
+use Rattle.fold_rules.proofs.Laws.See.{led-own, led-other}
 use Rattle.catalogue_records.specs.declared.Entry.{Entry}
 use Rattle.integers.specs.Filled.{filled}
 use Rattle.catalogue_records.specs.Stored.{sees, see_place}

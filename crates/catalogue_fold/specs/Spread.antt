@@ -9,9 +9,9 @@ use Rattle.lattices.specs.Answer.{padded, table}
 use Rattle.lattices.specs.Laws.Answer.{length-padded, take-padded}
 use Rattle.greedy_reduction.specs.Start.{Coordinates}
 use Rattle.catalogue_rules.specs.Catalogue.{Entry, coordinates}
-use Rattle.catalogue_rules.specs.Laws.RoundTrip.{coordinates_snoc}
+use Rattle.catalogue_rules.proofs.Laws.RoundTrip.{coordinates_snoc}
 use Rattle.fold_rules.specs.Fold.{reduced_of}
-use Rattle.fold_rules.specs.Laws.SameLattice.{Sound, entry-full}
+use Rattle.fold_rules.proofs.Laws.SameLattice.{Sound, entry-full}
 use Rattle.integers.specs.Filled.{filled}
 use Rattle.integers.specs.FilledLaws.{filled_next, map_snoc}
 use Rattle.lattice_membership.specs.Known.{Left}

@@ -3,7 +3,7 @@ use Rattle.std.specs.Prelude.{◌≡◌, ◌≢◌, List, ℕ, ◌+◌, ◌≤�
 use Rattle.std.proofs.Common.{sym, ap, ap₂, ◌∙◌, subst, arith}
 use Rattle.catalogue_rules.specs.Catalogue as definition
 use Rattle.fold_rules.specs.Fold.{stood_of, closed_list, carried, printed}
-use Rattle.fold_rules.specs.Laws.SameLattice.{Sound, sound-entries}
+use Rattle.fold_rules.proofs.Laws.SameLattice.{Sound, sound-entries}
 use Rattle.catalogue_records.specs.declared.Catalogue.{Catalogue}
 use Rattle.catalogue_records.specs.declared.Entry.{Entry}
 use Rattle.catalogue_records.specs.Stored.{entry_of}

@@ -7,11 +7,11 @@ use Rattle.lattices.specs.Vector.{Vec}
 use Rattle.lattices.specs.Greedy.{reduction}
 use Rattle.catalogue_rules.specs.Catalogue as definition
 use Rattle.catalogue_rules.specs.Catalogue.{see_number}
-use Rattle.fold_rules.specs.Fold.{reduced_of, standing, Stood, stood_of, closed_list, followed, leads}
+use Rattle.fold_rules.specs.Fold.{reduced_of, standing, Stood, stood_of, closed_list, followed}
 use Rattle.text_layout.specs.Fields.{line}
 use Rattle.fold_rules.specs.Listing.{vector_lines, entry_line, vectors_shown, entry_lines}
-use Rattle.fold_rules.specs.Laws.SameLattice.{Sound, sound-entries}
-use Rattle.fold_rules.specs.Laws.Deciding.{entry-reduction}
+use Rattle.fold_rules.proofs.Laws.SameLattice.{Sound, sound-entries}
+use Rattle.fold_rules.proofs.Laws.Deciding.{entry-reduction}
 use Rattle.catalogue_records.specs.declared.Catalogue.{Catalogue}
 use Rattle.catalogue_records.specs.declared.Entry.{Entry}
 use Rattle.catalogue_records.specs.EntriesIn.{entry_in, entries_in}

@@ -5,7 +5,6 @@ use Rattle.std.proofs.Math.Option.{Option, none, some}
 use Rattle.integers.specs.AllLaws.{take-map}
 use Rattle.lattices.specs.Volume.{is_dependent}
 use Rattle.integers.specs.Every.{any}
-use Rattle.catalogue_rules.specs.Catalogue as definition
 use Rattle.catalogue_rules.specs.Read.{is_numbered, dependent_at, lost_at}
 use Rattle.catalogue_records.specs.declared.Entry.{Entry}
 use Rattle.catalogue_records.specs.declared.Catalogue.{Catalogue}

@@ -5,8 +5,8 @@ use Rattle.std.proofs.Common.{◌∙◌, true≢false, add-one, drop_of_length-l
 use Rattle.catalogue_rules.specs.Word.{Word, decode}
 use Rattle.catalogue_rules.specs.Catalogue.{Outcome, refused, most_entries, most_numbers}
 use Rattle.catalogue_rules.specs.Read.{State, outside, numbered, inside, after, closed, Step, next, stop, step, at_last, read_words}
-use Rattle.catalogue_rules.specs.Laws.Moves.{Moves, by-head, by_number, by_size, by-coordinate, by-draft, by-see, by_end}
-use Rattle.catalogue_rules.specs.Laws.WellFormed.{Known, nothing_read}
+use Rattle.catalogue_rules.proofs.Laws.Moves.{Moves, by-head, by_number, by_size, by-coordinate, by-draft, by-see, by_end}
+use Rattle.catalogue_rules.proofs.Laws.WellFormed.{Known, nothing_read}
 use Rattle.catalogue_records.specs.declared.Entry.{Entry}
 use Rattle.catalogue_steps.specs.declared.reading.Reading.{Reading}
 use Rattle.integers.specs.Filled.{filled}

@@ -8,7 +8,7 @@ use Rattle.catalogue_rules.specs.Word.{Word, head, coordinate, see, end, draft, 
 use Rattle.catalogue_rules.specs.Catalogue as definition
 use Rattle.catalogue_rules.specs.Catalogue.{Head, See, coordinates, most_entries, most_numbers}
 use Rattle.catalogue_rules.specs.Read.{State, inside, after, form_of, differs, coordinate_of, with_vector, with_coordinate}
-use Rattle.catalogue_rules.specs.Laws.Moves.{Moves, by-head, by_number, by_size, by-coordinate, by-draft, by-see, by_end, Between, between, unreferred}
+use Rattle.catalogue_rules.proofs.Laws.Moves.{Moves, by-head, by_number, by_size, by-coordinate, by-draft, by-see, by_end, Between, between, unreferred}
 use Rattle.catalogue_records.specs.declared.Form.{Form}
 use Rattle.catalogue_records.specs.declared.Entry.{Entry}
 use Rattle.catalogue_steps.specs.declared.reading.Reading.{Reading}

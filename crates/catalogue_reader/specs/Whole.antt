@@ -7,13 +7,12 @@ use Rattle.std.proofs.Math.Option.{Option, none, some}
 use Rattle.std.proofs.Math.Dec.{ltb}
 use Rattle.integers.specs.All.{All}
 use Rattle.catalogue_rules.specs.Word.{words_of}
-use Rattle.catalogue_rules.specs.Catalogue as definition
 use Rattle.catalogue_rules.specs.Catalogue.{Form, Outcome, refused, accepted, most_entries, most_bytes}
 use Rattle.integers.specs.First.{first_given}
 use Rattle.catalogue_rules.specs.Read.{outside, checked, dependent_at, lost_at, read_words, after_words, opens_in, form_shown, file_rows, read_all, read}
 use Rattle.catalogue_rules.specs.Moving.{read_to_move}
 use Rattle.catalogue_rules.specs.Form.{EntryFits, Entered}
-use Rattle.catalogue_rules.specs.Laws.Moves.{WhenAccepted}
+use Rattle.catalogue_rules.proofs.Laws.Moves.{WhenAccepted}
 use Rattle.catalogue_records.specs.declared.Catalogue.{Catalogue}
 use Rattle.catalogue_records.specs.Catalogues.{no_catalogue, catalogue_of, unless}
 use Rattle.catalogue_records.specs.EntriesIn.{entries_in}

@@ -6,8 +6,8 @@ use Rattle.catalogue_rules.specs.Catalogue as definition
 use Rattle.catalogue_rules.specs.Catalogue.{Outcome, refused, accepted, refusal, entries, most_entries}
 use Rattle.catalogue_rules.specs.Read.{read}
 use Rattle.catalogue_rules.specs.Form.{WellFormed}
-use Rattle.catalogue_rules.specs.Laws.Moves.{when_not-refused}
-use Rattle.catalogue_rules.specs.Laws.WellFormed.{well_formed}
+use Rattle.catalogue_rules.proofs.Laws.Moves.{when_not-refused}
+use Rattle.catalogue_rules.proofs.Laws.WellFormed.{well_formed}
 use Rattle.catalogue_rules.specs.Output.{untouched, output}
 use Rattle.catalogue_records.specs.declared.Catalogue.{Catalogue}
 use Rattle.catalogue_records.specs.Catalogues.{catalogue_of}

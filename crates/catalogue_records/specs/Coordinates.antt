@@ -4,7 +4,7 @@ use Rattle.std.proofs.Common.{mul-le-mul, arith, length-take-le}
 use Rattle.lattices.specs.Laws.Refusal.{one-to}
 use Rattle.catalogue_rules.specs.Catalogue.{coordinates, most_numbers}
 use Rattle.catalogue_rules.specs.Form.{EntryFits}
-use Rattle.catalogue_rules.specs.Laws.EntriesAccepted.{numbers-back}
+use Rattle.catalogue_rules.proofs.Laws.EntriesAccepted.{numbers-back}
 use Rattle.catalogue_records.specs.declared.Entry.{Entry}
 use Rattle.catalogue_records.specs.EntriesIn.{entry_in}
 use Rattle.lattices.specs.Refusal.{most_vectors, most_coordinates}

@@ -11,7 +11,7 @@ use Rattle.catalogue_rules.specs.Catalogue as definition
 use Rattle.catalogue_rules.specs.Catalogue.{Form, old, new, Head, See, coordinates, see_number, most_entries, most_numbers}
 use Rattle.integers.specs.First.{first_given}
 use Rattle.catalogue_rules.specs.Form.{EntryFits}
-use Rattle.catalogue_rules.specs.Laws.EntriesAccepted.{count-coordinates, few-coordinates, vectors-back}
+use Rattle.catalogue_rules.proofs.Laws.EntriesAccepted.{count-coordinates, few-coordinates, vectors-back}
 use Rattle.catalogue_records.specs.declared.Form.TheVariants.{Old}
 use Rattle.catalogue_records.specs.declared.Entry.{Entry}
 use Rattle.catalogue_records.specs.declared.Catalogue.{Catalogue}

@@ -8,4 +8,3 @@ pub mod Output
 pub mod Form
 pub mod Moving
 pub mod Examples
-pub mod Laws

@@ -2,7 +2,7 @@
 use Rattle.std.specs.Prelude.{◌≡◌, refl, Bool, true, false, not, ◌&&◌, List, [], ◌∷◌, map, ℕ, zero, suc, ◌+◌, ◌≤◌, ◌<◌, ℤ, length, get_or}
 use Rattle.std.proofs.Common.{sym, ap, ◌∙◌, arith}
 use Rattle.std.proofs.lemmas.List.{length-map}
-use Rattle.std.proofs.lemmas.Bool.{not_true, not_false}
+use Rattle.std.proofs.lemmas.Bool.{not-true, not-false}
 use Rattle.integers.specs.Every.{every}
 use Rattle.lattices.specs.Vector.{Vec}
 use Rattle.lattices.specs.Refusal.{most_coordinates}
@@ -15,12 +15,12 @@ use Rattle.lattice_membership.specs.declared.Lattice.{Lattice}
 use Rattle.lattice_membership.specs.Known.{vectors_in}
 use Rattle.catalogue_rules.specs.Catalogue.{Entry}
 use Rattle.fold_rules.specs.Fold.{reduced_of, holds}
-use Rattle.fold_rules.specs.Laws.SameLattice.{Sound, entry-basis, entry-full}
+use Rattle.fold_rules.proofs.Laws.SameLattice.{Sound, entry-basis, entry-full}
 use Rattle.catalogue_standing.specs.ReducedEntry.{reduced_entry, basis-are, held-vectors}
 use Rattle.catalogue_standing.specs.SameLattice.{LatticeOf, lattice-vectors}
 use Rattle.catalogue_standing.specs.Places.{First}
 use Rattle.separation_rules.specs.Separation.{Separation, outside_from}
-use Rattle.separation_rules.specs.Laws.Outside.{outside-here, outside-next}
+use Rattle.separation_rules.proofs.Laws.Outside.{outside-here, outside-next}
 use Rattle.catalogue_separation.specs.declared.Outside.{Outside}
 
 -- r has the place of the first of the vectors vs that is not in the lattice of bs, and its squared distance to it
@@ -36,27 +36,27 @@ module _ (tell : ℕ → ℤ → Separation) (other : Separation) (bs : List Vec
   outside_told n k [] h before here = absurd (omega arith)
   outside_told n zero (v ∷ vs) h before here =
       let place : n ≡ n + 0 = omega arith in
-      outside-here tell n bs v vs other (not_true (is_member bs v) here) ∙ ap (λ m. tell m (squared_to bs v)) place
+      outside-here tell n bs v vs other (not-true (is_member bs v) here) ∙ ap (λ m. tell m (squared_to bs v)) place
   outside_told n (suc k) (v ∷ vs) h before here =
       let place : suc n + k ≡ n + suc k = omega arith in
-      outside-next tell n bs v vs other (not_false (is_member bs v) (before 0 (omega arith)))
+      outside-next tell n bs v vs other (not-false (is_member bs v) (before 0 (omega arith)))
       ∙ outside_told (suc n) k vs (omega arith) (λ j l. before (suc j) (omega arith)) here ∙ ap (λ m. tell m (squared_to bs (get_or vs k []))) place
 
   inside-told : (n : ℕ) (vs : List Vec) → ((j : ℕ) → j < length vs → not (is_member bs (get_or vs j [])) ≡ false) → outside_from tell n bs vs other ≡ other
   inside-told n [] before = refl
   inside-told n (v ∷ vs) before =
-      outside-next tell n bs v vs other (not_false (is_member bs v) (before 0 (omega arith))) ∙ inside-told (suc n) vs (λ j l. before (suc j) (omega arith))
+      outside-next tell n bs v vs other (not-false (is_member bs v) (before 0 (omega arith))) ∙ inside-told (suc n) vs (λ j l. before (suc j) (omega arith))
 
 -- ---- whether all are inside
 
 module _ (f : Vec → Bool) where
   all_yes : (vs : List Vec) → ((j : ℕ) → j < length vs → not (f (get_or vs j [])) ≡ false) → every f vs ≡ true
   all_yes [] h = refl
-  all_yes (v ∷ vs) h = ap (λ b. b && every f vs) (not_false (f v) (h 0 (omega arith))) ∙ all_yes vs (λ j l. h (suc j) (omega arith))
+  all_yes (v ∷ vs) h = ap (λ b. b && every f vs) (not-false (f v) (h 0 (omega arith))) ∙ all_yes vs (λ j l. h (suc j) (omega arith))
 
   one-no : (vs : List Vec) (k : ℕ) → k < length vs → not (f (get_or vs k [])) ≡ true → every f vs ≡ false
   one-no [] k l h = absurd (omega arith)
-  one-no (v ∷ vs) zero l h = ap (λ b. b && every f vs) (not_true (f v) h)
+  one-no (v ∷ vs) zero l h = ap (λ b. b && every f vs) (not-true (f v) h)
   one-no (v ∷ vs) (suc k) l h = ap (λ b. f v && b) (one-no vs k (omega arith) h) ∙ none (f v)
     where
       none : (a : Bool) → a && false ≡ false

@@ -8,9 +8,9 @@ use Rattle.catalogue_rules.specs.Catalogue.{Entry}
 use Rattle.catalogue_rules.specs.Form.{WellFormed}
 use Rattle.fold_rules.specs.Meaning.{Among}
 use Rattle.fold_rules.specs.Fold.{same_lattice, first_entry, first_by}
-use Rattle.fold_rules.specs.Laws.SameLattice.{Sound, sound-entries, one-lattice}
-use Rattle.fold_rules.specs.Laws.Adding.{is_first, first-kept}
-use Rattle.fold_rules.specs.Laws.Searching.{among-at, first_found, first-none, first_past}
+use Rattle.fold_rules.proofs.Laws.SameLattice.{Sound, sound-entries, one-lattice}
+use Rattle.fold_rules.proofs.Laws.Adding.{is_first, first-kept}
+use Rattle.fold_rules.proofs.Laws.Searching.{among-at, first_found, first-none, first_past}
 use Rattle.lattice_membership.specs.Known.{Left}
 use Rattle.catalogue_standing.specs.ReducedEntry.{no_reduced, reduced_entry, same_reduced, same-is}
 use Rattle.catalogue_standing.specs.Places.{First, first_alike, Firsts}

@@ -9,3 +9,4 @@ pub mod OneEntry
 pub mod ReducedEntries
 pub mod Standers
 pub mod Looking
+pub mod BothTests

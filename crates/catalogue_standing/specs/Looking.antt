@@ -7,8 +7,8 @@ use Rattle.catalogue_rules.specs.Catalogue.{Entry}
 use Rattle.catalogue_rules.specs.Read.{is_numbered}
 use Rattle.catalogue_rules.specs.Form.{WellFormed}
 use Rattle.fold_rules.specs.Fold.{same_lattice, standing, closed_list, lookup}
-use Rattle.fold_rules.specs.Laws.Lookup.{lookup-finds, lookup_misses}
-use Rattle.fold_rules.specs.Laws.Searching.{among-at}
+use Rattle.fold_rules.proofs.Laws.Lookup.{lookup-finds, lookup_misses}
+use Rattle.fold_rules.proofs.Laws.Searching.{among-at}
 use Rattle.catalogue_standing.specs.Places.{First}
 use Rattle.catalogue_standing.specs.Standing.{StandsAt, StandingPlaces}
 use Rattle.catalogue_standing.specs.Numbers.{Numbers}

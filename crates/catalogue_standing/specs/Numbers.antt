@@ -3,8 +3,8 @@ use Rattle.std.specs.Prelude.{◌≡◌, refl, Bool, true, false, List, [], ◌�
 use Rattle.std.proofs.Common.{sym, ap, ◌∙◌, arith, eqb-true, eq-eqb}
 use Rattle.catalogue_rules.specs.Catalogue.{Entry}
 use Rattle.catalogue_rules.specs.Form.{Distinct}
-use Rattle.fold_rules.specs.Laws.Standing.{not-used}
-use Rattle.fold_rules.specs.Laws.Searching.{among-at}
+use Rattle.fold_rules.proofs.Laws.Standing.{not-used}
+use Rattle.fold_rules.proofs.Laws.Searching.{among-at}
 
 -- the numbers of the entries, o standing beyond the end
 pub record Numbers (es : List Entry) (o : Entry) (numbers : List ℕ) : Type 0 where

@@ -19,10 +19,10 @@ use Rattle.lattice_membership.specs.Known.{Known, vectors_in, same_size}
 use Rattle.catalogue_rules.specs.Catalogue.{Entry}
 use Rattle.catalogue_rules.specs.Form.{WellFormed}
 use Rattle.fold_rules.specs.Fold.{reduced_of, holds, same_lattice, first_entry, first_by}
-use Rattle.fold_rules.specs.Laws.SameLattice.{Sound, sound-entries, entry-basis, entry-lattice, entry-count, entry-full, all_in, holds-exactly, one_refl, one-lattice}
-use Rattle.fold_rules.specs.Laws.Deciding.{same_test}
-use Rattle.fold_rules.specs.Laws.Adding.{first-new}
-use Rattle.fold_rules.specs.Laws.Searching.{first_found, first-none}
+use Rattle.fold_rules.proofs.Laws.SameLattice.{Sound, sound-entries, entry-basis, entry-lattice, entry-count, entry-full, all_in, holds-exactly, one_refl, one-lattice}
+use Rattle.fold_rules.proofs.Laws.Deciding.{same_test}
+use Rattle.fold_rules.proofs.Laws.Adding.{first-new}
+use Rattle.fold_rules.proofs.Laws.Searching.{first_found, first-none}
 use Rattle.catalogue_standing.specs.ReducedEntry.{reduced_entry, basis-are, held-vectors}
 use Rattle.catalogue_standing.specs.SameLattice.{LatticeOf, lattice-vectors}
 use Rattle.catalogue_standing.specs.Places.{First}

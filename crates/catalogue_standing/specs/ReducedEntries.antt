@@ -7,7 +7,7 @@ use Rattle.integers.specs.AllLaws.{get_d_map}
 use Rattle.catalogue_rules.specs.Catalogue.{Outcome, refused, accepted, most_entries}
 use Rattle.catalogue_rules.specs.Read.{read}
 use Rattle.catalogue_rules.specs.Form.{WellFormed}
-use Rattle.fold_rules.specs.Laws.SameLattice.{Sound, sound-entries}
+use Rattle.fold_rules.proofs.Laws.SameLattice.{Sound, sound-entries}
 use Rattle.catalogue_records.specs.declared.Catalogue.{Catalogue}
 use Rattle.catalogue_records.specs.Stored.{no_entry, entry_of}
 use Rattle.integers.specs.FilledLaws.{length-filled}

@@ -13,8 +13,8 @@ use Rattle.lattice_membership.specs.Laws.Made.{rows_back}
 use Rattle.catalogue_rules.specs.Catalogue.{Entry, input_of}
 use Rattle.fold_rules.specs.Fold.{reduced_of, holds, same_lattice}
 use Rattle.integers.specs.Every.{every}
-use Rattle.fold_rules.specs.Laws.SameLattice.{Sound, entry-full}
-use Rattle.fold_rules.specs.Laws.Deciding.{entry-reduction, entry-rows, entry-member, different-m, different-d, different_answers, holds-reduced}
+use Rattle.fold_rules.proofs.Laws.SameLattice.{Sound, entry-full}
+use Rattle.fold_rules.proofs.Laws.Deciding.{entry-reduction, entry-rows, entry-member, different-m, different-d, different_answers, holds-reduced}
 use Rattle.lattice_membership.specs.Known.{Left}
 use Rattle.reduced_lattices.specs.Left.{left_of}
 

@@ -39,6 +39,10 @@ alike_of list places k j e = first_alike_lem (lefts_in list) places k j e ∙ ap
 
 -- ---- both ways
 
+pub held_by : {a b : Left} {l k : Lattice} → LatticeOf a l → LatticeOf b k → every (is_member (vectors_in l)) (vectors_in k) ≡ held_in a b
+unfolding held_in
+held_by p q = ap₂ (λ vs ws. every (is_member vs) ws) (lattice-vectors p) (lattice-vectors q)
+
 pub by_lattices : (l k : Lattice) → l.m ≡ k.m → l.d ≡ k.d → (every (is_member (vectors_in l)) (vectors_in k) && every (is_member (vectors_in k)) (vectors_in l)) ≡ same_reduced (left_in l) (left_in k)
 unfolding held_in
 by_lattices l k m d = by-held (left_in l) (left_in k) m d

@@ -8,10 +8,10 @@ use Rattle.catalogue_rules.specs.Catalogue.{Entry}
 use Rattle.catalogue_rules.specs.Form.{WellFormed}
 use Rattle.fold_rules.specs.Meaning.{Among, OneLattice}
 use Rattle.fold_rules.specs.Fold.{same_lattice, first_by, standing_by, standing, stood_of, stands}
-use Rattle.fold_rules.specs.Laws.SameLattice.{Sound, sound-entries, one-lattice}
-use Rattle.fold_rules.specs.Laws.Standing.{first_one, standing-same}
-use Rattle.fold_rules.specs.Laws.Adding.{same-firsts}
-use Rattle.fold_rules.specs.Laws.Searching.{among-at, first_found, first-none}
+use Rattle.fold_rules.proofs.Laws.SameLattice.{Sound, sound-entries, one-lattice}
+use Rattle.fold_rules.proofs.Laws.Standing.{first_one, standing-same}
+use Rattle.fold_rules.proofs.Laws.Adding.{same-firsts}
+use Rattle.fold_rules.proofs.Laws.Searching.{among-at, first_found, first-none}
 use Rattle.catalogue_standing.specs.Places.{First}
 use Rattle.catalogue_standing.specs.FirstPlaces.{FirstPlaces}
 use Rattle.catalogue_standing.specs.Numbers.{eqb_turn, number-place}

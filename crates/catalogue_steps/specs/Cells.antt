@@ -7,8 +7,8 @@ use Rattle.catalogue_rules.specs.Word.{Word, head, coordinate, see, end, draft, 
 use Rattle.catalogue_rules.specs.Catalogue as definition
 use Rattle.catalogue_rules.specs.Catalogue.{Head, See, coordinates, see_number, most_numbers}
 use Rattle.catalogue_rules.specs.Read.{State, outside, numbered, inside, after, closed, coordinate_of, with_vector, with_coordinate}
-use Rattle.catalogue_rules.specs.Laws.Moves.{Moves, by-head, by_number, by_size, by-coordinate, by-draft, by-see, by_end}
-use Rattle.catalogue_rules.specs.Laws.RoundTrip.{coordinates_snoc}
+use Rattle.catalogue_rules.proofs.Laws.Moves.{Moves, by-head, by_number, by_size, by-coordinate, by-draft, by-see, by_end}
+use Rattle.catalogue_rules.proofs.Laws.RoundTrip.{coordinates_snoc}
 use Rattle.integers.specs.Filled.{filled}
 use Rattle.catalogue_records.specs.declared.Form.{Form}
 use Rattle.catalogue_records.specs.declared.Entry.{Entry}

@@ -4,9 +4,9 @@ use Rattle.std.proofs.Common.{sym, ap, ◌∙◌, subst, arith, length-take}
 use Rattle.catalogue_rules.specs.Word.{Word, decode}
 use Rattle.catalogue_rules.specs.Catalogue.{most_entries, most_numbers}
 use Rattle.catalogue_rules.specs.Read.{State, outside, numbered, inside, after, closed, Step, next, stop, step}
-use Rattle.catalogue_rules.specs.Laws.Word.{InRange, decode_range}
-use Rattle.catalogue_rules.specs.Laws.Moves.{Moves, by-head, by_number, by_size, by-coordinate, by-draft, by-see, by_end, Going, moved}
-use Rattle.catalogue_rules.specs.Laws.WellFormed.{Known, known-moves}
+use Rattle.catalogue_rules.proofs.Laws.Word.{InRange, decode_range}
+use Rattle.catalogue_rules.proofs.Laws.Moves.{Moves, by-head, by_number, by_size, by-coordinate, by-draft, by-see, by_end, Going, moved}
+use Rattle.catalogue_rules.proofs.Laws.WellFormed.{Known, known-moves}
 use Rattle.catalogue_steps.specs.declared.reading.Reading.{Reading}
 use Rattle.catalogue_steps.specs.Readings.{ReadyFor}
 use Rattle.catalogue_steps.specs.States.{reading_of, step_of, whole_in, Fine}

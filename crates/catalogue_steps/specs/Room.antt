@@ -1,17 +1,16 @@
 -- A state reached by steps has room for the next one.
 use Rattle.std.specs.Prelude.{◌≡◌, refl, ◌≢◌, Bool, true, false, not, List, [], ◌∷◌, ◌++◌, ℕ, ◌≤◌, ◌<◌, eqb, length}
-use Rattle.std.proofs.Math.Option.{some}
 use Rattle.std.proofs.Common.{mul-le-mul_right, arith, length-append}
-use Rattle.std.proofs.lemmas.Bool.{eqb-false, not_false}
+use Rattle.std.proofs.lemmas.Bool.{eqb-false, not-false}
 use Rattle.lattices.specs.Vector.{Vec}
 use Rattle.lattices.specs.Laws.Refusal.{one-to}
 use Rattle.catalogue_rules.specs.Word.{Word}
 use Rattle.catalogue_rules.specs.Catalogue as definition
 use Rattle.catalogue_rules.specs.Catalogue.{Head, coordinates, most_entries, most_numbers}
 use Rattle.catalogue_rules.specs.Read.{State, outside, numbered, inside, after, closed, coordinate_of, with_vector, with_coordinate}
-use Rattle.catalogue_rules.specs.Laws.Moves.{Moves, by-head, by_number, by_size, by-coordinate, by-draft, by-see, by_end}
-use Rattle.catalogue_rules.specs.Laws.WellFormed.{Known}
-use Rattle.catalogue_rules.specs.Laws.EntriesAccepted.{length-coordinates}
+use Rattle.catalogue_rules.proofs.Laws.Moves.{Moves, by-head, by_number, by_size, by-coordinate, by-draft, by-see, by_end}
+use Rattle.catalogue_rules.proofs.Laws.WellFormed.{Known}
+use Rattle.catalogue_rules.proofs.Laws.EntriesAccepted.{length-coordinates}
 use Rattle.integers.specs.Size.{within-le}
 use Rattle.catalogue_steps.specs.Shown.{square-within}
 use Rattle.catalogue_steps.specs.Readings.{ReadyFor}
@@ -49,7 +48,7 @@ module _ (es : List definition.Entry) (h : Head) (vs : List Vec) (u : Vec) (some
 
 -- a head was read
 due-size : (d m : ℕ) → not (one_to most_vectors d) ≡ false → not (one_to most_coordinates m) ≡ false → (0 < d) × (0 < m)
-due-size d m p q = ((one-to most_vectors d (not_false _ p)).0, (one-to most_coordinates m (not_false _ q)).0)
+due-size d m p q = ((one-to most_vectors d (not-false _ p)).0, (one-to most_coordinates m (not-false _ q)).0)
 
 pub due-moves : {s t : State} {i : ℕ} {w : Word} → Moves s i w t → Known s → Due s → Due t
 due-moves (by-head n d m i b p) k due = due-size d m p.1.1.0 p.1.1.1.0

@@ -11,7 +11,7 @@ use Rattle.integers.specs.Tests.{neither}
 use Rattle.lattices.specs.Refusal.{most_size}
 use Rattle.lattices.specs.Vector.{Vec, N, dot}
 use Rattle.catalogue_rules.specs.Catalogue.{Head, See, coordinates, see_number, most_numbers}
-use Rattle.catalogue_rules.specs.Laws.RoundTrip.{coordinates_snoc}
+use Rattle.catalogue_rules.proofs.Laws.RoundTrip.{coordinates_snoc}
 use Rattle.catalogue_steps.specs.declared.parts.Part.{Part}
 use Rattle.integers.specs.Filled.{filled}
 use Rattle.catalogue_records.specs.Stored.{stored_form, sees, see_place, entry_of}

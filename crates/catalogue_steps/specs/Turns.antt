@@ -10,7 +10,7 @@ use Rattle.std.proofs.Math.Facts.{to_z_pos}
 use Rattle.integers.specs.Size.{Within, within-sub, fits-within}
 use Rattle.lattices.specs.Refusal.{most_size, most_square}
 use Rattle.catalogue_rules.specs.Read.{checked, coordinate_of}
-use Rattle.catalogue_rules.specs.Laws.WellFormed.{load-within}
+use Rattle.catalogue_rules.proofs.Laws.WellFormed.{load-within}
 use Rattle.catalogue_steps.specs.declared.reading.Phase.{Phase}
 use Rattle.catalogue_steps.specs.declared.reading.Phase.TheVariants.{Inside, After}
 use Rattle.catalogue_steps.specs.declared.parts.Part.{Part}

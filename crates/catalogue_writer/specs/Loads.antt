@@ -12,7 +12,7 @@ use Rattle.catalogue_rules.specs.Word.{Word, encode}
 use Rattle.catalogue_rules.specs.Catalogue.{Entry, coordinates, most_numbers}
 use Rattle.catalogue_rules.specs.Write.{head_words, coordinate_word, draft_words, see_words, entry_words, encoded_coordinates}
 use Rattle.catalogue_rules.specs.Form.{EntryFits}
-use Rattle.catalogue_rules.specs.Laws.EntriesAccepted.{all_near}
+use Rattle.catalogue_rules.proofs.Laws.EntriesAccepted.{all_near}
 use Rattle.catalogue_records.specs.declared.Entry as stored
 use Rattle.integers.specs.FilledLaws.{map_snoc}
 use Rattle.catalogue_records.specs.EntriesIn.{entry_in}

@@ -3,7 +3,7 @@ use Rattle.std.specs.Prelude.{◌≡◌, List, [], ◌∷◌, ◌++◌, ℕ, ◌
 use Rattle.std.proofs.Common.{sym, ap, ap₂, ◌∙◌, append-nil, append_assoc, arith, length-append, length-drop, take-append-drop, length-take-le, take_at, drop_at, drop-drop}
 use Rattle.std.proofs.lemmas.List.Edits.{sets, sets-eq}
 use Rattle.catalogue_rules.specs.Word.{bytes_of}
-use Rattle.catalogue_rules.specs.Laws.Word.{length-bytes, bytes-append}
+use Rattle.catalogue_rules.proofs.Laws.Word.{length-bytes, bytes-append}
 
 abbrev pub over_words : List ℕ → ℕ → List ℕ → List ℕ
 over_words xs k ws = take (k * 4) xs ++ bytes_of ws ++ drop ((k + length ws) * 4) xs

@@ -5,8 +5,8 @@ use Rattle.integers.specs.All.{All}
 use Rattle.catalogue_rules.specs.Word.{Word}
 use Rattle.catalogue_rules.specs.Write.{entry_words, entries_words}
 use Rattle.catalogue_rules.specs.Form.{EntryFits}
-use Rattle.catalogue_rules.specs.Laws.RoundTrip.{entries-append, entries_snoc}
-use Rattle.catalogue_rules.specs.Laws.WrittenSize as sizes
+use Rattle.catalogue_rules.proofs.Laws.RoundTrip.{entries-append, entries_snoc}
+use Rattle.catalogue_rules.proofs.Laws.WrittenSize as sizes
 use Rattle.catalogue_records.specs.declared.Catalogue.{Catalogue}
 use Rattle.catalogue_records.specs.EntriesIn.{entry_in, entries_in}
 use Rattle.catalogue_records.specs.Entries.{entry_at, beyond, length-entries, inside, at_place}

@@ -3,7 +3,7 @@ use Rattle.std.specs.Prelude.{◌≡◌, List, [], ◌∷◌, ◌++◌, map, ℕ
 use Rattle.std.proofs.Common.{sym, ap, ◌∙◌, arith, length-append}
 use Rattle.std.proofs.lemmas.List.{map-append, length-map}
 use Rattle.catalogue_rules.specs.Word.{end, encode}
-use Rattle.catalogue_rules.specs.Laws.Word.{length-bytes}
+use Rattle.catalogue_rules.proofs.Laws.Word.{length-bytes}
 use Rattle.catalogue_rules.specs.Catalogue.{Entry}
 use Rattle.catalogue_rules.specs.Write.{entries_words, catalogue_words, write}
 use Rattle.catalogue_writer.specs.Over.{over_words, over-more, over-start}

@@ -5,7 +5,7 @@ use Rattle.catalogue_rules.specs.Word.{encode}
 use Rattle.catalogue_rules.specs.Catalogue.{Entry}
 use Rattle.catalogue_rules.specs.Write.{catalogue_words}
 use Rattle.catalogue_rules.specs.Form.{WellFormed}
-use Rattle.catalogue_rules.specs.Laws.ReadBack.{sees-fit}
+use Rattle.catalogue_rules.proofs.Laws.ReadBack.{sees-fit}
 use Rattle.text_rules.specs.Text.{text_of}
 use Rattle.text_rules.specs.RoundTrip.{text-back}
 use Rattle.text_encoding.specs.Encoded.{most_text, text_words, text_wrong}

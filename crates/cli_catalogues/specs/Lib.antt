@@ -1,2 +1,3 @@
--- A text that is written and read again.
+-- The number that is asked for; a text that is written and read again.
+pub mod Asked
 pub mod Back

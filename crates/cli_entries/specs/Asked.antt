@@ -11,12 +11,12 @@ use Rattle.cli_entries.specs.declared.Wanted.TheVariants.{Entry, NoNumber}
 abbrev pub no_entry : ℕ
 no_entry = 268435456
 
-abbrev pub asked_number : ℤ → ℕ
-asked_number z = let n = count_of z in cond (is_count z) (cond (ltb 268435455 n) no_entry n) no_entry
+abbrev pub asked_or_none : ℤ → ℕ
+asked_or_none z = let n = count_of z in cond (is_count z) (cond (ltb 268435455 n) no_entry n) no_entry
 
 -- one number, and nothing behind it
 abbrev pub wanted_of : Taken → Wanted
-wanted_of p = cond (is_end p.stop && eqb (length p.numbers) 1) (Entry (asked_number (nth p.numbers 0))) NoNumber
+wanted_of p = cond (is_end p.stop && eqb (length p.numbers) 1) (Entry (asked_or_none (nth p.numbers 0))) NoNumber
 
 -- the number that the bytes write
 abbrev pub wanted_in : List ℕ → Wanted
@@ -24,17 +24,17 @@ wanted_in s = wanted_of (taken_at 1 s)
 
 -- ---- the cases
 
-pub negative : (z : ℤ) → is_count z ≡ false → no_entry ≡ asked_number z
+pub negative : (z : ℤ) → is_count z ≡ false → no_entry ≡ asked_or_none z
 negative z e = sym (ap (λ b. cond b (cond (ltb 268435455 (count_of z)) no_entry (count_of z)) no_entry) e)
 
-pub beyond : (z : ℤ) → is_count z ≡ true → 268435455 < count_of z → no_entry ≡ asked_number z
+pub beyond : (z : ℤ) → is_count z ≡ true → 268435455 < count_of z → no_entry ≡ asked_or_none z
 beyond z e h =
     sym (ap (λ b. cond b (cond (ltb 268435455 (count_of z)) no_entry (count_of z)) no_entry) e ∙ ap (λ b. cond b no_entry (count_of z)) (lt-ltb _ _ h))
 
-pub within : (z : ℤ) → is_count z ≡ true → count_of z ≤ 268435455 → count_of z ≡ asked_number z
+pub within : (z : ℤ) → is_count z ≡ true → count_of z ≤ 268435455 → count_of z ≡ asked_or_none z
 within z e h =
     sym (ap (λ b. cond b (cond (ltb 268435455 (count_of z)) no_entry (count_of z)) no_entry) e ∙ ap (λ b. cond b no_entry (count_of z)) (le-ltb _ _ h))
 
 -- an entry's number is asked for as it is
-pub asked_entry : (n : ℕ) → n ≤ 268435455 → asked_number (pos n) ≡ n
+pub asked_entry : (n : ℕ) → n ≤ 268435455 → asked_or_none (pos n) ≡ n
 asked_entry n h = sym (within (pos n) (le-leb 0 n (omega arith)) h)

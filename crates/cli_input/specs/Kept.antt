@@ -4,7 +4,7 @@ use Rattle.std.proofs.Common.{sym, ap, ◌∙◌, arith, take_all, length-take-l
 use Rattle.std.proofs.Math.Decide.{dec_lt}
 use Rattle.catalogue_rules.specs.Catalogue.{new, most_bytes}
 use Rattle.catalogue_rules.specs.Read.{read}
-use Rattle.catalogue_rules.specs.Laws.TooLong.{long-alike}
+use Rattle.catalogue_rules.proofs.Laws.TooLong.{long-alike}
 
 -- a buffer for the largest catalogue of both forms, and so much more that any length modulo 4 can be kept over the limit
 abbrev pub most_kept : ℕ

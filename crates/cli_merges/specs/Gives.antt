@@ -8,7 +8,7 @@ use Rattle.merges.specs.declared.Said.{Said}
 use Rattle.merges.specs.Stored.{merge_in, answer_in, said_in}
 use Rattle.merges.specs.IsMerge.{IsMerge}
 use Rattle.cli_merges.specs.declared.replies.Reply.{Reply}
-use Rattle.cli_merges.specs.Answers.{answerText}
+use Rattle.cli_merges.specs.Answers.{answer_text}
 use Rattle.cli_merges.specs.Room.{reply_room}
 use Rattle.cli_merges.specs.Replies.{Answered, only, called}
 
@@ -26,10 +26,10 @@ pub gives-only : {m : Merge} {text before : List ℕ} {at : ℕ} {after : List �
 gives-only i p h = record { is = i; merge = refl; text = p; few = h }
 
 pub gives-call : (word : List ℕ) (r : Said) {s : rules.Said} {before : List ℕ} {at : ℕ} {after : List ℕ} {end : ℕ} → IsMerge r.merge → said_in r ≡ s
-    → Puts (answerText word (answer_in r.answer)) before at after end → end ≤ at + reply_room → Gives (called word s) before at after (record { merge = r.merge; at = end })
+    → Puts (answer_text word (answer_in r.answer)) before at after end → end ≤ at + reply_room → Gives (called word s) before at after (record { merge = r.merge; at = end })
 gives-call word r {before = before} {at} {after} {end} i e p h = record {
   is = i;
   merge = ap (λ s. s.merge) e;
-  text = subst (λ a. Puts (answerText word a) before at after end) (ap (λ s. s.answer) e) p;
+  text = subst (λ a. Puts (answer_text word a) before at after end) (ap (λ s. s.answer) e) p;
   few = h;
 }

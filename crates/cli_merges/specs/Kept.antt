@@ -5,12 +5,12 @@ use Rattle.std.proofs.Math.Decide.{dec_lt}
 use Rattle.merge_rules.specs.Merge.{Merge}
 use Rattle.text_rules.specs.Encoding.{content}
 use Rattle.cli_lines.specs.Lines.{kept}
-use Rattle.cli_answers.specs.Answers.{errorText}
+use Rattle.cli_answers.specs.Answers.{error_text}
 use Rattle.cli_merges.specs.Replies.{only, too_long, content_reply, answer}
 
 module _ (M : Merge) (line : ℕ) where
-  long-answer : (s : List ℕ) → 4096 < length s → answer M line s ≡ only M (errorText line too_long)
-  long-answer s h = ap (λ b. cond b (only M (errorText line too_long)) (content_reply M line (content s))) (lt-ltb _ _ h)
+  long-answer : (s : List ℕ) → 4096 < length s → answer M line s ≡ only M (error_text line too_long)
+  long-answer s h = ap (λ b. cond b (only M (error_text line too_long)) (content_reply M line (content s))) (lt-ltb _ _ h)
 
   pub kept-alike : (s : List ℕ) → answer M line (kept s) ≡ answer M line s
   kept-alike s = go (dec_lt 4097 (length s))

@@ -7,8 +7,8 @@ use Rattle.catalogue_rules.specs.Word.{bytes_of}
 use Rattle.catalogue_rules.specs.Read.{read}
 use Rattle.catalogue_rules.specs.Write.{write}
 use Rattle.catalogue_rules.specs.Output.{output_by, untouched, filled_with, lent_rows}
-use Rattle.catalogue_rules.specs.Laws.Word as words
-use Rattle.catalogue_rules.specs.Laws.Moves.{checked_case}
+use Rattle.catalogue_rules.proofs.Laws.Word as words
+use Rattle.catalogue_rules.proofs.Laws.Moves.{checked_case}
 use Rattle.catalogue_records.specs.declared.Catalogue.{Catalogue}
 use Rattle.catalogue_records.specs.Catalogues.{catalogue_of}
 use Rattle.fold_rules.specs.Services.{folded_outcome, fold_of, listing_text, list_of}
@@ -17,7 +17,7 @@ use Rattle.text_lines.specs.declared.Line.{Line}
 use Rattle.text_lines.specs.Told.{word_told, draft_told, words_in}
 use Rattle.text_encoding.specs.Stores.{Stores, stored-count, stored_bytes}
 use Rattle.text_encoding.specs.Counts.{words_count}
-use Rattle.cli_answers.specs.Answers.{refusedText}
+use Rattle.cli_answers.specs.Answers.{refused_text}
 use Rattle.cli_merges.specs.Replies.{outcome_text}
 
 pub take-sets : (l text : List ℕ) {n : ℕ} → length text ≤ length l → n ≡ length text → take n (sets l 0 text) ≡ text
@@ -76,9 +76,9 @@ folded-few file out = counted write (folded_outcome (read file)) out
 
 -- ---- a catalogue as text
 
-pub refused-reading : (o : Outcome) {c : Catalogue} → c ≡ catalogue_of o → c.refusal ≢ 0 → refusedText c.refusal c.place ≡ outcome_text o
-refused-reading o e h = ap (λ c. refusedText c.refusal c.place) e ∙ go o (λ z. h (ap (λ c. c.refusal) e ∙ z))
+pub refused-reading : (o : Outcome) {c : Catalogue} → c ≡ catalogue_of o → c.refusal ≢ 0 → refused_text c.refusal c.place ≡ outcome_text o
+refused-reading o e h = ap (λ c. refused_text c.refusal c.place) e ∙ go o (λ z. h (ap (λ c. c.refusal) e ∙ z))
   where
-    go : (o : Outcome) → (catalogue_of o).refusal ≢ 0 → refusedText (catalogue_of o).refusal (catalogue_of o).place ≡ outcome_text o
+    go : (o : Outcome) → (catalogue_of o).refusal ≢ 0 → refused_text (catalogue_of o).refusal (catalogue_of o).place ≡ outcome_text o
     go (refused n p) h = refl
     go (accepted es) h = absurd (h refl)

@@ -15,7 +15,7 @@ use Rattle.text_lines.specs.declared.Mistake.{Mistake}
 use Rattle.text_lines.specs.declared.Mistake.TheVariants.{PartMissing}
 use Rattle.text_lines.specs.declared.Line.{Line}
 use Rattle.text_lines.specs.Told.{is_none, line_read, words_in}
-use Rattle.cli_answers.specs.Answers.{refusedText, errorText}
+use Rattle.cli_answers.specs.Answers.{refused_text, error_text}
 use Rattle.cli_entries.specs.declared.Wanted.{Wanted}
 use Rattle.cli_entries.specs.declared.Wanted.TheVariants.{Entry, NoNumber}
 use Rattle.cli_entries.specs.Asked.{wanted_in}
@@ -24,7 +24,7 @@ use Rattle.cli_merges.specs.declared.commands.Command.{Command}
 use Rattle.cli_merges.specs.declared.commands.Command.TheVariants.{Add, Bytes, Look, Close, Listing, Fold, Unknown}
 use Rattle.cli_merges.specs.Commands.{word_end, first_word, command_of}
 use Rattle.cli_merges.specs.Digits.{is_digit, bytes_in}
-use Rattle.cli_merges.specs.Answers.{answerText, addedText, closedText}
+use Rattle.cli_merges.specs.Answers.{answer_text, added_text, closed_text}
 
 -- the merge after a line, and what is written
 pub record Answered : Type 0 where
@@ -37,7 +37,7 @@ only M text = record { merge = M; text = text }
 
 -- what a call hands back, its answer as text
 abbrev pub called : List ℕ → Said → Answered
-called word r = record { merge = r.merge; text = answerText word r.answer }
+called word r = record { merge = r.merge; text = answer_text word r.answer }
 
 -- ---- what is wrong with a line
 
@@ -72,7 +72,7 @@ too_long = 108 ∷ 111 ∷ 110 ∷ 103 ∷ 101 ∷ 114 ∷ 32 ∷ 116 ∷ 104 �
 -- ---- an entry is added
 
 abbrev pub add_bytes : Merge → List ℕ → Answered
-add_bytes M bytes = called addedText (add_to M bytes)
+add_bytes M bytes = called added_text (add_to M bytes)
 
 -- a blank text tells no entry
 abbrev pub entry_mistake : Line → Mistake
@@ -87,28 +87,28 @@ add_text M line s = add_line M line (line_read new s)
 
 abbrev pub add_digits : Merge → ℕ → List ℕ → Answered
 add_digits M line s =
-    cond (every is_digit s) (cond (eqb (length s % 2) 0) (add_bytes M (bytes_in s)) (only M (errorText line odd_digits))) (only M (errorText line no_digit))
+    cond (every is_digit s) (cond (eqb (length s % 2) 0) (add_bytes M (bytes_in s)) (only M (error_text line odd_digits))) (only M (error_text line no_digit))
 
 -- as the bytes that digits write, with nothing but blanks around them
 abbrev pub add_hexadecimal : Merge → ℕ → List ℕ → Answered
-add_hexadecimal M line s = cond (is_empty (drop (word_end s) s)) (add_digits M line (first_word s)) (only M (errorText line no_digit))
+add_hexadecimal M line s = cond (is_empty (drop (word_end s) s)) (add_digits M line (first_word s)) (only M (error_text line no_digit))
 
 -- ---- a number is looked up
 
 abbrev pub looked_text : Merge → ℕ → Wanted → List ℕ
-looked_text M line (Entry n) = answerText [] (look_in M n)
-looked_text M line NoNumber = errorText line no_number
+looked_text M line (Entry n) = answer_text [] (look_in M n)
+looked_text M line NoNumber = error_text line no_number
 
 -- ---- the merge is closed
 
 abbrev pub close_reply : Merge → ℕ → List ℕ → Answered
-close_reply M line s = cond (is_empty s) (called closedText (close_of M)) (only M (errorText line behind_command))
+close_reply M line s = cond (is_empty s) (called closed_text (close_of M)) (only M (error_text line behind_command))
 
 -- ---- listing and fold of a closed merge
 
 -- the text that came into an output, or the refusal
 abbrev pub written_as : Written → List ℕ → List ℕ
-written_as w text = cond (eqb w.refusal 0) (take w.length text) (refusedText w.refusal w.place)
+written_as w text = cond (eqb w.refusal 0) (take w.length text) (refused_text w.refusal w.place)
 
 abbrev pub written_text : Output → List ℕ
 written_text o = written_as (written_of o) o.lent
@@ -122,12 +122,12 @@ listing_of M = written_text (list_of (file_of M) (replicate most_listing 0))
 
 -- a catalogue as text
 abbrev pub outcome_text : Outcome → List ℕ
-outcome_text (refused n p) = refusedText n p
+outcome_text (refused n p) = refused_text n p
 outcome_text (accepted es) = text_of es
 
 -- the text of the catalogue that came into an output, or the refusal
 abbrev pub decoded_as : Written → List ℕ → List ℕ
-decoded_as w bytes = cond (eqb w.refusal 0) (outcome_text (read (take w.length bytes))) (refusedText w.refusal w.place)
+decoded_as w bytes = cond (eqb w.refusal 0) (outcome_text (read (take w.length bytes))) (refused_text w.refusal w.place)
 
 abbrev pub decoded_text : Output → List ℕ
 decoded_text o = decoded_as (written_of o) o.lent
@@ -139,7 +139,7 @@ abbrev pub all_text : Bool → Merge → List ℕ
 all_text listing M = cond listing (listing_of M) (fold_text_of M)
 
 abbrev pub closed_reply : Bool → Merge → ℕ → List ℕ → List ℕ
-closed_reply listing M line s = cond (is_empty s) (cond M.closed (all_text listing M) (errorText line not_closed)) (errorText line behind_command)
+closed_reply listing M line s = cond (is_empty s) (cond M.closed (all_text listing M) (error_text line not_closed)) (error_text line behind_command)
 
 -- ---- a line
 
@@ -151,7 +151,7 @@ command_reply M Look line s = only M (looked_text M line (wanted_in s))
 command_reply M Close line s = close_reply M line s
 command_reply M Listing line s = only M (closed_reply true M line s)
 command_reply M Fold line s = only M (closed_reply false M line s)
-command_reply M Unknown line s = only M (errorText line no_command)
+command_reply M Unknown line s = only M (error_text line no_command)
 
 -- without its comment: nothing is said to a blank one
 abbrev pub content_reply : Merge → ℕ → List ℕ → Answered
@@ -159,4 +159,4 @@ content_reply M line s = cond (is_empty s) (only M []) (command_reply M (command
 
 -- a line with this number, of at most 4096 bytes
 abbrev pub answer : Merge → ℕ → List ℕ → Answered
-answer M line s = cond (ltb 4096 (length s)) (only M (errorText line too_long)) (content_reply M line (content s))
+answer M line s = cond (ltb 4096 (length s)) (only M (error_text line too_long)) (content_reply M line (content s))

@@ -1,5 +1,5 @@
 -- A number of 64 bits takes at most 20 bytes, and a list is whole from its length on.
-use Rattle.std.specs.Prelude.{◌≡◌, refl, List, ℕ, suc, ◌+◌, ◌^◌, ◌≤◌, ◌<◌, min, ℤ, pos, negsuc, length, take}
+use Rattle.std.specs.Prelude.{◌≡◌, List, ℕ, suc, ◌≤◌, ◌<◌, min, ℤ, pos, negsuc, length, take}
 use Rattle.std.proofs.Common.{sym, ap, ◌∙◌, arith, take_all, SFits}
 use Rattle.std.proofs.Math.Decide.{dec_lt}
 use Rattle.std.specs.Int.{w64}

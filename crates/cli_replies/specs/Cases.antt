@@ -1,5 +1,5 @@
 -- The parts of a line as the code cuts them out, and which of two replies is given.
-use Rattle.std.specs.Prelude.{◌≡◌, refl, Bool, true, false, cond, List, ◌++◌, ℕ, ◌-◌, ℤ, length, take, drop}
+use Rattle.std.specs.Prelude.{◌≡◌, refl, Bool, true, false, cond, List, ℕ, ◌-◌, ℤ, length, take, drop}
 use Rattle.std.proofs.Common.{sym, ap, ◌∙◌, arith, length-drop, take_all, take_at}
 use Rattle.text_parts.specs.declared.Part.{Part}
 use Rattle.text_parts.specs.Parts.{Taken, part_of, filled}

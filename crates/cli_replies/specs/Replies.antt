@@ -10,7 +10,7 @@ use Rattle.text_parts.specs.Numbers.{leading}
 use Rattle.text_parts.specs.Tokens.{is_blank}
 use Rattle.text_parts.specs.Parts.{is_semicolon, is_end, taken_at}
 use Rattle.text_parts.specs.Counts.{counts_at}
-use Rattle.cli_answers.specs.Answers.{errorText, reductionText, basisText, nearestText, membershipText}
+use Rattle.cli_answers.specs.Answers.{error_text, reduction_text, basis_text, nearest_text, membership_text}
 use Rattle.cli_replies.specs.declared.Command.{Command}
 use Rattle.cli_replies.specs.declared.Command.TheVariants.{Reduce, Nearest, NearestOnBasis, Member}
 use Rattle.cli_replies.specs.declared.Wanted.{Wanted}
@@ -38,12 +38,12 @@ what_is_wrong TooMany = 116 ∷ 111 ∷ 111 ∷ 32 ∷ 109 ∷ 97 ∷ 110 ∷ 12
 what_is_wrong NoCount = 100 ∷ 32 ∷ 97 ∷ 110 ∷ 100 ∷ 32 ∷ 109 ∷ 32 ∷ 97 ∷ 114 ∷ 101 ∷ 32 ∷ 99 ∷ 111 ∷ 117 ∷ 110 ∷ 116 ∷ 115 ∷ []
 
 abbrev pub mistake_text : ℕ → Kind → List ℕ
-mistake_text line stop = errorText line (what_is_wrong stop)
+mistake_text line stop = error_text line (what_is_wrong stop)
 
 -- ---- d m ; numbers
 
 abbrev pub reduced_of : (d m : ℕ) → List ℤ → List ℕ
-reduced_of d m numbers = reductionText d m (packed (reduction_of (record { numbers = numbers; d = d; m = m; target = [] })))
+reduced_of d m numbers = reduction_text d m (packed (reduction_of (record { numbers = numbers; d = d; m = m; target = [] })))
 
 -- no part of a line has more numbers: a number and a blank take two of its 4096 bytes
 abbrev pub most_listed : ℕ
@@ -60,16 +60,16 @@ reduce_reply line s = let c = counts_at s in cond (is_semicolon c.stop) (reduce_
 -- the reduced vectors, where they are asked for and the search is not refused
 abbrev pub basis_of : (with : Bool) (refusal d m : ℕ) → List ℤ → List ℕ
 basis_of with refusal d m numbers =
-    cond with (cond (eqb refusal 0) (basisText d m (packed (reduction_of (record { numbers = numbers; d = d; m = m; target = [] })))) []) []
+    cond with (cond (eqb refusal 0) (basis_text d m (packed (reduction_of (record { numbers = numbers; d = d; m = m; target = [] })))) []) []
 
 -- the nearest vector, after the reduced ones
 abbrev pub found_on : (with : Bool) (d m : ℕ) → List ℤ → List ℤ → Reply
 found_on with d m numbers target =
     let i : Input = record { numbers = numbers; d = d; m = m; target = target } in
-    record { asked = i ∷ []; text = λ tenths. basis_of with (nearest_of i).refusal d m numbers ++ nearestText d m (packed_nearest (nearest_of i) tenths) }
+    record { asked = i ∷ []; text = λ tenths. basis_of with (nearest_of i).refusal d m numbers ++ nearest_text d m (packed_nearest (nearest_of i) tenths) }
 
 abbrev pub member_on : (d m : ℕ) → List ℤ → List ℤ → List ℕ
-member_on d m numbers target = membershipText (packed_membership (membership_of (record { numbers = numbers; d = d; m = m; target = target })))
+member_on d m numbers target = membership_text (packed_membership (membership_of (record { numbers = numbers; d = d; m = m; target = target })))
 
 -- what is asked about the target
 abbrev pub wanted_of : Wanted → (d m : ℕ) → List ℤ → List ℤ → Reply
@@ -108,5 +108,5 @@ too_long = 108 ∷ 111 ∷ 110 ∷ 103 ∷ 101 ∷ 114 ∷ 32 ∷ 116 ∷ 104 �
 -- a line that holds nothing but blanks has no answer
 abbrev pub answer : Command → Bool → ℕ → List ℕ → Reply
 answer command numbered line s =
-    cond (ltb 4096 (length s)) (always (number_text numbered line ++ errorText line too_long))
+    cond (ltb 4096 (length s)) (always (number_text numbered line ++ error_text line too_long))
     (cond (eqb (leading is_blank s) (length s)) (always []) (headed (number_text numbered line) (reply command line s)))

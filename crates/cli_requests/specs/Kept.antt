@@ -8,13 +8,13 @@ use Rattle.cli_replies.specs.declared.Command.{Command}
 use Rattle.cli_lines.specs.Lines.{kept}
 use Rattle.cli_replies.specs.Reply.{always, headed}
 use Rattle.cli_replies.specs.Replies.{reply, number_text, too_long, answer}
-use Rattle.cli_answers.specs.Answers.{errorText}
+use Rattle.cli_answers.specs.Answers.{error_text}
 
 module _ (command : Command) (numbered : Bool) (line : ℕ) where
-  long-answer : (s : List ℕ) → 4096 < length s → answer command numbered line s ≡ always (number_text numbered line ++ errorText line too_long)
+  long-answer : (s : List ℕ) → 4096 < length s → answer command numbered line s ≡ always (number_text numbered line ++ error_text line too_long)
   long-answer s h =
       ap
-      (λ b. cond b (always (number_text numbered line ++ errorText line too_long)) (cond (eqb (leading is_blank s) (length s)) (always []) (headed (number_text numbered line) (reply command line s))))
+      (λ b. cond b (always (number_text numbered line ++ error_text line too_long)) (cond (eqb (leading is_blank s) (length s)) (always []) (headed (number_text numbered line) (reply command line s))))
       (lt-ltb _ _ h)
 
   pub kept-alike : (s : List ℕ) → answer command numbered line (kept s) ≡ answer command numbered line s

@@ -5,6 +5,3 @@ pub mod Services
 pub mod Listing
 pub mod Meaning
 pub mod Examples
-pub mod Demand
-pub mod Moved
-pub mod Laws

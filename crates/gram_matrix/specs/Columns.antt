@@ -1,13 +1,13 @@
 -- Step 5 on the rows of V: column j gains x_j times column k, one column after the other.
 use Rattle.std.specs.Prelude.{◌≡◌, ℤ, pos, ◌+ℤ◌, ◌*ℤ◌, length, get_or, set, take}
 use Rattle.std.proofs.Math.Path.{refl, ap}
-use Rattle.std.proofs.Common.{sym, ap₂, ◌∙◌, subst, arith}
+use Rattle.std.proofs.Common.{sym, ap₂, ◌∙◌, arith}
 use mathlib.Core.List.{List, [], ◌∷◌, map}
-use Prim.Native.Nat.{ℕ, zero, suc, ◌+◌, ◌≤◌, ◌<◌}
+use Prim.Native.Nat.{ℕ, zero, suc, ◌≤◌, ◌<◌}
 use Rattle.std.proofs.lemmas.List.{set-get_or}
 use Rattle.integers.specs.Identity.{by_ring, reads}
 use Rattle.integers.specs.ListLaws.{entries}
-use Rattle.lattices.specs.Vector.{nth, ◌⊕◌, ◌⊙◌}
+use Rattle.lattices.specs.Vector.{nth}
 use Rattle.row_operations.specs.Rows.{gained, transposed}
 
 -- entry j of a row gains q times entry k

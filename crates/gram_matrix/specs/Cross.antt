@@ -1,5 +1,5 @@
 -- Row and column k of the Gram matrix after a pass: the row that the search leaves, with its own entry k lowered once more.
-use Rattle.std.specs.Prelude.{◌≡◌, refl, ℕ, zero, suc, ◌+◌, ◌≤◌, ◌<◌, ℤ, pos, ◌+ℤ◌, ◌-ℤ◌, ◌*ℤ◌, get_or, set, take}
+use Rattle.std.specs.Prelude.{◌≡◌, refl, ℕ, zero, suc, ◌≤◌, ◌<◌, ℤ, pos, ◌+ℤ◌, ◌-ℤ◌, ◌*ℤ◌, get_or, set, take}
 use Rattle.std.proofs.Math.Path.{sym}
 use Rattle.std.proofs.Common.{ap, ap₂, ◌∙◌, arith, length-take, get_or-set_same, get_or-set_other, set-set, get_or-take}
 use mathlib.Core.List.{List, [], ◌∷◌, map}
@@ -11,7 +11,7 @@ use Rattle.integers.specs.Identity.{by_ring, reads}
 use Rattle.integers.specs.AllLaws.{get_d_map}
 use Rattle.integers.specs.Ring.{negsuc-zero-*ℤ}
 use Rattle.integers.specs.ListLaws.{entries}
-use Rattle.lattices.specs.Vector.{nth, dot, comb, ◌⊕◌, ◌⊙◌, ◌⊖◌}
+use Rattle.lattices.specs.Vector.{nth, dot, comb, ◌⊖◌}
 use Rattle.lattices.specs.Laws.Vector.{≈_refl, ≈-dot, nth-≈}
 use Rattle.row_operations.specs.Dot.{dot-suc}
 use Rattle.gram_matrix.specs.Gram.{losing, losing_entry, nth-comb}

@@ -1,14 +1,14 @@
 -- The Gram matrix of a list of vectors under the row operations of the greedy steps: rows first, then columns.
-use Rattle.std.specs.Prelude.{◌≡◌, refl, List, [], ◌∷◌, map, ℕ, zero, suc, ◌+◌, ◌≤◌, ◌<◌, ℤ, pos, negsuc, ◌+ℤ◌, ◌-ℤ◌, ◌*ℤ◌, length, get_or, set, take}
-use Rattle.std.proofs.Common.{sym, ap, ap₂, ◌∙◌, subst, arith}
+use Rattle.std.specs.Prelude.{◌≡◌, refl, List, [], ◌∷◌, map, ℕ, zero, suc, ◌<◌, ℤ, negsuc, ◌+ℤ◌, ◌-ℤ◌, ◌*ℤ◌, length, get_or, set, take}
+use Rattle.std.proofs.Common.{sym, ap, ap₂, ◌∙◌, arith}
 use Rattle.std.proofs.Math.Path.{fun_ext}
 use Rattle.std.proofs.lemmas.Simd.{map-map}
 use Rattle.std.proofs.lemmas.List.{length-map}
 use Rattle.integers.specs.Identity.{by_ring, reads}
 use Rattle.integers.specs.AllLaws.{take-map, get_d_map}
 use Rattle.integers.specs.ListLaws.{same, nth-⊕, nth-⊙, length-⊕, length-⊙}
-use Rattle.lattices.specs.Vector.{Vec, N, nth, dot, ◌⊕◌, ◌⊙◌, ◌⊖◌, comb}
-use Rattle.lattices.specs.Laws.Vector.{dot_comm, dot-⊕, dot-⊙, dot-⊕ʳ, dot-⊙ʳ, bilinear, nil-dot, nth-dot, unit, against, comb-dot}
+use Rattle.lattices.specs.Vector.{Vec, N, nth, dot, ◌⊙◌, ◌⊖◌, comb}
+use Rattle.lattices.specs.Laws.Vector.{dot_comm, bilinear, nil-dot, nth-dot, unit, against, comb-dot}
 use Rattle.gram_matrix.specs.Order.{exchanged}
 use Rattle.greedy_reduction.specs.Start.{Coordinates, comb-places}
 

@@ -4,7 +4,7 @@ use Rattle.std.proofs.Common.{sym, ap, ap₂, ◌∙◌, le_trans, arith, set-se
 use Rattle.std.proofs.lemmas.List.{set-get_or}
 use Rattle.integers.specs.Size.{load}
 use Rattle.integers.specs.ListLaws.{length-⊕, length-⊙}
-use Rattle.lattices.specs.Vector.{nth, comb, ◌⊕◌, ◌⊙◌, ◌⊖◌}
+use Rattle.lattices.specs.Vector.{nth, comb, ◌⊙◌, ◌⊖◌}
 use Rattle.greedy_reduction.specs.Start.{Coordinates, comb-places}
 use Rattle.row_operations.specs.Loss.{left, left-suc, left-room, ⊖-nothing}
 use Rattle.row_operations.specs.Front.{front, front-all}

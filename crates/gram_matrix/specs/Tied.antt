@@ -9,7 +9,7 @@ use Rattle.std.proofs.lemmas.List.{length-map}
 use Rattle.integers.specs.Order.{<ℤ-lt_z, ≤ℤ-lt_z, ≤ℤ-or-<ℤ, ≤ℤ_of_<ℤ, *ℤ_mono, *ℤ_mono_<}
 use Rattle.integers.specs.AllLaws.{get_d_map}
 use Rattle.integers.specs.ListLaws.{nth-⊙, length-⊙}
-use Rattle.lattices.specs.Vector.{Vec, N, nth, ◌⊙◌}
+use Rattle.lattices.specs.Vector.{N, nth, ◌⊙◌}
 use Rattle.lattices.specs.Greedy.{Row, vectors}
 use Rattle.lattices.specs.Refusal.{most_coordinates}
 use Rattle.greedy_reduction.specs.Start.{Coordinates}

@@ -1,4 +1,4 @@
--- Both tables of the greedy reduction are exact, as equations of lists: U·inputs = vectors, V·vectors = inputs, V-as-U = 1.
+-- Both tables of the greedy reduction are exact, as equations of lists: U·inputs = vectors, V·vectors = inputs, V·U = 1.
 use Rattle.std.specs.Prelude.{◌≡◌, List, [], ◌∷◌, map, ℕ, zero, suc, ◌+◌, ◌≤◌, ◌<◌, ℤ, ◌+ℤ◌, get_or, drop}
 use Rattle.std.proofs.Math.Path.{refl, sym, ap}
 use Rattle.std.proofs.Common.{ap₂, ◌∙◌, subst, arith, drop_of_length-le, drop-cons}
@@ -7,7 +7,7 @@ use Rattle.std.proofs.lemmas.List.{length-map}
 use Rattle.integers.specs.ListLaws.{length-⊕, length-⊙}
 use Rattle.lattices.specs.Vector.{Vec, nth, dot, ◌⊙◌, comb}
 use Rattle.lattices.specs.Laws.Vector.{≈-≡, nil-dot, dot-⊕, dot-⊙}
-use Rattle.lattices.specs.Greedy.{Row, vectors, units, start, greedy, reduction}
+use Rattle.lattices.specs.Greedy.{Row, vectors, units, start, reduction}
 use Rattle.lattices.specs.Answer.{row_of_v, rows_of_v}
 use Rattle.greedy_reduction.specs.Moves.{Moves, moves-length, greedy-moves, length-vectors}
 use Rattle.integers.specs.All.{All}
@@ -91,7 +91,7 @@ module _ (m : ℕ) (bs : List Vec) (full : Coordinates m bs) (some : 1 ≤ lengt
       (λ i w. sym (moves-spread (λ r. r.vector) vector-linear i moved w) ∙ spread-start (λ r. r.vector) bs bs (start-vectors bs (units (length bs)) (length-units (length bs))) refl i w)
       0 (length bs) (omega arith)
 
-  -- V-as-U is the unit table
+  -- V·U is the unit table
   pub reduction_vu : map (λ x. comb x (map (λ r. r.u) (reduction bs).rows)) (rows_of_v (reduction bs).rows 0 (length bs)) ≡ units (length bs)
   unfolding begin
   reduction_vu = v_exact (length bs) (λ r. r.u) (units (length bs)) (units-coordinates (length bs)) rows (sized-us m (length bs) rows reduction-sized) (omega (arith, reduction-length))

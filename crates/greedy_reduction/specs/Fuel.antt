@@ -8,7 +8,7 @@ use Rattle.integers.specs.Order.{lt_z_true}
 use Rattle.integers.specs.Certificate.{NN, ◌⊞◌, le, lt, by-lt}
 use Rattle.lattices.specs.Vector.{N}
 use Rattle.lattices.specs.Laws.Permutation.{perm_length}
-use Rattle.lattices.specs.Greedy.{Row, vectors, order, last_of, before, Counted, Pass, pass, round, shorter, joined, repeat, total, greedy, greedy_by}
+use Rattle.lattices.specs.Greedy.{Row, order, last_of, before, Counted, Pass, pass, round, shorter, joined, repeat, total, greedy, greedy_by}
 use Rattle.greedy_reduction.specs.Moves.{Moves, Moving, order_perm, before_last, length_before, moves-length, ordered_moves, greedy-moves}
 use Rattle.greedy_reduction.specs.Lengths.{NoLonger, moves-no-longer, no-longer-credited, last-no-longer, total-append, total-credited, total-nonneg, perm_total, moves-total, order_sorted, sorted_last, Sorted}
 

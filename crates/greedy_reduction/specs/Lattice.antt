@@ -1,4 +1,4 @@
--- The reduction generates the lattice of its input and no other, and U-as-V is the unit table too.
+-- The reduction generates the lattice of its input and no other, and U·V is the unit table too.
 use Rattle.std.specs.Prelude.{◌≡◌, refl, ◌↔◌, List, [], ◌∷◌, map, ℕ, zero, suc, ◌≤◌, ◌<◌, ℤ, negsuc, ◌+ℤ◌, ◌*ℤ◌, ◌<ℤ◌, length, get_or}
 use Rattle.std.proofs.Common.{sym, ap, ap₂, ◌∙◌, subst, arith, ext_get_or}
 use Rattle.std.proofs.Math.IntN.{pos}
@@ -151,7 +151,7 @@ module _ (m : ℕ) (bs : List Vec) (full : Coordinates m bs) (some : 1 ≤ lengt
         (≈_trans (≈_of_≡ (ap (comb (get_or table-u k [])) (reduction-v m bs full some) ∙ row_of_u k h))
         (≈_sym (subst (λ n. comb (get_or (units n) k []) outs ≈ get_or outs k []) reduced-count (unit-comb outs k (omega (arith, reduced-count)))))))
 
-    -- U-as-V is the unit table
+    -- U·V is the unit table
     pub reduction_uv : map (λ u. comb u (rows_of_v (reduction bs).rows 0 (length bs))) (map (λ r. r.u) (reduction bs).rows) ≡ units (length bs)
     reduction_uv = ext_get_or [] (map (λ u. comb u table-v) table-u) (units (length bs)) (length-map table-u (λ u. comb u table-v) ∙ table-u-count ∙ sym (length-units (length bs)))
         (λ k h. get_d_map (λ u. comb u table-v) table-u [] [] k (omega (arith, length-map table-u (λ u. comb u table-v))) ∙ row_of_uv k (omega (arith, length-map table-u (λ u. comb u table-v), table-u-count)))

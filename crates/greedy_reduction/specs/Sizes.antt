@@ -28,7 +28,7 @@ use Rattle.greedy_reduction.specs.Every.{moves-all}
 use Rattle.greedy_reduction.specs.Lengths.{NoLonger, moves-no-longer}
 use Rattle.greedy_reduction.specs.Tables.{Exact, moves_exact, spread, moves-spread}
 use Rattle.greedy_reduction.specs.Start.{Coordinates, start-vectors, length-units, units-coordinates, exact_start, spread-start}
-use Rattle.greedy_reduction.specs.Exactness.{begin, comb-spread, vector-linear}
+use Rattle.greedy_reduction.specs.Exactness.{comb-spread, vector-linear}
 use Rattle.greedy_reduction.specs.Weight.{weighs, cost-most}
 use Rattle.greedy_reduction.specs.Kept.{moves_keep, positive-left}
 

@@ -1,4 +1,4 @@
--- The tables U and V along the moves: U·inputs = vectors and V·vectors = inputs hold throughout, and V-as-U is the unit table.
+-- The tables U and V along the moves: U·inputs = vectors and V·vectors = inputs hold throughout, and V·U is the unit table.
 use Rattle.std.specs.Prelude.{◌≡◌, refl, ℕ, ℤ, negsuc, ◌+ℤ◌, ◌*ℤ◌, length}
 use Rattle.std.proofs.Math.Path.{sym, ap, ap₂}
 use Rattle.std.proofs.Common.{◌∙◌, arith}

@@ -1,11 +1,11 @@
 -- The size of inner products: Cauchy–Schwarz, and what a multiple of a vector may weigh in a row of them.
-use Rattle.std.specs.Prelude.{◌≡◌, [], ◌∷◌, ℕ, ◌+◌, ◌*◌, ◌≤◌, ◌<◌, ℤ, pos, negsuc, nat_abs, ◌+ℤ◌, ◌-ℤ◌, ◌*ℤ◌, ◌≤ℤ◌, ◌<ℤ◌}
+use Rattle.std.specs.Prelude.{◌≡◌, [], ◌∷◌, ℕ, ◌*◌, ◌≤◌, ℤ, pos, negsuc, nat_abs, ◌-ℤ◌, ◌*ℤ◌, ◌≤ℤ◌}
 use Rattle.std.proofs.Common.{sym, ap, ◌∙◌, ⊎_elim, arith}
 use Rattle.integers.specs.Identity.{by_ring, reads}
 use Rattle.integers.specs.Order.{≤ℤ_trans, ≤ℤ_of_≡, ≤ℤ-or-<ℤ, ≤ℤ_antisymm, *ℤ-cancel-≤}
 use Rattle.integers.specs.Certificate.{◌⊞◌, ◌⊠◌, eq, by_nn, nn-pos}
 use Rattle.integers.specs.Size.{root}
-use Rattle.lattices.specs.Vector.{Vec, N, dot, ◌⊕◌, ◌⊙◌, ◌⊖◌}
+use Rattle.lattices.specs.Vector.{Vec, N, dot, ◌⊙◌, ◌⊖◌}
 use Rattle.lattices.specs.Laws.Vector.{dot_comm, dot-⊙ʳ, bilinear, N-nonneg, definite, zero-dot}
 use Rattle.exterior_algebra.specs.Hadamard.{*ℤ_mono_both}
 

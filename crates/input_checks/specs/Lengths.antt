@@ -1,6 +1,6 @@
 -- Vectors within the length limit have small coordinates.
 use Rattle.std.proofs.Common.{sym, subst, arith, length-take, get_or-take, get_or-drop}
-use Rattle.std.specs.Prelude.{List, [], ℕ, ◌+◌, ◌≤◌, ◌<◌, ℤ, pos, get_or, take, drop, ◌≤ℤ◌}
+use Rattle.std.specs.Prelude.{List, [], ℕ, ◌+◌, ◌<◌, pos, get_or, take, drop, ◌≤ℤ◌}
 use Rattle.std.proofs.Math.Decide.{dec_lt}
 use Rattle.std.proofs.Math.ListN.{get_or-eq_default}
 use Rattle.integers.specs.Order.{≤ℤ_trans, pos-nonneg}

@@ -1,5 +1,5 @@
 -- Laws of a property of every element and of some element, and how `map` meets `take`, places and repetition.
-use Rattle.std.specs.Prelude.{◌≡◌, refl, ◌⊎◌, List, [], ◌∷◌, ◌++◌, map, ℕ, zero, suc, ◌<◌, length, get_or, take, drop, replicate}
+use Rattle.std.specs.Prelude.{◌≡◌, refl, List, [], ◌∷◌, ◌++◌, map, ℕ, zero, suc, ◌<◌, length, get_or, take, drop, replicate}
 use Rattle.std.proofs.Common.{ap, inl, inr, arith, le_of_suc-le-suc, not-suc-le-zero}
 use Rattle.integers.specs.All.{All, Some}
 

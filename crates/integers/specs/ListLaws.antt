@@ -1,5 +1,5 @@
 -- Laws of lists of integers added entry by entry.
-use Rattle.std.specs.Prelude.{◌≡◌, refl, List, [], ◌∷◌, ◌++◌, ℕ, zero, suc, max, ℤ, pos, negsuc, ◌+ℤ◌, ◌*ℤ◌, length, get_or, replicate}
+use Rattle.std.specs.Prelude.{◌≡◌, refl, List, [], ◌∷◌, ◌++◌, ℕ, zero, suc, max, ℤ, pos, negsuc, ◌+ℤ◌, ◌*ℤ◌, length, replicate}
 use Rattle.std.proofs.Common.{sym, ap, ap₂, ◌∙◌, arith}
 use Rattle.std.proofs.Math.IntN.{+ℤ_idl, +ℤ_idr, *ℤ-zero}
 use Rattle.integers.specs.Lists.{nth, ◌⊕◌, ◌⊙◌, ◌⊖◌}

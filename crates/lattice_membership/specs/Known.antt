@@ -57,11 +57,15 @@ pub record Known (l : Lattice) : Type 0 where
   pub short : Short (pos 400000000) (vectors_in l)
   pub below : (i : ℕ) → i < most_vectors → get_or l.choice i 0 < most_coordinates
   pub index : Index
-  pub count : marks index ≡ l.d
-  pub taken : take l.d l.choice ≡ places 0 index
   pub at-index : l.minor ≡ volume (vectors_in l) index
   pub nonzero : l.minor ≢ pos 0
   pub rows : (j : ℕ) → j < l.d → Cofactors (vectors_in l) l.choice index j (row_in l j)
+
+-- what `lattice_of` gives besides: its minor is at as many coordinates as it has vectors, and they are its choice
+pub record KnownChoice (l : Lattice) : Type 0 where
+  pub known : Known l
+  pub count : marks known.index ≡ l.d
+  pub taken : take l.d l.choice ≡ places 0 known.index
 
 -- the quotients of the numerators by the minor, p being the chosen coordinates of a vector
 abbrev pub quotients_of : Lattice → List ℤ → List ℤ

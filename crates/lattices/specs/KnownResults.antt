@@ -3,8 +3,8 @@ use Rattle.std.specs.Prelude.{◌≡◌, refl, List, [], ◌∷◌, ℕ, ℤ, po
 use Rattle.integers.specs.All.{All}
 use Rattle.lattices.specs.Vector.{dot, ◌⊕◌, ◌⊙◌, comb}
 use Rattle.lattices.specs.Volume.{squared_volume, is_dependent}
-use Rattle.lattices.specs.Nearest.{least, nearest, least_by, nearest_by}
-use Rattle.lattices.specs.Greedy.{insert, order, credited, greedy, greedy_by, insert_by, order_by}
+use Rattle.lattices.specs.Nearest.{least_by, nearest_by}
+use Rattle.lattices.specs.Greedy.{credited, greedy_by, insert_by, order_by}
 use Rattle.lattices.specs.Refusal.{most_vectors, most_coordinates}
 use Rattle.lattices.specs.Answer.{Reduction, Nearest, padded, table, no_reduction, reduction_of, nearest_of}
 

@@ -1,5 +1,5 @@
 -- Vectors, length, combinations, the lattice of a list, dependence and distance, as document 01 uses the words ("What is sold").
-use Rattle.std.specs.Prelude.{◌≡◌, List, [], ◌∷◌, ℕ, zero, ℤ, pos, ◌+ℤ◌, ◌*ℤ◌, length}
+use Rattle.std.specs.Prelude.{◌≡◌, List, [], ◌∷◌, ℕ, ℤ, pos, ◌+ℤ◌, ◌*ℤ◌, length}
 -- entries, sum, difference and multiple of lists of numbers
 pub use Rattle.integers.specs.Lists.{nth, ◌⊖◌}
 unfoldable pub use Rattle.integers.specs.Lists.{◌⊕◌, ◌⊙◌}

@@ -4,20 +4,20 @@ use Rattle.std.proofs.Common.{sym, ap, ◌∙◌, arith, le-leb}
 use Rattle.std.proofs.Math.Option.{Option, none, some}
 use Rattle.std.proofs.lemmas.Bool.{lt-leb}
 use Rattle.integers.specs.First.{first_given}
-use Rattle.catalogue_rules.specs.Laws.TextSize.{most_text}
+use Rattle.catalogue_rules.proofs.Laws.TextSize.{most_text}
 use Rattle.catalogue_rules.specs.Catalogue.{Form, new, most_words, Entry, Outcome, refused, accepted}
 use Rattle.catalogue_rules.specs.Read.{read}
 use Rattle.catalogue_rules.specs.Write.{write}
-use Rattle.catalogue_rules.specs.Laws.WellFormed.{well_formed}
-use Rattle.catalogue_rules.specs.Laws.WrittenSize.{length-written}
+use Rattle.catalogue_rules.proofs.Laws.WellFormed.{well_formed}
+use Rattle.catalogue_rules.proofs.Laws.WrittenSize.{length-written}
 use Rattle.catalogue_rules.specs.Moving.{entry_to_form, to_form, read_to_move, over_at, moved, move_of}
-use Rattle.catalogue_rules.specs.Laws.Opening.{bytes-room}
-use Rattle.catalogue_rules.specs.Laws.Moving.{to-form-written, form-formed, numbers_fit, read_first}
+use Rattle.catalogue_rules.proofs.Laws.Opening.{bytes-room}
+use Rattle.catalogue_rules.proofs.Laws.Moving.{to-form-written, form-formed, numbers_fit, read_first}
 use Rattle.catalogue_rules.specs.Output.{Output, untouched, filled_with, output_by, output}
 use Rattle.fold_rules.specs.Fold.{closed_list, lookup}
 use Rattle.fold_rules.specs.Services.{Lookup, folded_outcome, fold_of, looked_up, looked_in, lookup_of, listing_text, list_of}
-use Rattle.fold_rules.specs.Laws.FoldedForm.{folded-size}
-use Rattle.fold_rules.specs.Laws.ListingSize.{listing_size}
+use Rattle.fold_rules.proofs.Laws.FoldedForm.{folded-size}
+use Rattle.fold_rules.proofs.Laws.ListingSize.{listing_size}
 use Rattle.separation_rules.specs.Separation.{same, different_m, different_d, first_outside, second_outside, Separated, refused_at, told, with_number, separated_by, separated_in, separate_of}
 use Rattle.lent_numbers.specs.Layout.{beside, layout_separation}
 use Rattle.lent_numbers.specs.Small.{Small}

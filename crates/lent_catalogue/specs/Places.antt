@@ -12,12 +12,12 @@ use Rattle.lattices.specs.Vector.{Vec}
 use Rattle.lattices.specs.Volume.{is_dependent}
 use Rattle.integers.specs.Every.{any}
 use Rattle.catalogue_rules.specs.Word.{Word, head, coordinate, see, end, draft, head_number, head_size, other, decode, words_of}
-use Rattle.catalogue_rules.specs.Laws.Word.{length-words}
+use Rattle.catalogue_rules.proofs.Laws.Word.{length-words}
 use Rattle.catalogue_rules.specs.Catalogue.{Form, old, new, most_number, most_words, most_bytes, Head, See, Entry, Outcome, refused, accepted}
 use Rattle.catalogue_rules.specs.Read.{State, outside, numbered, inside, after, closed, Step, next, stop, is_numbered, with_entry, head_rows, at_head, head_number_rows, at_head_number, head_size_rows, at_head_size, coordinate_of, with_coordinate, coordinate_rows, at_coordinate, draft_rows, at_draft, end_rows, at_end, step, at_last, read_words, dependent_at, lost_at, after_words, form_shown, file_rows, read_all, read}
 use Rattle.catalogue_rules.specs.Moving.{to_form, move_rows, read_to_move, over_at, moved}
-use Rattle.catalogue_rules.specs.Laws.Opening.{bytes-room}
-use Rattle.catalogue_rules.specs.Laws.Moves.{checked_case}
+use Rattle.catalogue_rules.proofs.Laws.Opening.{bytes-room}
+use Rattle.catalogue_rules.proofs.Laws.Moves.{checked_case}
 
 abbrev pub most_refusal : ℕ
 most_refusal = 20

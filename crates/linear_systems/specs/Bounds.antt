@@ -1,5 +1,5 @@
 -- What is known of a float that has passed a test, and of an integer made from its digits.
-use Rattle.std.specs.Prelude.{◌≡◌, true, not, ℕ, zero, suc, ◌*◌, ◌≤◌, ◌<◌, T, ltb, Float, ℤ, pos, ◌-ℤ◌}
+use Rattle.std.specs.Prelude.{◌≡◌, true, not, ℕ, zero, suc, ◌*◌, ◌<◌, T, ltb, Float, ℤ, pos, ◌-ℤ◌}
 use Rattle.std.proofs.Common.{sym, subst, arith, ltb→lt, to_z, of_z, to_z-of_z}
 use Rattle.std.proofs.lemmas.Bool.{false≢true}
 use Rattle.std.specs.Float.{nan, inf, fin}

@@ -13,8 +13,8 @@ use Rattle.catalogue_rules.specs.Catalogue as definition
 use Rattle.catalogue_rules.specs.Catalogue.{new, Outcome, refused, accepted, most_entries, most_numbers}
 use Rattle.catalogue_rules.specs.Read.{State, outside, numbered, inside, after, closed, Step, next, stop, step}
 use Rattle.catalogue_rules.specs.Form.{EntryFits, Entered}
-use Rattle.catalogue_rules.specs.Laws.Moves.{WhenAccepted}
-use Rattle.catalogue_rules.specs.Laws.WellFormed.{Known}
+use Rattle.catalogue_rules.proofs.Laws.Moves.{WhenAccepted}
+use Rattle.catalogue_rules.proofs.Laws.WellFormed.{Known}
 use Rattle.catalogue_records.specs.declared.Entry.{Entry}
 use Rattle.catalogue_records.specs.declared.Form.TheVariants.{Old, New}
 use Rattle.catalogue_records.specs.Stored.{no_entry, stored_form, entry_of}

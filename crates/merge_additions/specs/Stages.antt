@@ -10,7 +10,7 @@ use Rattle.catalogue_rules.specs.Word.{Word, head, coordinate, see, end, draft, 
 use Rattle.catalogue_rules.specs.Catalogue as definition
 use Rattle.catalogue_rules.specs.Catalogue.{Head, See, coordinates, most_entries}
 use Rattle.catalogue_rules.specs.Read.{State, outside, numbered, inside, after, closed, stop, coordinate_of, with_entry, with_vector, with_coordinate, step}
-use Rattle.catalogue_rules.specs.Laws.Moves.{Moves, by-head, by_number, by_size, by-coordinate, by-draft, by-see, by_end, between, unreferred}
+use Rattle.catalogue_rules.proofs.Laws.Moves.{Moves, by-head, by_number, by_size, by-coordinate, by-draft, by-see, by_end, between, unreferred}
 use Rattle.catalogue_records.specs.declared.Entry.{Entry}
 use Rattle.catalogue_records.specs.Stored.{entry_of}
 use Rattle.merge_rules.specs.Addition.{may_stand, add_step}

@@ -1,7 +1,7 @@
 -- An addition (document 02, ask 7): "one entry's bytes in the new form, with no end word", read after the entries that were added before by the steps
 -- of reading a file.
 use Rattle.std.specs.Prelude.{Bool, true, false, not, ◌&&◌, ◌||◌, List, [], ◌∷◌, ℕ, suc, ◌%◌, eqb, length}
-use Rattle.std.proofs.Math.Option.{Option, none, some}
+use Rattle.std.proofs.Math.Option.{none, some}
 use Rattle.integers.specs.First.{first_given}
 use Rattle.catalogue_rules.specs.Word.{Word, kind_of, decode, words_of}
 use Rattle.catalogue_rules.specs.Catalogue.{new, head_kind, Entry, Outcome, refused, accepted}

@@ -3,5 +3,3 @@ pub mod Addition
 pub mod Merge
 pub mod Examples
 pub mod Meaning
-pub mod Laws
-pub mod Demand

@@ -3,7 +3,7 @@
 use Rattle.std.specs.Prelude.{◌≡◌, ◌≢◌, Bool, true, false, List, [], ◌∷◌, ◌++◌, map, ℕ, ◌<◌, length, get_or}
 use Rattle.integers.specs.All.{All, Some}
 use Rattle.catalogue_rules.specs.Word.{end, encode, bytes_of}
-use Rattle.catalogue_rules.specs.Catalogue.{new, Entry, accepted}
+use Rattle.catalogue_rules.specs.Catalogue.{new, accepted}
 use Rattle.catalogue_rules.specs.Read.{read}
 use Rattle.catalogue_rules.specs.Write.{write}
 use Rattle.catalogue_rules.specs.Form.{placed}

@@ -1,5 +1,5 @@
 -- Adding to a merge: what was read after its entries, and what is answered.
-use Rattle.std.specs.Prelude.{◌≡◌, refl, ◌≢◌, Bool, List, [], ◌∷◌, ◌++◌, map, ℕ, zero, suc, ◌+◌, ◌≤◌, ◌<◌, length, get_or, take}
+use Rattle.std.specs.Prelude.{◌≡◌, refl, ◌≢◌, List, [], ◌∷◌, ◌++◌, map, ℕ, zero, suc, ◌≤◌, ◌<◌, length, get_or, take}
 use Rattle.std.proofs.Math.Path.{sym, ap, ap₂}
 use Rattle.std.proofs.Common.{◌∙◌, subst, arith, length-append, take-suc}
 use Rattle.std.proofs.Math.Bool.{true, false}
@@ -7,14 +7,14 @@ use Rattle.std.proofs.lemmas.List.{map-append}
 use Rattle.integers.specs.All.{All}
 use Rattle.integers.specs.AllLaws.{all_right}
 use Rattle.catalogue_rules.specs.Catalogue.{Entry, Outcome, refused, accepted, most_entries}
-use Rattle.catalogue_rules.specs.Form.{EntryFits, EntryIndependent, Entered, placed, past_see, past_mark}
-use Rattle.catalogue_rules.specs.Laws.Moves.{WhenAccepted}
+use Rattle.catalogue_rules.specs.Form.{EntryFits, EntryIndependent, placed, past_see, past_mark}
+use Rattle.catalogue_rules.proofs.Laws.Moves.{WhenAccepted}
 use Rattle.catalogue_records.specs.Stored.{no_entry, entry_of}
 use Rattle.merge_rules.specs.Addition.{addition}
 use Rattle.merge_rules.specs.Merge as rules
 use Rattle.merge_rules.specs.Merge.{said, refused_at, done, added, add_to, add}
-use Rattle.merge_rules.specs.Laws.Adding.{OneMore, Adds, addition-gives}
-use Rattle.merge_rules.specs.Laws.Kept.{made-call}
+use Rattle.merge_rules.proofs.Laws.Adding.{OneMore, Adds, addition-gives}
+use Rattle.merge_rules.proofs.Laws.Kept.{made-call}
 use Rattle.merge_additions.specs.declared.Addition.{Addition}
 use Rattle.merge_additions.specs.Additions.{addition_of, Earlier}
 use Rattle.merge_additions.specs.Progress.{behind}
@@ -22,7 +22,7 @@ use Rattle.merges.specs.declared.Merge.{Merge}
 use Rattle.merges.specs.Stored.{item_at, items_to, merge_in}
 use Rattle.merges.specs.IsMerge.{IsMerge}
 use Rattle.merges.specs.Entries.{kept, few, length_in}
-use Rattle.merges.specs.Growing.{Readable, with_row, Grown}
+use Rattle.merges.specs.Growing.{Readable, Grown}
 use Rattle.merges.specs.Grown.{grown-merge, grown-is}
 
 -- ---- the entries before

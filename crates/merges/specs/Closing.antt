@@ -1,5 +1,5 @@
 -- Closing a merge, and the services on a closed one: the catalogue of its entries is that of its file.
-use Rattle.std.specs.Prelude.{◌≡◌, refl, Bool, List, map, ℕ, ◌≤◌, length}
+use Rattle.std.specs.Prelude.{◌≡◌, refl, List, map, ℕ, ◌≤◌, length}
 use Rattle.std.proofs.Math.Path.{sym, ap}
 use Rattle.std.proofs.Common.{◌∙◌, subst, true≢false}
 use Rattle.std.proofs.Math.Bool.{true, false}
@@ -19,14 +19,14 @@ use Rattle.catalogue_reader.specs.Ended.{fault_of}
 use Rattle.catalogue_standing.specs.ReducedEntries.{WasRead}
 use Rattle.fold_rules.specs.Fold.{folded}
 use Rattle.fold_rules.specs.Services.{listing_text, fold_of, list_of}
-use Rattle.fold_rules.specs.Demand.{accepted-fold}
+use Rattle.fold_rules.proofs.Demand.{accepted-fold}
 use Rattle.separation_rules.specs.Separation.{separated_in, separate_of}
 use Rattle.merge_rules.specs.Merge as rules
 use Rattle.merge_rules.specs.Merge.{file_of, said, refused_at, done, if_open, closing, close_of, close}
-use Rattle.merge_rules.specs.Laws.Kept.{closed-formed, closed-file, made-call}
+use Rattle.merge_rules.proofs.Laws.Kept.{closed-formed, closed-file, made-call}
 use Rattle.merges.specs.declared.Merge.{Merge}
 use Rattle.merges.specs.Stored.{merge_in, items_to, shut_of}
-use Rattle.merges.specs.IsMerge.{lefts_in, IsMerge}
+use Rattle.merges.specs.IsMerge.{IsMerge}
 use Rattle.catalogue_standing.specs.ReducedEntry.{reduced_entry}
 use Rattle.catalogue_standing.specs.Places.{Firsts}
 use Rattle.catalogue_rules.specs.Form.{WellFormed, placed}

@@ -1,5 +1,5 @@
 -- A list copied element by element.
-use Rattle.std.specs.Prelude.{◌≡◌, List, [], ◌∷◌, ◌++◌, ℕ, suc, ◌+◌, ◌<◌, length, get_or, set, take}
+use Rattle.std.specs.Prelude.{◌≡◌, List, [], ◌∷◌, ◌++◌, ℕ, ◌+◌, ◌<◌, length, get_or, set, take}
 use Rattle.std.proofs.Common.{sym, ap, ap₂, ◌∙◌, add-one, take-suc, take-suc-set}
 
 -- one element more is the same

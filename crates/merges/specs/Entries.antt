@@ -1,19 +1,17 @@
 -- The entries of a merge by their index, and what is known of each.
-use Rattle.std.specs.Prelude.{◌≡◌, refl, List, [], ◌∷◌, ◌++◌, map, ℕ, zero, suc, ◌+◌, ◌≤◌, ◌<◌, length, get_or}
+use Rattle.std.specs.Prelude.{◌≡◌, refl, [], ◌∷◌, ◌++◌, ℕ, zero, suc, ◌+◌, ◌≤◌, ◌<◌, length, get_or}
 use Rattle.std.proofs.Common.{sym, ap, ap₂, ◌∙◌, subst, add-one, arith, length-append}
 use Rattle.std.proofs.Math.Decide.{dec_lt}
 use Rattle.std.proofs.Math.ListN.{get_or-append}
 use Rattle.std.proofs.Math.Seq.{get_or-append_seam}
-use Rattle.integers.specs.All.{All}
 use Rattle.integers.specs.AllLaws.{all-at, get_d_map}
 use Rattle.catalogue_rules.specs.Catalogue.{Entry, most_entries}
-use Rattle.catalogue_rules.specs.Form.{EntryFits, EntryIndependent, entry_at, placed}
-use Rattle.catalogue_rules.specs.Laws.Placed.{length-placed}
-use Rattle.fold_rules.specs.Laws.SameLattice.{Sound}
-use Rattle.lattice_membership.specs.Known.{Left}
+use Rattle.catalogue_rules.specs.Form.{EntryFits, EntryIndependent, entry_at}
+use Rattle.catalogue_rules.proofs.Laws.Placed.{length-placed}
+use Rattle.fold_rules.proofs.Laws.SameLattice.{Sound}
 use Rattle.catalogue_standing.specs.ReducedEntry.{no_reduced, reduced_entry}
-use Rattle.merge_rules.specs.Laws.Placing.{At, placed_at}
-use Rattle.merge_rules.specs.Laws.Kept.{Kept, every_merge}
+use Rattle.merge_rules.proofs.Laws.Placing.{At, placed_at}
+use Rattle.merge_rules.proofs.Laws.Kept.{Kept, every_merge}
 use Rattle.merges.specs.declared.Merge.{Merge}
 use Rattle.merges.specs.Stored.{item_at, items_to, merge_in}
 use Rattle.merges.specs.IsMerge.{lefts_in, IsMerge}

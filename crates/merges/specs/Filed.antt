@@ -1,7 +1,6 @@
 -- The catalogue of the entries of a merge: entry by entry, each at its place.
-use Rattle.std.specs.Prelude.{◌≡◌, refl, Bool, true, false, List, [], ◌∷◌, ◌++◌, map, ℕ, zero, suc, ◌+◌, ◌*◌, ◌≤◌, ◌<◌, length, get_or, set}
+use Rattle.std.specs.Prelude.{◌≡◌, refl, Bool, true, false, List, [], ◌∷◌, ◌++◌, map, ℕ, ◌+◌, ◌*◌, ◌≤◌, ◌<◌, length, get_or, set}
 use Rattle.std.proofs.Common.{sym, ap, ap₂, ◌∙◌, subst, mul-le-mul, add-one, arith}
-use Rattle.std.proofs.Math.Option.{Option, none, some}
 use Rattle.std.proofs.lemmas.List.{length-map}
 use mir.Val.{bool_byte}
 use Rattle.integers.specs.FilledLaws.{filled_next, map_snoc}
@@ -11,14 +10,14 @@ use Rattle.lattices.specs.Laws.Refusal.{one-to}
 use Rattle.catalogue_rules.specs.Catalogue as definition
 use Rattle.catalogue_rules.specs.Catalogue.{See, coordinates, most_entries}
 use Rattle.catalogue_rules.specs.Form.{EntryFits, see_at, past_see, past_mark, past_draft, entry_at, placed}
-use Rattle.catalogue_rules.specs.Laws.EntriesAccepted.{count-coordinates}
-use Rattle.catalogue_rules.specs.Laws.Placed.{length-placed}
-use Rattle.catalogue_rules.specs.Laws.ReadEntries.{past_entries}
+use Rattle.catalogue_rules.proofs.Laws.EntriesAccepted.{count-coordinates}
+use Rattle.catalogue_rules.proofs.Laws.Placed.{length-placed}
+use Rattle.catalogue_rules.proofs.Laws.ReadEntries.{past_entries}
 use Rattle.catalogue_records.specs.declared.Entry.{Entry}
 use Rattle.catalogue_records.specs.EntriesIn.{see_in}
 use Rattle.catalogue_records.specs.Stored.{no_entry, entry_of}
 use Rattle.catalogue_records.specs.Catalogues.{stored}
-use Rattle.merge_rules.specs.Laws.Placing.{placed_snoc, past_snoc}
+use Rattle.merge_rules.proofs.Laws.Placing.{placed_snoc, past_snoc}
 use Rattle.merges.specs.declared.Vectors.{Vectors}
 use Rattle.merges.specs.declared.Merge.{Merge}
 use Rattle.merges.specs.Stored.{item, entry_from, item_at, items_to}

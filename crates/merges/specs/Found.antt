@@ -1,20 +1,20 @@
 -- What is found in a merge: the arrays beside its entries give the standing entries of the definition, see words left aside.
 use Rattle.std.specs.Prelude.{◌≡◌, Bool, ◌&&◌, ◌||◌, List, [], ◌∷◌, map, ℕ, zero, suc, ◌≤◌, ◌<◌, eqb, length, get_or}
 use Rattle.std.proofs.Math.Path.{refl, sym, ap}
-use Rattle.std.proofs.Common.{ap₂, ◌∙◌, subst, true≢false, arith, eqb-true, eq-eqb, ne_eqb}
+use Rattle.std.proofs.Common.{ap₂, ◌∙◌, subst, arith, eqb-true, eq-eqb, ne_eqb}
 use Rattle.std.proofs.Math.Bool.{true, false}
-use Rattle.std.proofs.Math.Option.{Option, none, some}
+use Rattle.std.proofs.Math.Option.{none, some}
 use Rattle.std.proofs.Math.Decide.{dec_lt}
 use Rattle.std.proofs.lemmas.List.{length-map}
 use Rattle.integers.specs.Tests.{both}
 use Rattle.integers.specs.Every.{any}
 use Rattle.integers.specs.AllLaws.{get_d_map}
-use Rattle.catalogue_rules.specs.Catalogue.{Entry, accepted}
+use Rattle.catalogue_rules.specs.Catalogue.{Entry}
 use Rattle.catalogue_rules.specs.Form.{WellFormed, see_at, entry_at}
 use Rattle.catalogue_records.specs.EntriesIn.{see_in}
 use Rattle.fold_rules.specs.Fold.{closed_list, lookup}
-use Rattle.fold_rules.specs.Services.{Lookup, looked_up, lookup_of}
-use Rattle.fold_rules.specs.Demand.{accepted-lookup}
+use Rattle.fold_rules.specs.Services.{looked_up, lookup_of}
+use Rattle.fold_rules.proofs.Demand.{accepted-lookup}
 use Rattle.catalogue_standing.specs.ReducedEntry.{reduced_entry}
 use Rattle.catalogue_standing.specs.Places.{First, Firsts}
 use Rattle.catalogue_standing.specs.FirstPlaces.{FirstPlaces, Held, first-places}
@@ -24,8 +24,8 @@ use Rattle.catalogue_standing.specs.Standers.{Marks, Stander}
 use Rattle.catalogue_standing.specs.Looking.{lookup_first, lookup-lost}
 use Rattle.merge_rules.specs.Merge as rules
 use Rattle.merge_rules.specs.Merge.{without_see, named_by, missing, looked_open, finally, file_of, look_in}
-use Rattle.merge_rules.specs.Laws.Aside.{formed-aside, lookup-aside}
-use Rattle.merge_rules.specs.Laws.Kept.{closed-file}
+use Rattle.merge_rules.proofs.Laws.Aside.{formed-aside, lookup-aside}
+use Rattle.merge_rules.proofs.Laws.Kept.{closed-file}
 use Rattle.merges.specs.declared.Merge.{Merge}
 use Rattle.merges.specs.declared.Answer.{Answer}
 use Rattle.merges.specs.Stored.{no_vectors, plain_item, item_at, merge_in, answer_in}

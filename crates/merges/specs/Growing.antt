@@ -1,7 +1,7 @@
 -- One entry more: what is stored of it, and that the merge with it is one again.
-use Rattle.std.specs.Prelude.{◌≡◌, ◌≢◌, Bool, true, false, ◌&&◌, List, [], ◌∷◌, ◌++◌, map, ℕ, zero, suc, ◌+◌, ◌≤◌, ◌<◌, eqb, ltb, ℤ, pos, nat_abs, length, get_or, set}
+use Rattle.std.specs.Prelude.{◌≡◌, ◌≢◌, Bool, false, ◌&&◌, List, [], ◌∷◌, ℕ, zero, suc, ◌+◌, ◌<◌, eqb, ltb, ℤ, pos, nat_abs, get_or, set}
 use Rattle.std.proofs.Math.Path.{refl}
-use Rattle.std.proofs.Common.{sym, ap, ap₂, ◌∙◌, subst, arith, ltb-false}
+use Rattle.std.proofs.Common.{sym, ap, ◌∙◌, subst, arith, ltb-false}
 use Rattle.integers.specs.Every.{any}
 use Rattle.integers.specs.Filled.{filled}
 use Rattle.integers.specs.Lists.{nth}
@@ -10,13 +10,13 @@ use Rattle.integers.specs.Tests.{neither}
 use Rattle.lattices.specs.Refusal.{most_size}
 use Rattle.catalogue_rules.specs.Catalogue as definition
 use Rattle.catalogue_rules.specs.Catalogue.{new, coordinates, most_numbers}
-use Rattle.catalogue_rules.specs.Laws.EntriesAccepted.{all_near}
+use Rattle.catalogue_rules.proofs.Laws.EntriesAccepted.{all_near}
 use Rattle.catalogue_records.specs.Entries.{entry-back}
 use Rattle.catalogue_records.specs.declared.Entry.{Entry}
 use Rattle.catalogue_records.specs.Stored.{entry_of}
 use Rattle.catalogue_records.specs.EntriesIn.{entry_in}
 use Rattle.fold_rules.specs.Fold.{same_lattice}
-use Rattle.fold_rules.specs.Laws.SameLattice.{Sound}
+use Rattle.fold_rules.proofs.Laws.SameLattice.{Sound}
 use Rattle.catalogue_standing.specs.ReducedEntry.{reduced_entry, same-is, Fair, other-squares}
 use Rattle.catalogue_standing.specs.Places.{First}
 use Rattle.merges.specs.declared.Merge.{Merge}

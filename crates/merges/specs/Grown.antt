@@ -1,32 +1,29 @@
 -- The merge with one entry more is a merge: its entries, their rows, and the first of each lattice.
-use Rattle.std.specs.Prelude.{◌≡◌, refl, Bool, true, false, ◌&&◌, List, [], ◌∷◌, ◌++◌, map, ℕ, suc, ◌+◌, ◌*◌, ◌≤◌, ◌<◌, eqb, ℤ, pos, length, get_or, set}
+use Rattle.std.specs.Prelude.{◌≡◌, refl, Bool, false, ◌&&◌, List, [], ◌∷◌, ◌++◌, ℕ, ◌+◌, ◌<◌, eqb, pos, get_or}
 use Rattle.std.proofs.Common.{sym, ap, ap₂, ◌∙◌, subst, add-one, arith, length-set, get_or-set_same, get_or-set_other}
 use Rattle.std.proofs.Math.Option.{Option, none, some}
 use Rattle.std.proofs.Math.Decide.{dec_lt}
 use Rattle.catalogue_rules.specs.Catalogue as definition
 use Rattle.catalogue_rules.specs.Catalogue.{Form, new, See, see_number, most_entries}
 use Rattle.catalogue_rules.specs.Form.{see_at, past_see, past_mark, head_at, entry_at, placed}
-use Rattle.catalogue_rules.specs.Laws.Placed.{placed-again}
-use Rattle.catalogue_rules.specs.Laws.ReadEntries.{past_entries}
-use Rattle.catalogue_records.specs.declared.Form.TheVariants.{New}
+use Rattle.catalogue_rules.proofs.Laws.Placed.{placed-again}
+use Rattle.catalogue_rules.proofs.Laws.ReadEntries.{past_entries}
 use Rattle.catalogue_records.specs.declared.Entry.{Entry}
 use Rattle.catalogue_records.specs.Stored.{stored_form, sees, see_place, entry_of}
 use Rattle.catalogue_records.specs.EntriesIn.{see_in, entry_in}
 use Rattle.catalogue_records.specs.Entries.{entry-back}
 use Rattle.fold_rules.specs.Fold.{same_lattice}
-use Rattle.fold_rules.specs.Laws.SameLattice.{Sound}
-use Rattle.lattice_membership.specs.Known.{Left}
+use Rattle.fold_rules.proofs.Laws.SameLattice.{Sound}
 use Rattle.catalogue_standing.specs.ReducedEntry.{no_reduced, reduced_entry, same_reduced, same-is}
 use Rattle.catalogue_standing.specs.Places.{First, first_alike, Firsts, first-like, firsts_more}
-use Rattle.merge_rules.specs.Merge as rules
 use Rattle.merge_rules.specs.Merge.{Made}
-use Rattle.merge_rules.specs.Laws.Placing.{placed_snoc}
+use Rattle.merge_rules.proofs.Laws.Placing.{placed_snoc}
 use Rattle.merges.specs.declared.Vectors.{Vectors}
 use Rattle.merges.specs.declared.Merge.{Merge}
 use Rattle.merges.specs.Stored.{no_vectors, item, entry_from, row_at, item_at, items_to, merge_in}
-use Rattle.merges.specs.IsMerge.{shortest_of, lefts_in, Long, IsMerge}
-use Rattle.merges.specs.Entries.{length_items, items_same, sound-at, left_at}
-use Rattle.merges.specs.Growing.{is_first_of, Readable, with_row, Grown}
+use Rattle.merges.specs.IsMerge.{shortest_of, lefts_in, IsMerge}
+use Rattle.merges.specs.Entries.{items_same, sound-at, left_at}
+use Rattle.merges.specs.Growing.{is_first_of, Readable, with_row}
 
 -- ---- places
 

@@ -1,10 +1,10 @@
 -- The empty merge.
-use Rattle.std.specs.Prelude.{refl, false, ℕ, pos, replicate}
+use Rattle.std.specs.Prelude.{false, ℕ, pos, replicate}
 use Rattle.std.proofs.Common.{arith}
 use Rattle.std.proofs.lemmas.List.{length-replicate}
 use Rattle.catalogue_rules.specs.Catalogue.{most_entries, most_numbers}
 use Rattle.catalogue_standing.specs.Places.{firsts-none}
-use Rattle.merge_rules.specs.Laws.Kept.{made-start}
+use Rattle.merge_rules.proofs.Laws.Kept.{made-start}
 use Rattle.merges.specs.declared.Vectors.{Vectors}
 use Rattle.merges.specs.declared.Merge.{Merge}
 use Rattle.merges.specs.IsMerge.{IsMerge}

@@ -1,6 +1,5 @@
 -- What is kept of a merge, as the definition has it.
 use Rattle.std.specs.Prelude.{Bool, true, false, List, [], ◌∷◌, ◌++◌, ℕ, zero, suc, ◌*◌, get_or, take}
-use Rattle.std.proofs.Math.Option.{Option, none, some}
 use Rattle.lattices.specs.Vector.{Vec}
 use Rattle.lattices.specs.Refusal.{vectors_of}
 use Rattle.catalogue_rules.specs.Catalogue as definition

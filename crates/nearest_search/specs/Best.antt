@@ -1,12 +1,12 @@
 -- The best list of a layer as the search gives it, and what a step by it does.
-use Rattle.std.specs.Prelude.{◌≡◌, refl, true, false, List, [], ◌∷◌, ◌++◌, zero, suc, ◌+◌, ◌*◌, ◌≤◌, ◌<◌, ℤ, pos, neg_ℤ, nat_abs, ◌+ℤ◌, ◌*ℤ◌, length, get_or, take, replicate}
+use Rattle.std.specs.Prelude.{◌≡◌, refl, true, false, List, [], ◌∷◌, ◌++◌, zero, suc, ◌*◌, ◌≤◌, ℤ, pos, neg_ℤ, nat_abs, ◌+ℤ◌, ◌*ℤ◌, length, get_or, take, replicate}
 use Rattle.std.proofs.Math.Path.{sym, ap, subst}
 use Rattle.std.proofs.Common.{ap₂, ◌∙◌, arith, le_refl, SFits}
 use Rattle.std.proofs.Math.IntN.{+ℤ_idl, +ℤ_idr}
 use Rattle.std.specs.Int.{w64}
 use Rattle.std.proofs.Math.ListN.{get_or-eq_default}
 use Rattle.integers.specs.Size.{Within, within-le, within-mul, fits-within}
-use Rattle.lattices.specs.Vector.{Vec, nth, dot, comb, ◌⊕◌, ◌⊙◌, ◌⊖◌}
+use Rattle.lattices.specs.Vector.{Vec, dot, comb, ◌⊕◌, ◌⊙◌, ◌⊖◌}
 use Rattle.lattices.specs.Laws.Vector.{◌≈◌}
 use Rattle.lattices.specs.Nearest.{nearest}
 use Rattle.lattices.specs.Answer.{padded}

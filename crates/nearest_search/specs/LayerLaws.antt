@@ -1,6 +1,6 @@
 -- A layer of the last of four vectors, in numbers: the search finds its best list, and the value of that list tells whether the layer has a
 -- nearer vector. Layers that are too far from the residual have none.
-use Rattle.std.specs.Prelude.{◌≡◌, ◌⊎◌, Bool, false, ℕ, ◌+◌, ◌*◌, ◌≤◌, ◌<◌, ℤ, negsuc, neg_ℤ, nat_abs, ◌+ℤ◌, ◌-ℤ◌, ◌*ℤ◌, length, get_or, take, ◌≤ℤ◌, ◌<ℤ◌}
+use Rattle.std.specs.Prelude.{◌≡◌, Bool, false, ℕ, ◌≤◌, ◌<◌, ℤ, negsuc, neg_ℤ, nat_abs, ◌+ℤ◌, ◌-ℤ◌, ◌*ℤ◌, length, get_or, take, ◌≤ℤ◌, ◌<ℤ◌}
 use Rattle.std.proofs.Common.{sym, ap, ap₂, ◌∙◌, subst, inl, ⊎_elim, arith, length-take, length-append, take_all, take-suc}
 use mathlib.Core.List.{List, [], ◌∷◌, ◌++◌}
 use Rattle.std.proofs.Math.Decide.{dec_lt}
@@ -11,7 +11,6 @@ use Rattle.integers.specs.Identity.{by_ring, reads}
 use Rattle.integers.specs.Order.{≤ℤ_trans, ≤ℤ_of_≡, ≤ℤ-or-<ℤ, *ℤ-cancel-≤}
 use Rattle.integers.specs.Certificate.{NN, ◌⊞◌, ◌⊠◌, le, lt, eq, nn-pos, nn_cancel, nn_ring, nn-false, le_of_nn, by_nn}
 use Rattle.integers.specs.Size.{Within, within-mul, within-upper, within_of_bounds}
-use Rattle.integers.specs.ListLaws.{same}
 use Rattle.integers.specs.Lex.{Nonneg}
 use Rattle.lattices.specs.Vector.{Vec, N, nth, dot, comb, ◌⊕◌, ◌⊙◌, ◌⊖◌}
 use Rattle.lattices.specs.Laws.Vector.{◌≈◌, ≈_refl, ≈_sym, ≈_trans, ≈_of_≡, ≈-N, ≈-⊕, ≈-⊙, ≈-dot, bilinear, dot_comm, N-nonneg, comb_snoc, comb_cons}

@@ -1,12 +1,12 @@
 -- What the functions of the walk do: a step to a smaller value, by which the squared length changes by v ≤ 0, or, where v > 0, nothing, and P holds.
-use Rattle.std.specs.Prelude.{◌≡◌, refl, Bool, true, false, ℕ, zero, suc, ◌+◌, ◌*◌, ◌≤◌, ◌<◌, ℤ, pos, negsuc, nat_abs, ◌+ℤ◌, ◌*ℤ◌, get_or, take, replicate, ◌≤ℤ◌, ◌<ℤ◌}
+use Rattle.std.specs.Prelude.{◌≡◌, refl, Bool, true, false, ℕ, zero, suc, ◌≤◌, ◌<◌, ℤ, pos, negsuc, nat_abs, ◌+ℤ◌, ◌*ℤ◌, get_or, take, replicate, ◌≤ℤ◌, ◌<ℤ◌}
 use Rattle.std.proofs.Math.Path.{sym, ap, subst}
 use Rattle.std.proofs.Common.{ap₂, ◌∙◌, arith, take_all}
 use mathlib.Core.List.{List, [], ◌∷◌, ◌++◌}
 use Rattle.std.proofs.Math.ListN.{length, length-append, get_or-eq_default}
 use Rattle.std.specs.Int.Signed.{clash_ℤ}
 use Rattle.integers.specs.Lex.{Nonneg}
-use Rattle.lattices.specs.Vector.{Vec, N, nth, comb, ◌⊕◌, ◌⊙◌, ◌⊖◌}
+use Rattle.lattices.specs.Vector.{Vec, N, nth, comb, ◌⊖◌}
 use Rattle.lattices.specs.Laws.Vector.{◌≈◌, ≈_refl, ≈_trans, ≈_of_≡, ≈-⊕, ≈-⊙}
 use Rattle.lattices.specs.Nearest.{nearest}
 use Rattle.lattices.specs.Answer.{padded}

@@ -1,5 +1,5 @@
 -- Gram matrix and inner products formed of vectors: the numbers themselves, so the factor is 1. Beyond the last vector they are 0.
-use Rattle.std.specs.Prelude.{◌≡◌, List, [], ℕ, ◌≤◌, ◌<◌, ℤ, pos, ◌*ℤ◌, length, get_or, take, ◌≤ℤ◌}
+use Rattle.std.specs.Prelude.{◌≡◌, List, [], ℕ, ◌≤◌, ◌<◌, ℤ, pos, length, get_or, take, ◌≤ℤ◌}
 use Rattle.std.proofs.Common.{sym, subst, arith, length-take, get_or-take, take-take}
 use Rattle.std.proofs.Math.Decide.{dec_lt}
 use Rattle.std.specs.Int.Signed.{lt_z_yes}

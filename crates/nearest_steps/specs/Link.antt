@@ -1,5 +1,5 @@
 -- Numbers and vectors: what holds of the numbers because they are inner products, up to the factor F.
-use Rattle.std.specs.Prelude.{◌≡◌, refl, Bool, true, false, List, [], ◌∷◌, ℕ, zero, suc, ℤ, negsuc, ◌+ℤ◌, ◌-ℤ◌, ◌*ℤ◌, get_or, ◌≤ℤ◌, ◌<ℤ◌}
+use Rattle.std.specs.Prelude.{◌≡◌, refl, Bool, true, false, List, [], ◌∷◌, ℕ, zero, suc, ℤ, negsuc, ◌+ℤ◌, ◌-ℤ◌, ◌*ℤ◌, get_or, ◌<ℤ◌}
 use Rattle.std.proofs.Math.Path.{sym, ap, ap₂}
 use Rattle.std.proofs.Common.{◌∙◌}
 use Rattle.std.proofs.Math.IntN.{pos}
@@ -9,7 +9,7 @@ use Rattle.integers.specs.ListLaws.{nth-⊙, entries}
 use Rattle.integers.specs.Lex.{nonneg_ext, nonneg-scale, nonneg_unscale}
 use Rattle.lattices.specs.Vector.{Vec, nth, dot, comb, ◌⊕◌, ◌⊙◌, ◌⊖◌}
 use Rattle.lattices.specs.Laws.Vector.{◌≈◌, ≈_refl, ≈-dot, ≈-nth, ≈-⊕, nth-≈, bilinear, dot_comm, dot-⊙ʳ, comb-dot, comb-⊕, against}
-use Rattle.successive_minima.specs.Laws.Values.{gain, change}
+use Rattle.successive_minima.specs.Laws.Values.{gain}
 use Rattle.successive_minima.specs.Laws.ValueLaws.{gain-≈, gain_shift}
 use Rattle.successive_minima.specs.Laws.Digits.{nonneg-not-below, not-below-nonneg}
 use Rattle.successive_minima.specs.Laws.Table.{improves}

@@ -2,14 +2,14 @@
 use Rattle.std.specs.Prelude.{◌≡◌, refl, ◌⊎◌, Bool, true, false, List, [], ◌∷◌, T, ℤ, pos, ◌+ℤ◌, ◌-ℤ◌, ◌*ℤ◌, length, replicate, ◌≤ℤ◌, ◌<ℤ◌}
 use Rattle.std.proofs.Common.{sym, ap₂, ◌∙◌, subst, ⊎_elim, arith}
 use Rattle.std.proofs.Math.Path.{ap}
-use Prim.Native.Nat.{ℕ, zero, suc, ◌≤◌, ◌<◌}
+use Prim.Native.Nat.{ℕ, zero, suc, ◌≤◌}
 use Rattle.std.proofs.lemmas.List.{length-replicate}
 use Rattle.integers.specs.Identity.{by_ring, reads}
 use Rattle.integers.specs.Order.{≤ℤ_of_≡, ≤ℤ_of_<ℤ, ≤ℤ-or-<ℤ}
 use Rattle.integers.specs.Certificate.{◌⊞◌, le, lt, by_nn, by-lt}
 use Rattle.integers.specs.ListLaws.{same, nth-replicate, nth-⊕, length-⊕-same}
 use Rattle.integers.specs.Lex.{below->}
-use Rattle.lattices.specs.Vector.{nth, comb, ◌⊕◌, ◌⊖◌}
+use Rattle.lattices.specs.Vector.{nth, comb, ◌⊕◌}
 use Rattle.lattices.specs.Laws.Vector.{◌≈◌, ≈_sym, ≈_trans, zero-dot, comb-zero, ⊖-zero}
 use Rattle.successive_minima.specs.Laws.Digits.{Bounded, zeros, power, number, number-⊕, number-negative}
 use Rattle.nearest_steps.specs.Meant.{Known, Meant}
@@ -50,6 +50,22 @@ pub still-nothing : (n : ℕ) (g : List (List ℤ)) (r : List ℤ) → gain_of g
 unfolding gain_of
 still-nothing n g r = ap₂ (λ a b. a -ℤ pos 2 *ℤ b) (zero-dot (replicate n (pos 0)) (nth-replicate n) (comb (replicate n (pos 0)) g)) (zero-dot (replicate n (pos 0)) (nth-replicate n) r)
 
+-- sums of whole numbers that the laws below use
+pub plus-nothing : (a : ℤ) → a +ℤ pos 0 ≡ a
+plus-nothing a = by_ring (a ∷ []) (search reads) (search reads) tt
+
+pub plus-again : (a b c : ℤ) → (a +ℤ b) +ℤ c ≡ a +ℤ (b +ℤ c)
+plus-again a b c = by_ring (a ∷ b ∷ c ∷ []) (search reads depth 8) (search reads depth 8) tt
+
+pub both : (a b : ℤ) → a ≤ℤ pos 0 → b ≤ℤ pos 0 → (a +ℤ b) ≤ℤ pos 0
+both a b h i = by_nn (a ∷ b ∷ []) (le h ⊞ le i) (search reads depth 8) (search reads depth 8) tt
+
+pub left_strict : (a b : ℤ) → a <ℤ pos 0 → b ≤ℤ pos 0 → (a +ℤ b) <ℤ pos 0
+left_strict a b h i = by-lt (a ∷ b ∷ []) (lt h ⊞ le i) (search reads depth 8) (search reads depth 8) tt
+
+pub right_strict : (a b : ℤ) → a ≤ℤ pos 0 → b <ℤ pos 0 → (a +ℤ b) <ℤ pos 0
+right_strict a b h i = by-lt (a ∷ b ∷ []) (le h ⊞ lt i) (search reads depth 8) (search reads depth 8) tt
+
 unfoldable pub moved_none : (n k : ℕ) (g : List (List ℤ)) (r x : List ℤ) → length x ≡ n → Moved n k g r x r x false
 unfolding fall
 moved_none n k g r x h = record {
@@ -57,7 +73,7 @@ moved_none n k g r x h = record {
   count = length-replicate n (pos 0);
   behind = λ j m. nth-replicate n j;
   coefficients = same (sym (length-⊕-same x (replicate n (pos 0)) (h ∙ sym (length-replicate n (pos 0)))))
-      (λ i. sym (nth-⊕ x (replicate n (pos 0)) i ∙ ap (λ z. nth x i +ℤ z) (nth-replicate n i) ∙ by_ring (nth x i ∷ []) (search reads) (search reads) tt));
+      (λ i. sym (nth-⊕ x (replicate n (pos 0)) i ∙ ap (λ z. nth x i +ℤ z) (nth-replicate n i) ∙ plus-nothing (nth x i)));
   left = ≈_sym (⊖-zero r (comb-zero (replicate n (pos 0)) (nth-replicate n) g));
   width = refl;
   shorter = ≤ℤ_of_≡ (still-nothing n g r);
@@ -129,19 +145,10 @@ module _ (k : ℕ) (g : List (List ℤ)) (r : List ℤ) (w : Known k g r) where
       second : fall g (moved g r e) f ≤ℤ pos 0
       second = subst (λ n. n ≤ℤ pos 0) (fall-residual g f p.left) q.lower
 
-      both : (a b : ℤ) → a ≤ℤ pos 0 → b ≤ℤ pos 0 → (a +ℤ b) ≤ℤ pos 0
-      both a b h i = by_nn (a ∷ b ∷ []) (le h ⊞ le i) (search reads depth 8) (search reads depth 8) tt
-
-      left_strict : (a b : ℤ) → a <ℤ pos 0 → b ≤ℤ pos 0 → (a +ℤ b) <ℤ pos 0
-      left_strict a b h i = by-lt (a ∷ b ∷ []) (lt h ⊞ le i) (search reads depth 8) (search reads depth 8) tt
-
-      right_strict : (a b : ℤ) → a ≤ℤ pos 0 → b <ℤ pos 0 → (a +ℤ b) <ℤ pos 0
-      right_strict a b h i = by-lt (a ∷ b ∷ []) (le h ⊞ lt i) (search reads depth 8) (search reads depth 8) tt
-
       sums : (x ⊕ e) ⊕ f ≡ x ⊕ (e ⊕ f)
       sums = same (length-⊕-same (x ⊕ e) f (length-⊕-same x e (l ∙ sym p.count) ∙ l ∙ sym q.count) ∙ length-⊕-same x e (l ∙ sym p.count)
           ∙ sym (length-⊕-same x (e ⊕ f) (l ∙ sym (length-⊕-same e f (p.count ∙ sym q.count) ∙ p.count))))
-          (λ i. simp nth-⊕ (by_ring (nth x i ∷ nth e i ∷ nth f i ∷ []) (search reads depth 8) (search reads depth 8) tt))
+          (λ i. simp nth-⊕ (plus-again (nth x i) (nth e i) (nth f i)))
 
 pub moved-wider : {n i k : ℕ} {g : List (List ℤ)} {r x r' x' : List ℤ} {b : Bool} → i ≤ k → Moved n i g r x r' x' b → Moved n k g r x r' x' b
 moved-wider h p = record {

@@ -1,5 +1,5 @@
 -- Steps along one vector: a multiple q of vector i, where n is its squared length and p its inner product with the residual.
-use Rattle.std.specs.Prelude.{◌≡◌, refl, ◌⊎◌, Bool, true, false, List, [], ◌∷◌, ℕ, zero, suc, ◌+◌, ◌*◌, ◌/◌, ◌≤◌, ◌<◌, T, negsuc, nat_abs, ◌+ℤ◌, ◌-ℤ◌, ◌*ℤ◌, length, get_or, set, replicate, ◌≤ℤ◌, ◌<ℤ◌}
+use Rattle.std.specs.Prelude.{◌≡◌, refl, ◌⊎◌, true, false, List, [], ◌∷◌, ℕ, zero, suc, ◌+◌, ◌*◌, ◌/◌, ◌≤◌, ◌<◌, negsuc, ◌+ℤ◌, ◌-ℤ◌, ◌*ℤ◌, length, get_or, set, replicate, ◌≤ℤ◌, ◌<ℤ◌}
 use Rattle.std.proofs.Common.{sym, ◌∙◌, subst, inl, inr, ⊎_elim, le_refl, le_trans, div-le_self, div-add-mod', mod-lt, arith, le→leb, lt→ltb, length-set, get_or-set_same, get_or-set_other, of_z, SFits}
 use Rattle.std.proofs.Math.Path.{ap, ap₂}
 use Rattle.std.proofs.Math.Decide.{ℕ_discrete}
@@ -9,7 +9,7 @@ use Rattle.std.specs.Int.{w64}
 use Rattle.integers.specs.Identity.{by_ring, reads}
 use Rattle.integers.specs.Certificate.{◌⊞◌, ◌⊠◌, le, lt, by-lt, by_nn, nn-pos}
 use Rattle.integers.specs.Order.{≤ℤ-or-<ℤ, ≤ℤ_antisymm}
-use Rattle.integers.specs.Size.{Within, within-le, within-neg, within-add, within-sub, within-mul, fits-within, size-neg, size-add}
+use Rattle.integers.specs.Size.{Within, within-le, within-neg, within-add, within-sub, within-mul, fits-within, size-neg}
 use Rattle.integers.specs.ListLaws.{same, nth-⊕, nth-replicate, length-⊕-same}
 use Rattle.integers.specs.Lex.{below-<, below->, below-≡}
 use Rattle.lattices.specs.Vector.{nth, dot, comb, ◌⊕◌, ◌⊙◌, ◌⊖◌}

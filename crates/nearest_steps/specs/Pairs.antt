@@ -1,7 +1,7 @@
 -- The test of a list of the table and its opposite by two numbers: the square of the list (what its vector's squared length is) and its sum
 -- (twice its vector's inner product with the residual). The list improves where the square is below the sum, its opposite where the sum is at
 -- most the square with the other sign: at equality the first is not below the list of zeros, and its opposite is.
-use Rattle.std.specs.Prelude.{◌≡◌, refl, ◌⊎◌, true, false, ℕ, zero, suc, ◌+◌, ◌*◌, ◌≤◌, ◌<◌, ◌+ℤ◌, ◌-ℤ◌, ◌*ℤ◌, length, get_or, ◌≤ℤ◌, ◌<ℤ◌}
+use Rattle.std.specs.Prelude.{◌≡◌, refl, true, false, ℕ, zero, suc, ◌+◌, ◌*◌, ◌<◌, ◌+ℤ◌, ◌-ℤ◌, ◌*ℤ◌, length, get_or, ◌≤ℤ◌, ◌<ℤ◌}
 use Rattle.std.proofs.Common.{sym, ◌∙◌, subst, arith}
 use Rattle.std.proofs.Math.Path.{ap, ap₂}
 use Rattle.std.proofs.Math.Logic.{⊎_elim}
@@ -16,7 +16,7 @@ use Rattle.lattices.specs.Laws.Vector.{≈_refl, ≈-dot, bilinear, dot-⊙ʳ, c
 use Rattle.successive_minima.specs.Laws.Digits.{zeros}
 use Rattle.nearest_steps.specs.Numbers.{gain_of, negative, improves_of}
 use Rattle.nearest_steps.specs.Link.{column, nth-column, nth-comb}
-use Rattle.nearest_steps.specs.Steps.{steps, pairs, steps-long, opposite-at}
+use Rattle.nearest_steps.specs.Steps.{steps, steps-long, opposite-at}
 
 -- a·x² + b·xy + c·xz + d·y² + e·yz + f·z², and a·x + b·y + c·z
 abbrev pub square : ℤ → ℤ → ℤ → ℤ → ℤ → ℤ → List ℤ → ℤ

@@ -1,12 +1,11 @@
 -- The descent on its way from the coefficients x₀: what was taken since, its size, and the measure that falls.
-use Rattle.std.specs.Prelude.{◌≡◌, refl, Bool, true, List, [], ◌∷◌, ℕ, ◌+◌, ◌≤◌, ◌<◌, ℤ, pos, negsuc, nat_abs, ◌+ℤ◌, ◌*ℤ◌, length, replicate}
+use Rattle.std.specs.Prelude.{◌≡◌, Bool, true, List, [], ◌∷◌, ℕ, ◌+◌, ◌≤◌, ◌<◌, ℤ, pos, negsuc, nat_abs, ◌+ℤ◌, length, replicate}
 use Rattle.std.proofs.Common.{sym, ap, ◌∙◌, subst, inr, arith}
 use Rattle.std.proofs.lemmas.List.{length-replicate}
 use Rattle.integers.specs.Identity.{by_ring, reads}
 use Rattle.integers.specs.Size.{size-add}
 use Rattle.integers.specs.ListLaws.{same, entries, nth-⊕, nth-replicate, length-⊕-same, length-⊙}
 use Rattle.lattices.specs.Vector.{nth, ◌⊕◌, ◌⊖◌, ◌⊙◌}
-use Rattle.successive_minima.specs.Laws.Digits.{Bounded}
 use Rattle.nearest_steps.specs.Meant.{Known}
 use Rattle.nearest_steps.specs.Moves.{Moved, moved_then, moved-from}
 use Rattle.nearest_steps.specs.State.{measure, small, descends}

@@ -12,7 +12,7 @@ use Rattle.lattices.specs.Nearest.{nearest}
 use Rattle.lattices.specs.Answer.{padded}
 use Rattle.lattices.specs.Laws.Answer.{length-padded, nth-padded}
 use Rattle.successive_minima.specs.Laws.NearestLaws.{nearest-shorter}
-use Rattle.nearest_steps.specs.Meant.{Meant, Known}
+use Rattle.nearest_steps.specs.Meant.{Meant}
 use Rattle.nearest_steps.specs.Formed.{ProductsOf, GramOf}
 use Rattle.nearest_steps.specs.End.{left-width}
 use Rattle.nearest_search.specs.LayerLaws.{known, nearest-long, nearest-within, meant-left}

@@ -14,13 +14,13 @@ use Rattle.catalogue_rules.specs.Catalogue.{Form, most_number, Entry, accepted}
 use Rattle.catalogue_rules.specs.Read.{read}
 use Rattle.catalogue_rules.specs.Moving.{read_to_move}
 use Rattle.fold_rules.specs.Meaning.{Folds, LooksUp, MovesTo}
-use Rattle.fold_rules.specs.Demand.{fold_theorem, lookup_theorem}
-use Rattle.fold_rules.specs.Moved.{move_theorem}
+use Rattle.fold_rules.proofs.Demand.{fold_theorem, lookup_theorem}
+use Rattle.fold_rules.proofs.Moved.{move_theorem}
 use Rattle.separation_rules.specs.Meaning.{SeparatesAll}
-use Rattle.separation_rules.specs.Demand.{separation_theorem}
+use Rattle.separation_rules.proofs.Demand.{separation_theorem}
 use Rattle.merge_rules.specs.Merge.{Call}
 use Rattle.merge_rules.specs.Meaning.{Merges}
-use Rattle.merge_rules.specs.Demand.{merge_theorem}
+use Rattle.merge_rules.proofs.Demand.{merge_theorem}
 
 -- demand 3: every accepted basis is reduced; for every accepted target the nearest vector is named, the solution of its linear system to the tenth,
 -- and whether it is in the lattice; every accepted file is folded; every number of an entry and in a see word is looked up; and of every two entries

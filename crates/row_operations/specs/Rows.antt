@@ -1,8 +1,6 @@
 -- Rows as three tables: vectors, rows of U and columns of V.
-use Rattle.std.specs.Prelude.{◌≡◌, refl, List, [], ◌∷◌, map, ℕ, zero, suc, ℤ, length, get_or, set, take, drop}
+use Rattle.std.specs.Prelude.{◌≡◌, refl, List, [], ◌∷◌, map, ℕ, ℤ, length, get_or, set}
 use Rattle.std.proofs.Common.{sym, ap, ◌∙◌, arith}
-use Rattle.std.proofs.lemmas.Simd.{map-map}
-use Rattle.std.proofs.lemmas.List.{length-map}
 use Rattle.lattices.specs.Vector.{nth, ◌⊕◌, ◌⊙◌}
 use Rattle.lattices.specs.Greedy.{Row, credited}
 

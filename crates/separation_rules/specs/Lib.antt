@@ -3,5 +3,3 @@
 pub mod Separation
 pub mod Meaning
 pub mod Examples
-pub mod Laws
-pub mod Demand

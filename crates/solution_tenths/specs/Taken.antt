@@ -1,6 +1,6 @@
 -- Parts z of reduced vectors bs are taken from a vector u; h holds the inner products of the vectors with what they leave. Sizes, steps to a
 -- shorter rest with a measure, and what the end of the steps means.
-use Rattle.std.specs.Prelude.{◌≡◌, refl, ◌⊎◌, List, [], ◌∷◌, ℕ, zero, suc, ◌+◌, ◌*◌, ◌-◌, ◌≤◌, ◌<◌, ℤ, pos, negsuc, neg_ℤ, nat_abs, ◌+ℤ◌, ◌-ℤ◌, ◌*ℤ◌, ◌≤ℤ◌, ◌<ℤ◌, length, get_or, take, set}
+use Rattle.std.specs.Prelude.{◌≡◌, refl, List, [], ◌∷◌, ℕ, zero, suc, ◌+◌, ◌*◌, ◌≤◌, ◌<◌, ℤ, pos, negsuc, neg_ℤ, nat_abs, ◌+ℤ◌, ◌-ℤ◌, ◌*ℤ◌, ◌≤ℤ◌, ◌<ℤ◌, length, get_or, take, set}
 use Rattle.std.proofs.Common.{sym, ap, ap₂, ◌∙◌, subst, subst₂, ⊎_elim, le_of_suc-le-suc, not-suc-le-zero, arith, ltb→lt, length-set, length-take, get_or-take, get_or-set_other, SFits}
 use Rattle.std.proofs.Math.Decide.{dec_lt}
 use Rattle.std.specs.Int.Signed.{lt_z_yes, le_z_yes}
@@ -48,7 +48,7 @@ pub record Settled (bs : List Vec) (u : Vec) (w : List ℤ) : Type 0 where
 
 -- ---- inner products are bounded by lengths
 
--- N b ≤ A and N v ≤ K²-as-A give |<b, v>| ≤ K-as-A
+-- N b ≤ A and N v ≤ K²·A give |<b, v>| ≤ K·A
 inner-between : (K A : ℤ) (b v : Vec) → pos 0 <ℤ K → N b ≤ℤ A → N v ≤ℤ (K *ℤ K *ℤ A) → Between (K *ℤ A) (dot b v)
 inner-between K A b v p h k = record {
   low = nn_cancel {n = pos 2 *ℤ K} twice (nn_ring (K ∷ A ∷ N b ∷ N v ∷ dot b v ∷ N (K ⊙ b ⊕ v) ∷ [])

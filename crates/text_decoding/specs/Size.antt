@@ -3,7 +3,7 @@
 use Rattle.std.specs.Prelude.{◌≡◌, Bool, true, false, List, [], ◌∷◌, ◌++◌, map, ℕ, ◌+◌, ◌*◌, ◌≤◌, ltb, ℤ, nat_abs, length}
 use Rattle.std.proofs.Math.Option.{Option, none, some}
 use Rattle.std.proofs.Common.{arith, length-append, ltb-false}
-use Rattle.catalogue_rules.specs.Laws.TextSize.{most_text}
+use Rattle.catalogue_rules.proofs.Laws.TextSize.{most_text}
 use Rattle.integers.specs.All.{All}
 use Rattle.integers.specs.Decimal.{decimal, signed}
 use Rattle.integers.specs.DecimalLaws.{decimal-length}
@@ -14,10 +14,10 @@ use Rattle.lattices.specs.Laws.Refusal.{one-to}
 use Rattle.catalogue_rules.specs.Catalogue.{Form, old, new, most_number, See, Entry, coordinates, most_numbers, most_entries}
 use Rattle.catalogue_rules.specs.Read.{form_of}
 use Rattle.catalogue_rules.specs.Form.{EntryFits, WellFormed}
-use Rattle.catalogue_rules.specs.Laws.Opening.{numbers-room}
-use Rattle.catalogue_rules.specs.Laws.ReadEntries.{SeeFits}
-use Rattle.catalogue_rules.specs.Laws.ReadBack.{sees-fit}
-use Rattle.catalogue_rules.specs.Laws.EntriesAccepted.{few-coordinates, all_near}
+use Rattle.catalogue_rules.proofs.Laws.Opening.{numbers-room}
+use Rattle.catalogue_rules.proofs.Laws.ReadEntries.{SeeFits}
+use Rattle.catalogue_rules.proofs.Laws.ReadBack.{sees-fit}
+use Rattle.catalogue_rules.proofs.Laws.EntriesAccepted.{few-coordinates, all_near}
 use Rattle.text_layout.specs.Fields.{after}
 use Rattle.text_layout.specs.Sizes.{signed-length}
 use Rattle.text_rules.specs.Text.{semicolon, draft_fields, see_fields, entry_fields, entry_text, entries_text, form_text, text_of}

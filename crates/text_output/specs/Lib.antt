@@ -1,4 +1,5 @@
 -- Text as bytes: where it is put, numbers in decimal, the sizes and signs of numbers.
+pub mod Counts
 pub mod Puts
 pub mod Joined
 pub mod Within

@@ -1,6 +1,6 @@
 -- Why digits and values may be read from left to right, and why a value may be cut off at the first number that no i64 has.
 use Rattle.std.specs.Prelude.{◌≡◌, refl, Bool, true, false, cond, List, [], ◌∷◌, ◌++◌, ℕ, zero, suc, ◌+◌, ◌-◌, ◌*◌, ◌≤◌, ◌<◌, ◌^◌, min, length, get_or, drop, take, pos, negsuc, neg_ℤ, ◌-ℤ◌, leb, ltb, eqb}
-use Rattle.std.proofs.Common.{sym, ap, ◌∙◌, arith, drop_of_length-le, length-drop, drop-cons, take-suc, SFits, leb-true, leb-false, eq-eqb, ne_eqb, lt-ltb, le-ltb}
+use Rattle.std.proofs.Common.{sym, ap, ◌∙◌, arith, drop_of_length-le, length-drop, drop-cons, take-suc, SFits, leb-true, eq-eqb, ne_eqb, lt-ltb, le-ltb}
 use Rattle.std.specs.Int.{w64}
 use Rattle.integers.specs.Tests.{both}
 use Rattle.text_parts.specs.declared.Kind.TheVariants.{Unexpected, TooLarge}

@@ -16,9 +16,9 @@ use Rattle.catalogue_rules.specs.Catalogue.{most_number, Head, See, Entry, coord
 use Rattle.catalogue_rules.specs.Word.{Word, see, draft}
 use Rattle.catalogue_rules.specs.Write.{head_words, coordinate_word, draft_words, see_words, entry_words}
 use Rattle.catalogue_rules.specs.Form.{HeadFits, EntryFits}
-use Rattle.catalogue_rules.specs.Laws.EntriesAccepted.{count-coordinates, few-coordinates, all_near}
-use Rattle.catalogue_rules.specs.Laws.ReadEntries.{SeeFits}
-use Rattle.catalogue_rules.specs.Laws.Opening.{numbers-room}
+use Rattle.catalogue_rules.proofs.Laws.EntriesAccepted.{count-coordinates, few-coordinates, all_near}
+use Rattle.catalogue_rules.proofs.Laws.ReadEntries.{SeeFits}
+use Rattle.catalogue_rules.proofs.Laws.Opening.{numbers-room}
 use Rattle.text_parts.specs.declared.Kind.{Kind}
 use Rattle.text_parts.specs.declared.Kind.TheVariants.{Semicolon, End}
 use Rattle.text_parts.specs.Numbers.{leading, read}

@@ -10,10 +10,10 @@ use Rattle.catalogue_rules.specs.Catalogue.{Form, old, new, Entry, accepted}
 use Rattle.catalogue_rules.specs.Read.{read}
 use Rattle.catalogue_rules.specs.Write.{entry_words, entries_words, catalogue_words, write}
 use Rattle.catalogue_rules.specs.Form.{EntryFits, OneForm}
-use Rattle.catalogue_rules.specs.Laws.WellFormed.{well_formed}
-use Rattle.catalogue_rules.specs.Laws.ReadEntries.{SeeFits}
-use Rattle.catalogue_rules.specs.Laws.ReadBack.{sees-fit}
-use Rattle.catalogue_rules.specs.Laws.RoundTrip.{same_bytes}
+use Rattle.catalogue_rules.proofs.Laws.WellFormed.{well_formed}
+use Rattle.catalogue_rules.proofs.Laws.ReadEntries.{SeeFits}
+use Rattle.catalogue_rules.proofs.Laws.ReadBack.{sees-fit}
+use Rattle.catalogue_rules.proofs.Laws.RoundTrip.{same_bytes}
 use Rattle.text_rules.specs.Text.{form_text, entries_text, text_of}
 use Rattle.text_rules.specs.Encoding.{line_from, lines_of, content, is_empty, is_new, form_told, entry_lines, is_wrong, listed, line_wrong, line_entry, any_wrong, entries_from, joined, ended, told_wrong, told_entries, encoded}
 use Rattle.text_rules.specs.LineBack.{line_of, text-line, line-back}

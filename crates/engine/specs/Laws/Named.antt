@@ -28,7 +28,7 @@ use Rattle.greedy_steps.specs.Fine.{fine-greedy}
 use Rattle.greedy_steps.specs.Room.{short-rows}
 use Rattle.engine.specs.Laws.Tenths.{tenths-padded}
 use Rattle.engine.specs.Laws.Begin.{first_fine}
-use Rattle.engine.specs.Laws.Finish.{R, accept, some, outs-count, outs-full, outs-rows, last-vectors, last-reduced}
+use Rattle.engine.specs.Laws.Finish.{R, accept, outs-count, outs-full, outs-rows, last-vectors, last-reduced}
 
 -- the answer from the coefficients, the tenths and what is left of the target
 unfoldable pub named : Vec → List ℤ → List ℤ → Vec → NearestVector

@@ -1,15 +1,15 @@
 -- The solution on vectors with zeros behind their coordinates is the solution on the vectors.
 use Rattle.std.specs.Prelude.{◌≡◌, List, [], ◌∷◌, map, ℕ, ◌≤◌, ℤ, ◌*ℤ◌, length}
-use Rattle.std.proofs.Common.{sym, ap, ◌∙◌, arith}
+use Rattle.std.proofs.Common.{ap, ◌∙◌, arith}
 use Rattle.std.proofs.Math.ListN.{length-map}
 use Rattle.integers.specs.All.{All}
-use Rattle.lattices.specs.Vector.{Vec, dot, comb}
+use Rattle.lattices.specs.Vector.{Vec, dot}
 use Rattle.lattices.specs.Laws.Vector.{◌≈◌, ≈_sym, ≈-dot}
 use Rattle.lattices.specs.Answer.{padded}
 use Rattle.lattices.specs.Laws.Answer.{padded-≈}
 use Rattle.greedy_reduction.specs.Start.{Coordinates}
 use Rattle.greedy_reduction.specs.Padding.{comb-padded}
-use Rattle.solutions.specs.Solution.{Solution, InTenths, PaddedTenths}
+use Rattle.solutions.specs.Solution.{Solution, PaddedTenths}
 
 module _ (n m : ℕ) (h : m ≤ n) (bs : List Vec) (full : Coordinates m bs) (t : Vec) (e : length t ≡ m) where
   -- the same inner products

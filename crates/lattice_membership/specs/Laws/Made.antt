@@ -26,7 +26,7 @@ use Rattle.input_checks.specs.Determinant.{unit_rows, cofactors_of}
 use Rattle.input_checks.specs.FirstMinor.{Chosen, FirstMinor, all-zero, cofactors-give, table-small}
 use Rattle.lattice_membership.specs.declared.Lattice.{Lattice}
 use Rattle.lattice_membership.specs.Cofactor.{cofactor_rows}
-use Rattle.lattice_membership.specs.Known.{ReducedBasis, Known, Cofactors, left_in, vectors_in, row_in}
+use Rattle.lattice_membership.specs.Known.{KnownChoice, ReducedBasis, Known, Cofactors, left_in, vectors_in, row_in}
 use Rattle.lattice_membership.specs.Laws.Cofactors.{cofactors-small, first-four}
 
 pub rows_back : (l : List Vec) → map (λ row. row.at) (map vector_row l) ≡ l
@@ -92,8 +92,6 @@ module _ (d : ℕ) (b : List Vec) (r : ReducedBasis d b) (four-rows : length b �
     short = subst (Short (pos 400000000)) (sym vs) (short-from 400000000 d 0 b r.short);
     below = subst (λ at. (i : ℕ) → i < most_vectors → get_or at i 0 < most_coordinates) (sym e-choice) first_below;
     index = s;
-    count = count-first ∙ sym e-d;
-    taken = ap₂ take e-d e-choice ∙ taken;
     at-index = e-minor ∙ chosen.minor ∙ ap (λ l. volume l s) (sym vs);
     nonzero = λ e. has-minor r k (sym e-minor ∙ e);
     rows = λ j h. subst (λ bs. Cofactors bs l.choice s j (row_in l j)) (sym vs) (subst (λ at. Cofactors (take d b) at s j (row_in l j)) (sym e-choice) (subst (Cofactors (take d b) m.at s j) (sym (row j (subst (λ n. j < n) e-d h))) (cofactors-known j (subst (λ n. j < n) e-d h))));
@@ -110,6 +108,15 @@ module _ (d : ℕ) (b : List Vec) (r : ReducedBasis d b) (four-rows : length b �
         give = cofactors-give m.at d r.few long s count-first taken (take d b) vectors-count j h;
         small = cofactors-small table (table-small m.at d b r.short) j;
       }
+
+  pub made-chosen : (l : Lattice) → l.d ≡ d → l.vectors ≡ map vector_row b → l.choice ≡ m.at → l.minor ≡ m.minor
+      → l.cofactors ≡ cofactor_rows table d → most_vectors ≤ length m.at → KnownChoice l
+  unfolding s made
+  made-chosen l e-d e-vectors e-choice e-minor e-rows long = record {
+    known = made l e-d e-vectors e-choice e-minor e-rows long;
+    count = count-first ∙ sym e-d;
+    taken = ap₂ take e-d e-choice ∙ taken;
+  }
 
 -- ---- the basis that a reduction leaves: vectors filled up to the width
 

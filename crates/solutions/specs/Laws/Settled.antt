@@ -66,7 +66,7 @@ between-cancel {M} {x} n p h = record {
   high = nn_cancel p (nn_ring (n ∷ M ∷ x ∷ []) h.high (search reads) (search reads) tt);
 }
 
--- ---- 4·<h, Σ w_j·c_j> ≤ k·B·M·s, where |2·w_j| ≤ B, |2·<h, c_j>| ≤ M-as-N(c_j) and N(c_j) ≤ s
+-- ---- 4·<h, Σ w_j·c_j> ≤ k·B·M·s, where |2·w_j| ≤ B, |2·<h, c_j>| ≤ M·N(c_j) and N(c_j) ≤ s
 
 -- the inner product of h with each vector, twice, is at most M times its squared length
 abbrev pub Slight : ℤ → Vec → List Vec → Type 0
@@ -172,7 +172,7 @@ pair-between {b} {c} p = record {
   high = nn_ring (N c ∷ dot b c ∷ []) (p.right (negsuc 0) refl) (search reads depth 20) (search reads depth 20) tt;
 }
 
--- <a·h + k·b, c> where |2·<h, c>| ≤ M-as-N(c), |k| ≤ K
+-- <a·h + k·b, c> where |2·<h, c>| ≤ M·N(c), |k| ≤ K
 slight-sum : (h b : Vec) (M : ℤ) {v : Vec} {K : ℤ} (a k : ℤ) → NN a → Between K k → v ≈ a ⊙ h ⊕ k ⊙ b → (bs : List Vec) → Slight M h bs → Paired b bs → Slight (a *ℤ M +ℤ K) v bs
 slight-sum h b M a k n i e [] g p = tt
 slight-sum h b M {K = K} a k n i e (c ∷ bs) g p = (

@@ -1,8 +1,7 @@
 -- Membership: the nearest lattice vector leaves nothing of v exactly when v, but for trailing zeros, is a combination with whole coefficients.
-use Rattle.std.specs.Prelude.{◌≡◌, ◌⊎◌, Bool, true, List, [], ◌∷◌, ◌≤◌, ℤ, pos, negsuc, ◌+ℤ◌, ◌*ℤ◌, length, ◌≤ℤ◌, ◌<ℤ◌}
+use Rattle.std.specs.Prelude.{◌≡◌, ◌⊎◌, true, List, [], ◌∷◌, ◌≤◌, ℤ, pos, negsuc, ◌+ℤ◌, ◌*ℤ◌, length, ◌≤ℤ◌, ◌<ℤ◌}
 use Rattle.std.proofs.Common.{sym, ◌∙◌, subst, inl, inr}
 use Rattle.std.proofs.lemmas.Bool.{false≢true}
-use Rattle.std.specs.Int.Signed.{le_z}
 use Rattle.integers.specs.Identity.{by_ring, by-eq, reads}
 use Rattle.integers.specs.Order.{≤ℤ-or-<ℤ, ≤ℤ_antisymm, le_z_true, ≤ℤ-le_z}
 use Rattle.integers.specs.Lex.{below-<}

@@ -1,22 +1,22 @@
 -- Membership by Cramer's rule on one minor that is not zero.
 use Rattle.std.specs.Prelude.{◌≡◌, refl, ◌≢◌, ◌↔◌, ℕ, zero, suc, ◌+◌, ◌*◌, ◌-◌, ◌/◌, ◌≤◌, ◌<◌, ℤ, pos, negsuc, neg_ℤ, nat_abs, ◌+ℤ◌, ◌-ℤ◌, ◌*ℤ◌, length, get_or, ◌≤ℤ◌, ◌<ℤ◌}
-use Rattle.std.proofs.Common.{sym, ap, ap₂, ◌∙◌, subst, zero-lt-suc, arith}
+use Rattle.std.proofs.Common.{sym, ap, ◌∙◌, subst, zero-lt-suc, arith}
 use mathlib.Core.List.{List, [], ◌∷◌, ◌++◌, reverse, reverse-cons}
 use Rattle.std.proofs.Math.Decide.{dec_lt}
 use Rattle.std.proofs.Math.Arith.{digits_div}
 use Rattle.std.proofs.Math.ListN.{get_or-eq_default, get_or-append}
 use Rattle.std.proofs.lemmas.List.{length-reverse}
-use Rattle.std.specs.Int.Signed.{quot_z, lt_z_yes, ≤ℤ_refl}
+use Rattle.std.specs.Int.Signed.{quot_z, lt_z_yes}
 use Rattle.integers.specs.Identity.{by_ring, reads}
 use Rattle.integers.specs.ListLaws.{same}
 use Rattle.integers.specs.Order.{≤ℤ_trans, *ℤ-cancel-≤}
-use Rattle.integers.specs.Certificate.{NN, ◌⊞◌, ◌⊠◌, nn-pos, nn-sq, le, lt, eq, by_nn}
+use Rattle.integers.specs.Certificate.{◌⊞◌, ◌⊠◌, nn-pos, nn-sq, le, lt, eq, by_nn}
 use Rattle.integers.specs.Size.{root}
 use Rattle.lattices.specs.Vector.{Vec, N, nth, dot, comb, ◌⊕◌, ◌⊙◌, ◌⊖◌, In}
-use Rattle.lattices.specs.Laws.Vector.{bilinear, dot_comm, nil-dot, N-nonneg, ◌≈◌, ≈_refl, ≈_sym, ≈_trans, ≈-⊕, ≈-N, comb_cons, comb-none, comb-reverse}
+use Rattle.lattices.specs.Laws.Vector.{bilinear, dot_comm, nil-dot, N-nonneg, ◌≈◌, ≈-N, comb_cons, comb-reverse}
 use Rattle.lattices.specs.Volume.{Index, volume}
 use Rattle.exterior_algebra.specs.Cramer.{put, cramer}
-use Rattle.successive_minima.specs.Reduced.{Top, Descending, Reduced}
+use Rattle.successive_minima.specs.Reduced.{Descending, Reduced}
 use Rattle.successive_minima.specs.Laws.ReducedLaws.{pinned}
 
 -- ---- an exact division

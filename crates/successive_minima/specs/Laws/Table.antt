@@ -1,6 +1,6 @@
 -- The table of −1, 0, 1: for at most three vectors with the pairwise inequalities, a list that no list of such entries improves
 -- has the least value of all, ties included (`table-least`).
-use Rattle.std.specs.Prelude.{◌≡◌, refl, Bool, true, false, List, [], ◌∷◌, ℕ, zero, suc, ◌+◌, ◌≤◌, ◌<◌, ℤ, pos, negsuc, neg_ℤ, nat_abs, ◌+ℤ◌, ◌*ℤ◌, ◌<ℤ◌, length, get_or, take}
+use Rattle.std.specs.Prelude.{◌≡◌, refl, Bool, false, List, [], ◌∷◌, ℕ, zero, suc, ◌+◌, ◌≤◌, ◌<◌, ℤ, pos, negsuc, neg_ℤ, nat_abs, ◌+ℤ◌, ◌*ℤ◌, length, get_or, take}
 use Rattle.std.proofs.Math.Path.{sym}
 use Rattle.std.proofs.Common.{ap, ◌∙◌, subst, ⊎_elim, one-mul, le_refl, arith, length-take}
 use Rattle.integers.specs.Ring.{*ℤ-+ℤ}
@@ -15,8 +15,8 @@ use Rattle.lattices.specs.Vector.{Vec, N, dot, ◌⊕◌, ◌⊖◌, ◌⊙◌, 
 use Rattle.lattices.specs.Laws.Vector.{◌≈◌, ≈_refl, ≈_trans, ≈_of_≡, ≈-dot, bilinear, dot_comm, nil-dot}
 use Rattle.successive_minima.specs.Laws.Values.{Least, change}
 use Rattle.successive_minima.specs.Laws.ValueLaws.{change-⊕, change-zero, least_of}
-use Rattle.successive_minima.specs.Laws.Digits.{Bounded, bounded_cons, zeros, not-below-nonneg, number, falls}
-use Rattle.successive_minima.specs.Laws.Grid.{lists, in_lists, lists-are}
+use Rattle.successive_minima.specs.Laws.Digits.{Bounded, bounded_cons, zeros, not-below-nonneg}
+use Rattle.successive_minima.specs.Laws.Grid.{lists, in_lists}
 use Rattle.successive_minima.specs.Laws.Descent.{Six, form, descent}
 use Rattle.successive_minima.specs.Laws.Pairs.{Pairs, pair-sign, pairs-at, six}
 

@@ -1,7 +1,7 @@
 -- Laws of the change of value, over any number of vectors: how it adds, and that a list is of least value exactly when no change
 -- from it is below zero. Distance and tie rule are one order here, so one argument proves both.
 use Rattle.std.specs.Prelude.{◌≡◌, false, ℕ, zero, suc, ℤ, pos, negsuc, ◌+ℤ◌, ◌-ℤ◌, ◌*ℤ◌, ◌≤ℤ◌, length}
-use Rattle.std.proofs.Common.{sym, ap, ap₂, ◌∙◌, subst, arith}
+use Rattle.std.proofs.Common.{sym, ap, ap₂, ◌∙◌, arith}
 use mathlib.Core.List.{List, [], ◌∷◌, tail}
 use Rattle.integers.specs.Identity.{by_ring, reads}
 use Rattle.integers.specs.Certificate.{NN, by_nn, nn-pos, ◌⊠◌}

@@ -1,0 +1,18 @@
+-- Four stores, lowest byte first.
+use native.Mathlib.Numerals.{towards_suc}
+use native.Mathlib.Omega.{arith}
+use lib.ListN.{length-set}
+use Rattle.catalogue_writer.specs.Over.{over-one}
+use Rattle.catalogue_writer.proofs.put_word.Goals as goal
+
+pub bounds-out-at-2 : goal.bounds-out-at-2
+bounds-out-at-2 c = simp length-set (omega arith)
+
+pub bounds-out-at-3 : goal.bounds-out-at-3
+bounds-out-at-3 c = simp length-set (omega arith)
+
+pub bounds-out-at-4 : goal.bounds-out-at-4
+bounds-out-at-4 c = simp length-set (omega arith)
+
+pub returns : goal.returns
+returns c = simp towards_suc (simp towards_suc at (over-one c.args.out.now c.args.k c.args.w c.requires))

@@ -1,0 +1,10 @@
+-- The lines that are answered end within the bytes, and the answers within the output.
+use Rattle.std.proofs.Common.{length, ◌-◌, ◌≤◌, ◌≡◌}
+use Rattle.cli_replies.specs.Replies.{most_listed}
+use Rattle.cli_requests.proofs.answer_lines.Given as goal
+
+abbrev pub invariant-loop-from : goal.invariant-loop-from
+invariant-loop-from g l = (l.from ≤ length l.bytes) × (l.at ≤ length l.out) × (length l.out ≡ length l.initial.out) × (length l.numbers ≡ most_listed) × (length l.target ≡ most_listed)
+
+abbrev pub decreases-loop-from : goal.decreases-loop-from
+decreases-loop-from g l = length l.bytes - l.from

@@ -1,0 +1,32 @@
+use mathlib.Core.Path.{◌≡◌, ap, ap₂, ◌∙◌}
+use mathlib.Core.List.{[]}
+use native.Mathlib.Omega.{arith}
+use lib.IntN.{pos}
+use lib.ListN.{set, take}
+use mir.Syntax.{w64}
+use mir.Facts.{to_z-of_z}
+use Rattle.integers.specs.FilledLaws.{filled_more}
+use Rattle.lattices.specs.Vector.{dot}
+use Rattle.gram_matrix.specs.Formed.{products}
+use borrow.Author.Rules.{rules}
+use Rattle.gram_matrix.proofs.products.Goals as goal
+
+pub loop-j-init : goal.loop-j-init
+loop-j-init c = (search rules, c.requires.r_value)
+
+pub dot-requires : goal.dot-requires
+dot-requires c = record {
+  by_index = λ i. c.requires.by_index c.loop-j.j i (search rules);
+  by_index_2 = c.requires.by_index_2;
+}
+
+pub loop-j-preserved : goal.loop-j-preserved
+loop-j-preserved c = (
+  search rules,
+  ap₂ (λ r n. set r c.loop-j.j n) c.loop-j.invariant.1 (to_z-of_z {w = w64} (record { sfits = c.dot.type_inv }) ∙ c.dot.ensures)
+      ∙ filled_more (pos 0) 4 (λ w. dot w c.args.v) c.args.b.now c.loop-j.j [] (omega (arith, c.requires.d_bound)) (omega (arith, c.requires.d_bound, c.requires.b_len)),
+)
+
+pub returns : goal.returns
+returns c = let e : c.loop-j.j ≡ c.args.d = search rules in
+    c.loop-j.invariant.1 ∙ ap (λ j. products (take j c.args.b.now) c.args.v) e

@@ -1,0 +1,9 @@
+-- `less` takes a product away a turn.
+use Prim.Native.Nat.{◌≤◌, ◌-◌}
+use Rattle.linear_systems.proofs.less.Given as goal
+
+abbrev pub invariant-loop-i : goal.invariant-loop-i
+invariant-loop-i l = (l.i ≤ 4)
+
+abbrev pub decreases-loop-i : goal.decreases-loop-i
+decreases-loop-i l = 4 - l.i

@@ -1,0 +1,9 @@
+-- `solution` eliminates row by row, and inserts from the last unknown on.
+use Prim.Native.Nat.{◌≤◌, ◌-◌}
+use Rattle.linear_systems.proofs.solution.Given as goal
+
+abbrev pub invariant-loop-i : goal.invariant-loop-i
+invariant-loop-i l = l.i ≤ 4
+
+abbrev pub decreases-loop-i : goal.decreases-loop-i
+decreases-loop-i l = 4 - l.i

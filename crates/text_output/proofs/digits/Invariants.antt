@@ -1,0 +1,12 @@
+-- What is counted and what is left make all digits.
+use mathlib.Core.Path.{◌≡◌}
+use Prim.Native.Nat.{◌+◌}
+use lib.ListN.{length}
+use Rattle.integers.specs.Decimal.{decimal}
+use Rattle.text_output.proofs.digits.Given as goal
+
+abbrev pub invariant-loop-rest : goal.invariant-loop-rest
+invariant-loop-rest l = l.count + length (decimal l.rest) ≡ 1 + length (decimal l.n)
+
+abbrev pub decreases-loop-rest : goal.decreases-loop-rest
+decreases-loop-rest l = l.rest

@@ -1,0 +1,10 @@
+-- Each way through the test gives its flag.
+use native.Mathlib.Omega.{arith}
+use borrow.Author.Tests.{le-leb, lt-leb}
+use Rattle.text_parts.proofs.numbers.is_digit.Goals as goal
+
+pub returns-then-b-ge48 : goal.returns-then-b-ge48
+returns-then-b-ge48 c = rw (le-leb 48 c.args.b (omega arith))
+
+pub returns-else-b-ge48 : goal.returns-else-b-ge48
+returns-else-b-ge48 c = rw (lt-leb 48 c.args.b (omega arith))

@@ -1,0 +1,11 @@
+-- n numbers are read, and they lie before at.
+use Prim.Native.Nat.{◌-◌}
+use lib.ListN.{length}
+use Rattle.text_parts.specs.PartLaws.{Reading}
+use Rattle.text_parts.proofs.read_part.Given as goal
+
+abbrev pub invariant-loop-t : goal.invariant-loop-t
+invariant-loop-t l = Reading l.s l.initial.out l.out l.n l.at
+
+abbrev pub decreases-loop-t : goal.decreases-loop-t
+decreases-loop-t l = length l.out - l.n
