@@ -18,9 +18,9 @@ extern "C" {
 #endif
 
 #define RAGHYMTOS_VERSION_MAJOR 0
-#define RAGHYMTOS_VERSION_MINOR 9
+#define RAGHYMTOS_VERSION_MINOR 8
 #define RAGHYMTOS_VERSION_PATCH 0
-#define RAGHYMTOS_VERSION "0.9.0"
+#define RAGHYMTOS_VERSION "0.8.0"
 
 /* A name that ends in _AT is an index into an answer, one that ends in _COUNT a number of numbers,
  * one that begins with MOST a limit. */
@@ -108,8 +108,7 @@ enum raghymtos_refusal {
     RAGHYMTOS_NO_ENTRY = 17,
     RAGHYMTOS_DRAFT_LOAD = 18,   /* place: the mark */
     RAGHYMTOS_NUMBER_LONG = 19,  /* place: the head */
-    RAGHYMTOS_SIZE_BITS = 20,    /* place: the head's size */
-    RAGHYMTOS_MERGE_CLOSED = 21  /* of the command merge; no function declared here gives it */
+    RAGHYMTOS_SIZE_BITS = 20     /* place: the head's size */
 };
 
 /* What a refusal says, without its place; never null. */
@@ -136,7 +135,6 @@ static inline const char *raghymtos_refusal_text(int64_t refusal) {
     case RAGHYMTOS_DRAFT_LOAD: return "a draft mark whose load is not 1";
     case RAGHYMTOS_NUMBER_LONG: return "a number over 1048575 has no place in the old form";
     case RAGHYMTOS_SIZE_BITS: return "a size word with bits above d and m";
-    case RAGHYMTOS_MERGE_CLOSED: return "the merge is closed";
     default: return "a refusal that this header does not know";
     }
 }

@@ -305,11 +305,11 @@ static void separation(void) {
 
 /* every refusal has a text of its own, and a number that is none has one too */
 static void texts(void) {
-    for (int64_t i = RAGHYMTOS_ACCEPTED; i <= RAGHYMTOS_MERGE_CLOSED + 1; i++)
+    for (int64_t i = RAGHYMTOS_ACCEPTED; i <= RAGHYMTOS_SIZE_BITS + 1; i++)
         for (int64_t j = RAGHYMTOS_ACCEPTED; j < i; j++)
             expect(strcmp(raghymtos_refusal_text(i), raghymtos_refusal_text(j)) != 0, raghymtos_refusal_text(i));
     expect(strcmp(raghymtos_refusal_text(RAGHYMTOS_DEPENDENT), "the vectors are dependent") == 0, "5 says dependent");
-    expect(strcmp(raghymtos_refusal_text(-1), raghymtos_refusal_text(RAGHYMTOS_MERGE_CLOSED + 1)) == 0, "-1 is no refusal");
+    expect(strcmp(raghymtos_refusal_text(-1), raghymtos_refusal_text(RAGHYMTOS_SIZE_BITS + 1)) == 0, "-1 is no refusal");
 }
 
 static void version(void) {

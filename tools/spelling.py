@@ -56,7 +56,9 @@ TURNS = re.compile(r"(old|new):| *[0-9]+ crates?|\s*[0-9]+ [a-z_]+/specs/")
 
 def is_lemma_file(path):
     """specs/, and the files of proofs/ that are no function's."""
-    return path.endswith(".antt") and os.path.basename(path) not in ("Proof.antt", "Answers.antt", "Invariants.antt", "Lib.antt")
+    if not path.endswith(".antt") or os.path.basename(path) == "Lib.antt":
+        return False
+    return os.sep + "specs" + os.sep in path or os.path.basename(path) not in ("Proof.antt", "Answers.antt", "Invariants.antt")
 
 
 def code_of(line):
@@ -85,8 +87,22 @@ def snake(word):
     return "_".join(p[:1].lower() + p[1:] if p[1:2].islower() or len(p) == 1 else p.lower() for p in parts)
 
 
+def foreign(top):
+    """Names that some file takes from a module outside of the repository: they are not the repository's to spell."""
+    own = set(os.listdir(os.path.join(top, "crates")))
+    found = set()
+    for path in files(top):
+        with open(path, encoding="utf-8") as f:
+            for module, group in re.findall(r"use ([^\s{;]+)\.\{([^}]*)\}", f.read()):
+                if not (module.startswith("Rattle.") and module.split(".")[1] in own):
+                    found |= {item.strip().split(" as ")[0].strip() for item in group.split(",")}
+    return found
+
+
 def table(top):
     found = declarations(top)
+    for name in foreign(top):
+        found.pop(name, None)
     plain = {snake(n) for n in found if "-" not in n} | STD
     rows = {}
     for name in found:

@@ -1,5 +1,5 @@
 //! A million mixed reductions by the library, by the command line from file to file, and by the command line from pipe to pipe, in turns.
-//! Run from the project's root, after `rt staticlib exports` and `rt check raghymtos`. Argument, optional: how many requests.
+//! Run from the project's root, after `rust/archive` and `samples/build`. Argument, optional: how many requests.
 
 #[allow(dead_code)]
 #[path = "../src/baseline.rs"]

@@ -46,14 +46,12 @@ pub enum Refusal {
     NumberLong,
     /// 20: a head's size has bits above d and m.
     SizeBits,
-    /// 21: the merge is closed. No function of this crate gives it: the command `merge` does.
-    MergeClosed,
     /// A number that this version does not know: the archive is newer than the crate.
     Unknown(i64),
 }
 
 /// The refusals in the order of their numbers, with what they say.
-const KNOWN: [(Refusal, &str); 21] = [
+const KNOWN: [(Refusal, &str); 20] = [
     (Refusal::Vectors, "d is not 1 to 4"),
     (Refusal::Coordinates, "m is not 1 to 8"),
     (Refusal::Count, "there are not d times m numbers"),
@@ -98,7 +96,6 @@ const KNOWN: [(Refusal, &str); 21] = [
         "a number over 1048575 has no place in the old form",
     ),
     (Refusal::SizeBits, "a size word with bits above d and m"),
-    (Refusal::MergeClosed, "the merge is closed"),
 ];
 
 impl Refusal {
