@@ -1,13 +1,13 @@
 -- The folded catalogue as the code makes it: the standing entries of the first k entries, printed one after the other.
-use Rattle.std.specs.Prelude.{◌≡◌, refl, ◌≢◌, Bool, true, false, ℕ, ◌+◌, ◌≤◌, ◌<◌, eqb, ℤ, pos, length, get_or, set, take, replicate}
+use Rattle.std.specs.Prelude.{◌≡◌, refl, ◌≢◌, Bool, true, false, ℕ, ◌+◌, ◌≤◌, ◌<◌, eqb, ℤ, pos, length, get_or, set, take, replicate, Option}
 use Rattle.std.proofs.Common.{sym, ◌∙◌, add-one, arith, length-append, take-suc, take_all, eq-eqb, ne_eqb}
 use Rattle.std.proofs.Math.Path.{ap, ap₂}
 use mathlib.Core.List.{List, [], ◌∷◌, ◌++◌, map, append-nil}
-use Rattle.std.proofs.Math.Option.{Option}
+use Rattle.std.proofs.Math.Option as maybe
 use Rattle.std.proofs.lemmas.List.{length-map}
 use Rattle.integers.specs.AllLaws.{map-append}
 use Rattle.catalogue_rules.specs.Catalogue as definition
-use Rattle.catalogue_rules.specs.Catalogue.{See, coordinates, see_number, most_entries, most_numbers}
+use Rattle.catalogue_rules.specs.Catalogue.{See, coordinates, most_entries, most_numbers}
 use Rattle.catalogue_rules.specs.Form.{WellFormed}
 use Rattle.fold_rules.specs.Fold.{Stood, stood_of, closed_list, stands, standing_in, carried, printed, printed_in}
 use Rattle.fold_rules.proofs.Laws.SameLattice.{Sound}
@@ -15,21 +15,21 @@ use Rattle.catalogue_records.specs.declared.Catalogue.{Catalogue}
 use Rattle.catalogue_records.specs.declared.Form.{Form}
 use Rattle.catalogue_records.specs.declared.Form.TheVariants.{Old, New}
 use Rattle.catalogue_records.specs.declared.Entry.{Entry}
-use Rattle.catalogue_records.specs.Stored.{no_entry, stored_form, sees, see_place, entry_of}
+use Rattle.catalogue_records.specs.declared.See as records
+use Rattle.catalogue_records.specs.Stored.{no_entry, stored_form, stored_see, entry_of}
 use Rattle.integers.specs.Filled.{filled}
 use Rattle.integers.specs.FilledLaws.{filled_next, map_snoc}
-use Rattle.catalogue_records.specs.Catalogues.{stored, holding}
-use Rattle.catalogue_records.specs.EntriesIn.{form_in, entry_in, entries_in}
+use Rattle.catalogue_records.specs.Catalogues.{stored, catalogue_of}
+use Rattle.catalogue_records.specs.EntriesIn.{form_in, entry_in}
 use Rattle.lattice_membership.specs.Known.{Left}
-use Rattle.catalogue_fold.specs.declared.printing.Way.{Way}
 use Rattle.catalogue_standing.specs.ReducedEntry.{reduced_entry}
 use Rattle.catalogue_fold.specs.Spread.{kept-vectors}
-use Rattle.catalogue_fold.specs.Printing.{way_of, printed_as}
+use Rattle.catalogue_fold.specs.Printing.{printed_as}
 use Rattle.catalogue_standing.specs.Standing.{StandingPlaces, stands-place}
 
 -- the entries that the fold prints, in the array
-abbrev pub folded_of : Catalogue → Catalogue
-folded_of c = let ps = printed_in (closed_list (entries_in c)) in holding (length ps) (stored ps)
+abbrev pub folded_of : List Entry → Catalogue
+folded_of l = catalogue_of (printed_in (closed_list (map entry_in l)))
 
 -- one entry more: it is printed when it stands
 only : Bool → Stood → List Stood
@@ -117,10 +117,10 @@ form-stored Old = refl
 form-stored New = refl
 
 module _ (es : List definition.Entry) (e : Entry) (s : Sound (entry_in e)) where
-  made : Form → List ℤ → Option See → Entry
-  made f l o = record { form = f; number = e.number; d = e.d; m = e.m; place = e.place; draft = e.draft; sees = sees o; see = see_number o; at = see_place o; coordinates = filled (pos 0) most_numbers l }
+  made : Form → List ℤ → maybe.Option See → Entry
+  made f l o = record { form = f; number = e.number; d = e.d; m = e.m; place = e.place; draft = e.draft; see = stored_see o; coordinates = filled (pos 0) most_numbers l }
 
-  pub printed-is : {k : Left} {w : Way} → k ≡ reduced_entry (entry_in e) → w ≡ way_of (carried (closed_list es) (stood_of es (entry_in e)))
+  pub printed-is : {k : Left} {w : Option records.See} → k ≡ reduced_entry (entry_in e) → w ≡ stored_see (carried (closed_list es) (stood_of es (entry_in e)))
       → printed_as e k w ≡ entry_of (printed (closed_list es) (stood_of es (entry_in e)))
   unfolding made
   printed-is q r =

@@ -15,7 +15,7 @@ use Rattle.fold_rules.proofs.Laws.SameLattice.{Sound, entry-full}
 use Rattle.integers.specs.Filled.{filled}
 use Rattle.integers.specs.FilledLaws.{filled_next, map_snoc}
 use Rattle.lattice_membership.specs.Known.{Left}
-use Rattle.catalogue_standing.specs.ReducedEntry.{reduced_entry, rows_in, basis_in, basis-are, rows-table, length-table}
+use Rattle.catalogue_standing.specs.ReducedEntry.{reduced_entry, basis_in, basis-are, rows-table, length-table}
 use Rattle.lattices.specs.Refusal.{most_vectors, most_coordinates}
 
 sets_snoc : (out : List ℤ) (n : ℕ) (l : List ℤ) (x : ℤ) → set (sets out n l) (n + length l) x ≡ sets out n (l ++ (x ∷ []))
@@ -44,8 +44,8 @@ put-filled z n l (x ∷ v) h =
 pub record Full (k : Left) : Type 0 where
   pub few : k.d ≤ most_vectors
   pub narrow : k.m ≤ most_coordinates
-  pub rows : (i : ℕ) → i < k.d → length (get_or (rows_in k) i []) ≡ most_coordinates
-  pub count : k.d ≤ length (rows_in k)
+  pub rows : (i : ℕ) → i < k.d → length (get_or k.vectors i []) ≡ most_coordinates
+  pub count : k.d ≤ length k.vectors
 
 -- the first i rows, cut to m numbers
 abbrev pub cut : ℕ → List Vec → ℕ → List ℤ

@@ -1,56 +1,39 @@
 // Which see word each standing entry carries.
 ghost use Rattle.std.specs.Prelude.{◌≡◌, map, ◌≤◌, length};
-ghost use Rattle.catalogue_records.specs.EntriesIn.{entry_in, entries_in};
+ghost use Rattle.catalogue_records.specs.EntriesIn.{entry_in};
 ghost use Rattle.catalogue_records.specs.Entries.{beyond};
 ghost use Rattle.catalogue_standing.specs.Standing.{StandingPlaces};
 ghost use Rattle.catalogue_standing.specs.ReducedEntries.{WasRead};
-ghost use Rattle.catalogue_fold.specs.Carrying.{earlier, considered, CarriedWays};
+ghost use Rattle.catalogue_fold.specs.Carrying.{considered, CarriedWays};
 
-use super::printing::{Way, nowhere, way_of};
-use catalogue_records::Catalogue;
+use super::printing::way_of;
+use catalogue_records::{Catalogue, Entry, See};
 
-// The earlier of two ways, unless it leads nowhere.
-fn earlier(before: Way, w: Way) -> Way
-    ensures { result ≡ earlier before w }
-{
-    if before.sees {
-        return before;
-    }
-    w
-}
-
-// The way of one word more: that of the standing entry itself is considered before the others.
-fn considered(before: Way, w: Way, own: bool) -> Way
+// The earlier of two words, unless there is none; but that of the standing entry itself comes before the others.
+fn considered(before: Option<See>, w: Option<See>, own: bool) -> Option<See>
     ensures { result ≡ considered before w own }
 {
-    if own {
-        return earlier(w, before);
-    }
-    earlier(before, w)
+    if own { w.or(before) } else { before.or(w) }
 }
 
 // For the place of each standing entry the way of its own see word or, where that leads nowhere, of the first one, in file order, among the
 // entries folded into it that leads to another standing entry. Each word is followed once.
 pub(crate) fn carried_ways(
-    c: Catalogue,
+    entries: &[Entry],
     numbers: &[u32],
     standing: &[usize],
-) -> [Way; Catalogue::MOST_ENTRIES]
-    requires was_read { WasRead c }
-    requires numbers_value { numbers.now ≡ map (λ e. e.number) c.entries }
-    requires count_in_bounds { c.count ≤ length standing.now }
-    requires standing_places { StandingPlaces (entries_in c) (entry_in beyond) standing.now }
-    ensures { CarriedWays (entries_in c) (entry_in beyond) standing.now result }
+) -> [Option<See>; Catalogue::MOST_ENTRIES]
+    requires was_read { WasRead entries.now }
+    requires numbers_value { numbers.now ≡ map (λ e. e.number) entries.now }
+    requires count_in_bounds { length entries.now ≤ length standing.now }
+    requires standing_places { StandingPlaces (map entry_in entries.now) (entry_in beyond) standing.now }
+    ensures { CarriedWays (map entry_in entries.now) (entry_in beyond) standing.now result }
 {
-    let none = nowhere();
-    let mut ways = [none; Catalogue::MOST_ENTRIES];
-    for k in 0..c.count {
-        let e = c.entries[k];
+    let mut ways = [None; Catalogue::MOST_ENTRIES];
+    for (k, e) in entries.iter().enumerate() {
         let s = standing[k];
-        let own = numbers[s];
-        let w = way_of(e, own, numbers, standing, c.count);
-        let before = ways[s];
-        ways[s] = considered(before, w, k == s);
+        let w = way_of(e, numbers[s], numbers, standing);
+        ways[s] = considered(ways[s], w, k == s);
     }
     ways
 }

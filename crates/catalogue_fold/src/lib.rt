@@ -1,51 +1,37 @@
 // The folded catalogue: the standing entries in file order, each as it is printed.
 #![tactic(auto)]
 
-ghost use Rattle.std.specs.Prelude.{◌≡◌, ◌≤◌, length};
-ghost use Rattle.catalogue_records.specs.EntriesIn.{entry_in, entries_in};
+ghost use Rattle.std.specs.Prelude.{◌≡◌, ◌≤◌, length, map};
+ghost use Rattle.catalogue_records.specs.EntriesIn.{entry_in};
 ghost use Rattle.catalogue_records.specs.Entries.{beyond};
 ghost use Rattle.catalogue_standing.specs.Standing.{StandingPlaces};
 ghost use Rattle.catalogue_standing.specs.ReducedEntries.{WasRead, HoldReduced};
 ghost use Rattle.catalogue_fold.specs.Folding.{folded_of};
 
 use carrying::carried_ways;
+use catalogue_records::{Catalogue, Entry};
 use lattice_membership::Lattice;
 use printing::printed;
 
 mod carrying;
 pub mod printing;
 
-// Of a catalogue that was read; the list of standing entries is closed before any see word is followed.
-pub fn folded(
-    c: catalogue_records::Catalogue,
-    list: [Lattice; catalogue_records::Catalogue::MOST_ENTRIES],
-    standing: &[usize],
-) -> catalogue_records::Catalogue
-    requires was_read { WasRead c }
-    requires hold_reduced { HoldReduced c c.count list }
-    requires count_in_bounds { c.count ≤ length standing.now }
-    requires standing_places { StandingPlaces (entries_in c) (entry_in beyond) standing.now }
-    ensures { result ≡ folded_of c }
+// Of entries that were read; the list of standing entries is closed before any see word is followed.
+pub fn folded(entries: &[Entry], list: &[Lattice], standing: &[usize]) -> Catalogue
+    requires was_read { WasRead entries.now }
+    requires hold_reduced { HoldReduced entries.now (length entries.now) list.now }
+    requires count_in_bounds { length entries.now ≤ length standing.now }
+    requires standing_places { StandingPlaces (map entry_in entries.now) (entry_in beyond) standing.now }
+    ensures { result ≡ folded_of entries.now }
 {
-    let numbers = catalogue_records::numbers(c);
-    let ways = carried_ways(c, &numbers, standing);
-    let none = catalogue_records::Catalogue::empty();
-    let mut entries = none.entries;
-    let mut n = 0;
-    for k in 0..c.count {
+    let numbers = catalogue_records::numbers(entries);
+    let ways = carried_ways(entries, &numbers[..entries.len()], standing);
+    let mut folded = Catalogue::empty();
+    for (k, e) in entries.iter().enumerate() {
         if standing[k] == k {
-            let e = c.entries[k];
-            let l = list[k];
-            let w = ways[k];
-            let p = printed(e, l, w);
-            entries[n] = p;
-            n += 1;
+            folded.entries[folded.count] = printed(e, &list[k], ways[k]);
+            folded.count += 1;
         }
     }
-    catalogue_records::Catalogue {
-        refusal: 0,
-        place: 0,
-        count: n,
-        entries: entries,
-    }
+    folded
 }

@@ -1,6 +1,6 @@
 // What the fold prints of a standing entry: its reduced vectors; and where a see word leads.
-ghost use Rattle.std.specs.Prelude.{◌≡◌, false, map, ℕ, ◌+◌, ◌≤◌, ◌<◌, pos, length, get_or, take};
-ghost use Rattle.catalogue_rules.specs.Catalogue.{coordinates, most_entries, most_numbers};
+ghost use Rattle.std.specs.Prelude.{◌≡◌, map, ℕ, ◌+◌, ◌≤◌, ◌<◌, pos, length, get_or, take};
+ghost use Rattle.catalogue_rules.specs.Catalogue.{coordinates, most_numbers};
 ghost use Rattle.integers.specs.Filled.{filled};
 ghost use Rattle.lattices.specs.Refusal.{most_coordinates};
 ghost use Rattle.lattice_membership.specs.Known.{left_in, vectors_in};
@@ -8,104 +8,57 @@ ghost use Rattle.std.proofs.lemmas.List.Edits.{sets};
 ghost use Rattle.catalogue_fold.specs.Spread.{Full};
 ghost use Rattle.catalogue_fold.specs.Printing.{Led, printed_as};
 
-use catalogue_records::NUMBERS;
+use catalogue_records::{Entry, NUMBERS, See};
 use catalogue_standing::standing_places::place_of;
 use lattice_membership::Lattice;
 
 // The first m coordinates of a vector, from place n on.
-fn put_row(out: &mut [i64], n: usize, v: row_operations::Vector, m: usize)
+fn put_row(out: &mut [i64], n: usize, v: &row_operations::Vector, m: usize)
     requires m_le_most_coordinates { m ≤ most_coordinates }
     requires m_in_bounds { n + m ≤ length out.old }
-    requires out_len_bound { length out.old ≤ most_numbers }
-    ensures { out.new ≡ sets out.old n (take m v) }
+    ensures { out.new ≡ sets out.old n (take m v.now) }
 {
-    for j in 0..m {
-        out[n + j] = v[j];
-    }
+    out[n..n + m].copy_from_slice(&v[..m]);
 }
 
 // The coordinates of the reduced vectors, vector by vector, then zeros.
-fn spread(l: Lattice) -> [i64; NUMBERS]
-    requires { Full (left_in l) }
-    ensures { result ≡ filled (pos 0) most_numbers (coordinates (map (take l.m) (vectors_in l))) }
+fn spread(l: &Lattice) -> [i64; NUMBERS]
+    requires { Full (left_in l.now) }
+    ensures { result ≡ filled (pos 0) most_numbers (coordinates (map (take l.now.m) (vectors_in l.now))) }
 {
-    let vectors = l.vectors;
-    let rows = row_operations::vectors_of(vectors);
-    let mut out = [0i64; NUMBERS];
-    for i in 0..l.d {
-        let v = rows[i];
+    let mut out = [0; NUMBERS];
+    for (i, v) in l.vectors[..l.d].iter().enumerate() {
         put_row(&mut out, i * l.m, v, l.m);
     }
     out
 }
 
-// Where a see word leads: whether there is a word to print, the number it names and where the word stood.
-#[derive(Clone, Copy)]
-pub struct Way {
-    pub sees: bool,
-    pub number: u32,
-    pub at: usize,
-}
-
-// No word.
-pub(crate) fn nowhere() -> Way
-    ensures { result ≡ record { sees = false; number = 0; at = 0 } }
+// Where the see word of an entry leads: the word with the standing number of the entry named, and none when that is its own.
+pub fn way_of(e: &Entry, own: u32, numbers: &[u32], standing: &[usize]) -> Option<See>
+    requires count_in_bounds { length numbers.now ≤ length standing.now }
+    requires by_index { (k : ℕ) → k < length numbers.now → get_or standing.now k 0 < length numbers.now }
+    ensures { Led e.now own numbers.now standing.now (length numbers.now) result }
 {
-    Way {
-        sees: false,
-        number: 0,
-        at: 0,
-    }
-}
-
-// The way of the see word of an entry: to the standing number of the entry named, and nowhere when that is its own.
-pub fn way_of(
-    e: catalogue_records::Entry,
-    own: u32,
-    numbers: &[u32],
-    standing: &[usize],
-    count: usize,
-) -> Way
-    requires count_in_bounds { (count ≤ length numbers.now) × (count ≤ length standing.now) }
-    requires count_le_most_entries { count ≤ most_entries }
-    requires by_index { (k : ℕ) → k < count → get_or standing.now k 0 < count }
-    ensures { Led e own numbers.now standing.now count result }
-{
-    if !e.sees {
-        return nowhere();
-    }
-    let k = place_of(numbers, count, e.see);
-    if k == count {
-        return nowhere();
-    }
-    let s = standing[k];
-    let there = numbers[s];
+    let see = e.see?;
+    let k = place_of(numbers, see.number)?;
+    let there = numbers[standing[k]];
     if there == own {
-        return nowhere();
+        return None;
     }
-    Way {
-        sees: true,
+    Some(See {
         number: there,
-        at: e.at,
-    }
+        ..see
+    })
 }
 
-// A standing entry as it is printed: a draft keeps its mark.
-pub fn printed(e: catalogue_records::Entry, l: Lattice, w: Way) -> catalogue_records::Entry
-    requires { Full (left_in l) }
-    ensures { result ≡ printed_as e (left_in l) w }
+// A standing entry as it is printed, with the see word that it carries: a draft keeps its mark.
+pub fn printed(e: &Entry, l: &Lattice, see: Option<See>) -> Entry
+    requires { Full (left_in l.now) }
+    ensures { result ≡ printed_as e.now (left_in l.now) see }
 {
-    let form = e.form;
-    catalogue_records::Entry {
-        form: form,
-        number: e.number,
-        d: e.d,
-        m: e.m,
-        place: e.place,
-        draft: e.draft,
-        sees: w.sees,
-        see: w.number,
-        at: w.at,
+    Entry {
+        see,
         coordinates: spread(l),
+        ..*e
     }
 }

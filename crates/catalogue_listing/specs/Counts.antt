@@ -1,6 +1,6 @@
 -- How many entries stand: those whose place is their own.
-use Rattle.std.specs.Prelude.{◌≡◌, refl, Bool, true, false, cond, List, [], ◌∷◌, ℕ, zero, suc, ◌+◌, ◌≤◌, eqb, length, get_or}
-use Rattle.std.proofs.Common.{sym, ap, ap₂, ◌∙◌, arith, length-append, eq-eqb, ne_eqb}
+use Rattle.std.specs.Prelude.{◌≡◌, refl, ◌≢◌, Bool, true, false, cond, List, [], ◌∷◌, map, ℕ, zero, suc, ◌+◌, ◌≤◌, eqb, length, get_or, take}
+use Rattle.std.proofs.Common.{sym, ap, ap₂, ◌∙◌, add-one, arith, length-append, length-take-le, get_or-take, eq-eqb, ne_eqb}
 use Rattle.std.proofs.Math.Decide.{ℕ_discrete}
 use Rattle.std.proofs.lemmas.List.{length-map}
 use Rattle.integers.specs.Decimal.{decimal}
@@ -8,8 +8,8 @@ use Rattle.catalogue_rules.specs.Catalogue as definition
 use Rattle.catalogue_rules.specs.Form.{WellFormed}
 use Rattle.fold_rules.specs.Fold.{stood_of, closed_list, standing_in, printed}
 use Rattle.text_layout.specs.Fields.{line}
-use Rattle.catalogue_records.specs.declared.Catalogue.{Catalogue}
-use Rattle.catalogue_records.specs.EntriesIn.{entry_in, entries_in}
+use Rattle.catalogue_records.specs.declared.Entry.{Entry}
+use Rattle.catalogue_records.specs.EntriesIn.{entry_in}
 use Rattle.catalogue_records.specs.Entries.{beyond}
 use Rattle.catalogue_standing.specs.Standing.{StandingPlaces}
 use Rattle.catalogue_standing.specs.ReducedEntries.{WasRead, ready-length}
@@ -21,6 +21,18 @@ one_if_own place k = cond (eqb place k) 1 0
 abbrev pub own_places : List ℕ → ℕ → ℕ
 own_places places zero = 0
 own_places places (suc k) = own_places places k + one_if_own (get_or places k 0) k
+
+-- of the first places
+own_cut : (places : List ℕ) (n k : ℕ) → k ≤ n → own_places (take n places) k ≡ own_places places k
+own_cut places n zero h = refl
+own_cut places n (suc k) h = ap₂ (λ i p. i + one_if_own p k) (own_cut places n k (omega arith)) (get_or-take n places k 0 (omega arith))
+
+-- a place more
+pub own_more : (places : List ℕ) (k : ℕ) → get_or places k 0 ≡ k → own_places places k + 1 ≡ own_places places (k + 1)
+own_more places k e = ap (λ b. own_places places k + cond b 1 0) (sym (eq-eqb _ _ e)) ∙ ap (own_places places) (sym (add-one k))
+
+pub own_same : (places : List ℕ) (k : ℕ) → get_or places k 0 ≢ k → own_places places k ≡ own_places places (k + 1)
+own_same places k h = omega arith ∙ ap (λ b. own_places places k + cond b 1 0) (sym (ne_eqb _ _ h)) ∙ ap (own_places places) (sym (add-one k))
 
 -- no more than there are places
 one-most : (b : Bool) → cond b 1 0 ≤ 1
@@ -57,9 +69,10 @@ module _ (es : List definition.Entry) (o : definition.Entry) (w : WellFormed es)
 abbrev pub counts_line : ℕ → ℕ → List ℕ
 counts_line entries standing = line (decimal entries) (decimal standing ∷ [])
 
-pub counts-text : (c : Catalogue) (r : WasRead c) {places : List ℕ} → StandingPlaces (entries_in c) (entry_in beyond) places → {n : ℕ} → n ≡ own_places places c.count
-    → counts_line c.count n ≡ counts_line (length (closed_list (entries_in c))) (length (standing_in (closed_list (entries_in c))))
-counts-text c r {places} stood is =
-    let es = entries_in c in
-    ap₂ counts_line (sym (length-map es (stood_of es) ∙ ready-length c r))
-    (is ∙ ap (own_places places) (sym (ready-length c r)) ∙ standing-count es (entry_in beyond) r.formed stood)
+pub counts-text : (l : List Entry) (r : WasRead l) {places : List ℕ} → StandingPlaces (map entry_in l) (entry_in beyond) places → length l ≤ length places → {n : ℕ} → n ≡ own_places (take (length l) places) (length (take (length l) places))
+    → counts_line (length l) n ≡ counts_line (length (closed_list (map entry_in l))) (length (standing_in (closed_list (map entry_in l))))
+counts-text l r {places} stood many is =
+    let es = map entry_in l in
+    ap₂ counts_line (sym (length-map es (stood_of es) ∙ ready-length l r))
+    (is ∙ ap (own_places (take (length l) places)) (length-take-le (length l) places many) ∙ own_cut places (length l) (length l) (omega arith) ∙ ap (own_places places) (sym (ready-length l r))
+    ∙ standing-count es (entry_in beyond) r.formed stood)

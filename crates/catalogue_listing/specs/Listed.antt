@@ -1,15 +1,14 @@
 -- What `list` hands back: the refusal of reading, 16 where the text does not fit, or the text over the first bytes of the output.
-use Rattle.std.specs.Prelude.{◌≡◌, refl, ◌≢◌, List, ◌++◌, ℕ, ◌+◌, ◌≤◌, ◌<◌, length, take, drop}
+use Rattle.std.specs.Prelude.{◌≡◌, List, ◌++◌, map, ℕ, ◌+◌, ◌≤◌, length, take, drop, Ok, Err}
 use Rattle.std.proofs.Common.{sym, ap₂, ◌∙◌, subst, arith}
 use Rattle.std.proofs.Math.Path.{ap}
 use Rattle.std.proofs.lemmas.List.Edits.{sets-eq}
 use Rattle.std.proofs.Math.Seq.{take-append_seam}
 use Rattle.catalogue_rules.proofs.Laws.TextSize.{most_text}
 use Rattle.text_output.specs.Counts.{IsPrefixLen}
-use Rattle.catalogue_rules.specs.Catalogue.{Entry, Outcome, refused, accepted}
+use Rattle.catalogue_rules.specs.Catalogue.{Entry, accepted}
 use Rattle.catalogue_rules.specs.Read.{read}
-use Rattle.catalogue_rules.specs.Output.{untouched, filled_with, output_by}
-use Rattle.catalogue_rules.proofs.Laws.Output.{does_not-fit, does_fit}
+use Rattle.catalogue_rules.specs.Output.{filled_with, output_by}
 use Rattle.catalogue_rules.specs.Write.{write}
 use Rattle.catalogue_rules.specs.Form.{WellFormed, placed}
 use Rattle.catalogue_rules.proofs.Laws.Moving.{bare-placed}
@@ -20,34 +19,20 @@ use Rattle.fold_rules.proofs.Laws.Alike.{lines_bare}
 use Rattle.fold_rules.specs.Services.{listing_text, list_of}
 use Rattle.fold_rules.proofs.Laws.ListingSize.{listing_size}
 use Rattle.catalogue_records.specs.declared.Catalogue.{Catalogue}
-use Rattle.catalogue_records.specs.Catalogues.{catalogue_of}
-use Rattle.catalogue_records.specs.EntriesIn.{entries_in}
-use Rattle.catalogue_records.specs.Again.{read_as}
+use Rattle.catalogue_records.specs.declared.Entry as records
+use Rattle.catalogue_records.specs.EntriesIn.{entry_in, outcome_in, output_in}
+use Rattle.refusals.specs.declared.Refused.{Refused}
 use Rattle.text_output.specs.Within.{counts-within}
 use Rattle.text_output.specs.Puts.{Puts, puts-length}
 
-stays : (o : Outcome) (out : List ℕ) → (catalogue_of o).refusal ≢ 0 → untouched (catalogue_of o).refusal (catalogue_of o).place out ≡ output_by listing_text o out
-stays (refused n p) out h = refl
-stays (accepted es) out h = absurd (h refl)
-
-module _ (file : List ℕ) {c : Catalogue} (is : c ≡ catalogue_of (read file)) where
-  pub not_listed : (out : List ℕ) → c.refusal ≢ 0 → untouched c.refusal c.place out ≡ list_of file out
+module _ (file : List ℕ) where
+  pub not_listed : (r : Refused) → outcome_in (Err r) ≡ read file → (out : List ℕ) → output_in (Err r) out ≡ list_of file out
   unfolding list_of
-  not_listed out h = ap (λ c. untouched c.refusal c.place out) is ∙ stays (read file) out (λ e. h (ap (λ c. c.refusal) is ∙ e))
+  not_listed r is out = ap (λ o. output_by listing_text o out) is
 
-  module _ (e : c.refusal ≡ 0) where
-    pub not-fitting : (out : List ℕ) → length out < length (listing_text (entries_in c)) → untouched 16 0 out ≡ list_of file out
-    unfolding list_of
-    not-fitting out h = does_not-fit listing_text (entries_in c) out h ∙ ap (λ o. output_by listing_text o out) (read_as file is e)
-
-    pub fitting : (out : List ℕ) → length (listing_text (entries_in c)) ≤ length out → filled_with (listing_text (entries_in c)) out ≡ list_of file out
-    unfolding list_of
-    fitting out h = does_fit listing_text (entries_in c) out h ∙ ap (λ o. output_by listing_text o out) (read_as file is e)
-
-  module _ (e : c.refusal ≡ 0) where
-    pub list_as : (out : List ℕ) → output_by listing_text (accepted (entries_in c)) out ≡ list_of file out
-    unfolding list_of
-    list_as out = ap (λ o. output_by listing_text o out) (read_as file is e)
+  pub list_as : (c : Catalogue) → outcome_in (Ok c) ≡ read file → {l : List records.Entry} → l ≡ take c.count c.entries → (out : List ℕ) → output_by listing_text (accepted (map entry_in l)) out ≡ list_of file out
+  unfolding list_of
+  list_as c is e out = ap (λ l. output_by listing_text (accepted (map entry_in l)) out) e ∙ ap (λ o. output_by listing_text o out) is
 
 -- no text is longer than the array: where the words stand is not asked for
 pub text-small : (es : List Entry) → WellFormed es → length (listing_text es) ≤ most_text

@@ -12,17 +12,17 @@ fn put_numbers(out: &mut [u8], at: usize, numbers: &[u64]) -> usize
     ensures { Puts (after (map decimal numbers.now)) out.old at out.new result }
 {
     let mut n = at;
-    for i in 0..numbers.len() {
-        n = text_fields::put_number(out, n, numbers[i]);
+    for number in numbers {
+        n = text_fields::put_number(out, n, *number);
     }
     text_output::put_byte(out, n, b'\n')
 }
 
 // The first m coordinates of a reduced vector.
-pub(crate) fn put_vector(out: &mut [u8], at: usize, v: row_operations::Vector, m: usize) -> usize
+pub(crate) fn put_vector(out: &mut [u8], at: usize, v: &row_operations::Vector, m: usize) -> usize
     requires m_le_most_coordinates { m ≤ most_coordinates }
-    requires v_in_bounds { at + length (vector_line m v) ≤ length out.old }
-    ensures { Puts (vector_line m v) out.old at out.new result }
+    requires v_in_bounds { at + length (vector_line m v.now) ≤ length out.old }
+    ensures { Puts (vector_line m v.now) out.old at out.new result }
 {
     let k = text_output::put_byte(out, at, b'v');
     let n = text_fields::put_coordinates(out, k, &v[..m]);

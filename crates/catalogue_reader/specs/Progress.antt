@@ -1,22 +1,32 @@
 -- Reading word by word: after i words the code's state shows a state of the definition, and a turn of the loop keeps it.
-use Rattle.std.specs.Prelude.{◌≡◌, refl, ◌≢◌, true, false, cond, List, [], ℕ, suc, ◌+◌, ◌≤◌, ◌<◌, ℤ, pos, length, get_or, set, take, drop}
+use Rattle.std.specs.Prelude.{◌≡◌, refl, ◌≢◌, cond, List, [], ℕ, suc, ◌+◌, ◌≤◌, ◌<◌, ℤ, pos, length, get_or, set, take, drop, ◌/◌, Ok, Err}
+use Rattle.std.specs.declared.result.Result.{Result}
 use Rattle.std.proofs.Math.Path.{sym, ap, ap₂, subst}
-use Rattle.std.proofs.Common.{◌∙◌, true≢false, add-one, drop_of_length-le, drop-cons, lt-ltb, le-ltb}
-use Rattle.catalogue_rules.specs.Word.{Word, decode}
-use Rattle.catalogue_rules.specs.Catalogue.{Outcome, refused, most_entries, most_numbers}
+use Rattle.refusals.specs.declared.Refusal.{Refusal}
+use Rattle.refusals.specs.Number.{number_of}
+use Rattle.std.proofs.Common.{arith, ◌∙◌, add-one, drop_of_length-le, drop-cons, lt-ltb, le-ltb}
+use Rattle.catalogue_rules.specs.Word.{Word, decode, words_of}
+use Rattle.catalogue_rules.proofs.Laws.Word.{length-words}
+use Rattle.catalogue_rules.specs.Catalogue as definition
+use Rattle.catalogue_rules.specs.Catalogue.{Outcome, refused, accepted, most_entries, most_numbers}
+use Rattle.catalogue_rules.specs.Form.{Entered}
 use Rattle.catalogue_rules.specs.Read.{State, outside, numbered, inside, after, closed, Step, next, stop, step, at_last, read_words}
 use Rattle.catalogue_rules.proofs.Laws.Moves.{Moves, by-head, by_number, by_size, by-coordinate, by-draft, by-see, by_end}
 use Rattle.catalogue_rules.proofs.Laws.WellFormed.{Known, nothing_read}
 use Rattle.catalogue_records.specs.declared.Entry.{Entry}
+use Rattle.catalogue_steps.specs.declared.reading.Phase.TheVariants.{Closed}
 use Rattle.catalogue_steps.specs.declared.reading.Reading.{Reading}
 use Rattle.integers.specs.Filled.{filled}
 use Rattle.integers.specs.FilledLaws.{length-filled}
-use Rattle.catalogue_records.specs.Catalogues.{no_catalogue, stored, holding, catalogue_of}
-use Rattle.catalogue_steps.specs.Readings.{is_closed, stopped, step_read}
+use Rattle.catalogue_records.specs.EntriesIn.{entries_in}
+use Rattle.catalogue_records.specs.Entries.{entries-back, is_stored}
+use Rattle.catalogue_records.specs.Catalogues.{stored, holding, catalogue_of, IsStored}
+use Rattle.catalogue_steps.specs.Readings.{first_reading, step_read}
+use Rattle.catalogue_steps.specs.Rows.{turn_in}
 use Rattle.catalogue_steps.specs.Parts.{whole_at}
 use Rattle.catalogue_steps.specs.States.{reading_of, step_of, numbers_of, whole_in, step-shown}
-use Rattle.catalogue_steps.specs.Cells.{placed, cells-none}
-use Rattle.catalogue_steps.specs.Held.{Held, Moved, whole-count, word_range, held-fine, stops_with, moves-on, held_on}
+use Rattle.catalogue_steps.specs.Cells.{placed, Place, cells-none}
+use Rattle.catalogue_steps.specs.Held.{Held, Moved, whole-count, word_range, held-fine, stops_with, moves-on, held_on, counted, counted_cell}
 use Rattle.catalogue_reader.specs.Store.{put, store_moves, Space, noted, numbers-moves}
 
 -- what the code holds after i words shows a state from which the words from i on have the outcome of all words
@@ -27,7 +37,7 @@ pub record Reached (words : List ℕ) (i : ℕ) (entries : List Entry) (numbers 
   pub stores : entries ≡ stored (whole_in state)
   pub notes : numbers ≡ filled 0 most_entries (numbers_of state)
 
-pub at-start : (words : List ℕ) (coordinates : List ℤ) → length coordinates ≡ most_numbers → Reached words 0 (stored []) (filled 0 most_entries []) coordinates (stopped 0)
+pub at-start : (words : List ℕ) (coordinates : List ℤ) → length coordinates ≡ most_numbers → Reached words 0 (stored []) (filled 0 most_entries []) coordinates first_reading
 at-start words coordinates long = record {
   state = outside [];
   held = record { known = nothing_read; due = tt; shown = refl; cells = cells-none [] coordinates long };
@@ -52,24 +62,37 @@ head_few (by_end b) k = tt
 abbrev after-step : ℕ → List ℕ → Step → Outcome
 after-step i words r = elim r [ next t ↦ read_words t (suc i) words | stop n ↦ refused n i ]
 
-module _ (words : List ℕ) (i : ℕ) {entries : List Entry} {numbers : List ℕ} {coordinates : List ℤ} {s : Reading} (r : Reached words i entries numbers coordinates s) where
+module _ (bytes : List ℕ) (i : ℕ) {entries : List Entry} {numbers : List ℕ} {coordinates : List ℤ} {s : Reading} (r : Reached (words_of bytes) i entries numbers coordinates s) where
+  abbrev words : List ℕ
+  words = words_of bytes
+
   pub numbers-long : length numbers ≡ most_entries
   numbers-long = ap length r.notes ∙ length-filled 0 most_entries (numbers_of r.state)
 
-  module _ (here : i < length words) {t : Reading} {w : Word} (word : w ≡ decode (get_or words i 0)) (read : t ≡ step_read numbers s i w) where
-    pub turned : t ≡ step_of (step r.state i w)
+  module _ (here : i < length bytes / 4) {n : ℕ} (at : n ≡ get_or (words_of bytes) i 0) {w : Word} (decoded : w ≡ decode n) (x : Result Reading Refusal) (read : turn_in x ≡ step_read numbers s i w) where
+    word : w ≡ decode (get_or words i 0)
+    word = decoded ∙ ap decode at
+
+    turned : turn_in x ≡ step_of (step r.state i w)
     turned = read ∙ ap₂ (λ l x. step_read l x i w) r.notes r.held.shown ∙ step-shown r.state i w (held-fine r.state r.held)
 
     outcome : after-step i (drop (suc i) words) (step r.state i w) ≡ read_words (outside []) 0 words
     unfolding read_words
-    outcome = ap (λ x. after-step i (drop (suc i) words) (step r.state i x)) word ∙ sym (ap (read_words r.state i) (drop-cons words i 0 here)) ∙ r.rest
+    outcome = ap (λ x. after-step i (drop (suc i) words) (step r.state i x)) word ∙ sym (ap (read_words r.state i) (drop-cons words i 0 (omega (arith, length-words bytes)))) ∙ r.rest
 
-    pub refuses : t.refusal ≢ 0 → refused t.refusal i ≡ read_words (outside []) 0 words
-    refuses stops = sym (ap (after-step i (drop (suc i) words)) (stops_with (step r.state i w) turned stops)) ∙ outcome
+    pub refuses : {e : Refusal} → x ≡ Err e → refused (number_of e) i ≡ read_words (outside []) 0 words
+    refuses is = sym (ap (after-step i (drop (suc i) words)) (stops_with (step r.state i w) (sym (ap turn_in is) ∙ turned))) ∙ outcome
 
-    module _ (goes : t.refusal ≡ 0) where
+    module _ {t : Reading} (is : x ≡ Ok t) where
       goes_on : Moved r.state i w t
-      goes_on = moves-on r.state r.held i w turned (word_range _ word) goes
+      goes_on = moves-on r.state r.held i w (sym (ap turn_in is) ∙ turned) (word_range _ word)
+
+      -- there is room for the entry and for a coordinate
+      pub few-next : t.count ≤ most_entries
+      few-next = counted r.state r.held i w (sym (ap turn_in is) ∙ turned) (word_range _ word)
+
+      pub counted-next : Place s.part.filled w
+      counted-next = counted_cell r.state r.held i w (sym (ap turn_in is) ∙ turned) (word_range _ word)
 
       -- what the turn has stored and noted
       pub keeps : {l : List Entry} {ns : List ℕ} {cs : List ℤ} → l ≡ put entries s t coordinates i w → ns ≡ noted numbers t.count w → cs ≡ placed coordinates s.part.filled w
@@ -79,7 +102,7 @@ module _ (words : List ℕ) (i : ℕ) {entries : List Entry} {numbers : List ℕ
           let m = goes_on in
           subst (λ n. Reached words n l ns cs t) (sym (add-one i)) (record {
             state = m.state;
-            held = held_on r.state r.held i w turned (word_range _ word) goes g;
+            held = held_on r.state r.held i w (sym (ap turn_in is) ∙ turned) (word_range _ word) g;
             rest = sym (ap (after-step i (drop (suc i) words)) m.is) ∙ outcome;
             stores =
                 e
@@ -111,30 +134,60 @@ module _ (l : List Entry) (s t : Reading) (cs : List ℤ) (i : ℕ) (w : Word) w
 
 -- ---- the end
 
-module _ (words : List ℕ) (i : ℕ) {entries : List Entry} {numbers : List ℕ} {coordinates : List ℤ} {s : Reading} (r : Reached words i entries numbers coordinates s) (over : length words ≤ i) where
-  last : at_last r.state i ≡ read_words (outside []) 0 words
+module _ (bytes : List ℕ) (i : ℕ) {entries : List Entry} {numbers : List ℕ} {coordinates : List ℤ} {s : Reading} (r : Reached (words_of bytes) i entries numbers coordinates s) (over : length bytes / 4 ≤ i) where
+  last : at_last r.state i ≡ read_words (outside []) 0 (words_of bytes)
   unfolding read_words
-  last = sym (ap (read_words r.state i) (drop_of_length-le words over)) ∙ r.rest
+  last = sym (ap (read_words r.state i) (drop_of_length-le (words_of bytes) (omega (arith, length-words bytes)))) ∙ r.rest
 
-  pub missing : is_closed s.phase ≡ false → no_catalogue 10 i ≡ catalogue_of (read_words (outside []) 0 words)
-  missing e = go r.state (sym (ap (λ x. is_closed x.phase) r.held.shown) ∙ e) ∙ ap catalogue_of last
+  pub missing : s.phase ≢ Closed → refused 10 i ≡ read_words (outside []) 0 (words_of bytes)
+  missing e = go r.state (λ k. e (ap (λ x. x.phase) r.held.shown ∙ k)) ∙ last
     where
-      go : (x : State) → is_closed (reading_of x).phase ≡ false → no_catalogue 10 i ≡ catalogue_of (at_last x i)
+      go : (x : State) → (reading_of x).phase ≢ Closed → refused 10 i ≡ at_last x i
       go (outside es) h = refl
       go (numbered es n p) h = refl
       go (inside es h vs v) e = refl
       go (after es h vs marked) e = refl
-      go (closed es) h = absurd (true≢false h)
+      go (closed es) h = absurd (h refl)
 
-  pub complete : is_closed s.phase ≡ true → holding s.count entries ≡ catalogue_of (read_words (outside []) 0 words)
-  complete e =
-      ap₂ holding (ap (λ x. x.count) r.held.shown) r.stores
-      ∙ go r.state (sym (ap (λ x. is_closed x.phase) r.held.shown) ∙ e)
-      ∙ ap catalogue_of last
+  -- the entries that were read
+  record Read (es : List definition.Entry) : Type 0 where
+    pub entered : Entered es
+    pub count : s.count ≡ length es
+    pub stores : entries ≡ stored es
+    pub is : accepted es ≡ read_words (outside []) 0 (words_of bytes)
+
+  complete : s.phase ≡ Closed → (es : List definition.Entry) × Read es
+  complete e = go r.state refl (sym (ap (λ x. x.phase) r.held.shown) ∙ e) last
     where
-      go : (x : State) → is_closed (reading_of x).phase ≡ true → holding (reading_of x).count (stored (whole_in x)) ≡ catalogue_of (at_last x i)
-      go (outside es) h = absurd (true≢false (sym h))
-      go (numbered es n p) e = absurd (true≢false (sym e))
-      go (inside es h vs v) e = absurd (true≢false (sym e))
-      go (after es h vs marked) e = absurd (true≢false (sym e))
-      go (closed es) h = refl
+      go : (x : State) → r.state ≡ x → (reading_of x).phase ≡ Closed → at_last x i ≡ read_words (outside []) 0 (words_of bytes) → (es : List definition.Entry) × Read es
+      go (outside es) q h l = cc
+      go (numbered es n p) q h l = cc
+      go (inside es h vs v) q e l = cc
+      go (after es h vs marked) q e l = cc
+      go (closed es) q h l = (
+        es,
+        record {
+          entered = subst Known q r.held.known;
+          count = ap (λ x. x.count) (r.held.shown ∙ ap reading_of q);
+          stores = r.stores ∙ ap (λ x. stored (whole_in x)) q;
+          is = l;
+        },
+      )
+
+  module _ (e : s.phase ≡ Closed) where
+    es : List definition.Entry
+    es = (complete e).0
+
+    held-all : holding s.count entries ≡ catalogue_of es
+    unfolding es
+    held-all = let d = (complete e).1 in ap₂ holding d.count d.stores
+
+    pub read-all : accepted (entries_in (holding s.count entries)) ≡ read_words (outside []) 0 (words_of bytes)
+    unfolding es
+    read-all =
+        let d = (complete e).1 in
+        ap (λ c. accepted (entries_in c)) held-all ∙ ap accepted (entries-back es d.entered.few d.entered.fits) ∙ d.is
+
+    pub stored-all : IsStored (holding s.count entries)
+    unfolding es
+    stored-all = let d = (complete e).1 in subst IsStored (sym held-all) (is_stored es d.entered.few d.entered.fits)

@@ -4,7 +4,7 @@ use Rattle.std.proofs.Common.{sym, ap, ap₂, ◌∙◌, arith, length-append, l
 use Rattle.std.proofs.Math.Option.{Option, none, some}
 use Rattle.std.proofs.lemmas.List.{length-map}
 use Rattle.lattices.specs.Vector.{Vec}
-use Rattle.catalogue_rules.specs.Word.{Word, head, coordinate, see, end, draft, head_number, head_size, other}
+use Rattle.catalogue_rules.specs.Word.{Word, head, coordinate, head_number}
 use Rattle.catalogue_rules.specs.Catalogue as definition
 use Rattle.catalogue_rules.specs.Catalogue.{Head, See, coordinates, most_entries, most_numbers}
 use Rattle.catalogue_rules.specs.Read.{State, inside, after, form_of, differs, coordinate_of, with_vector, with_coordinate}
@@ -87,24 +87,14 @@ store_moves {l = l} (by_end (unreferred es g vs marked)) k c = more es g vs mark
 
 abbrev pub noted : List ℕ → ℕ → Word → List ℕ
 noted l n (head number d m) = set l n number
-noted l n (coordinate load) = l
-noted l n (see number) = l
-noted l n (end count) = l
-noted l n (draft load) = l
 noted l n (head_number number) = set l n number
-noted l n (head_size high d m) = l
-noted l n (other k load) = l
+noted l n _ = l
 
 -- there is room for the number of a head
 abbrev pub Space : ℕ → Word → Type 0
 Space n (head number d m) = n < most_entries
-Space n (coordinate load) = Unit {0}
-Space n (see number) = Unit {0}
-Space n (end count) = Unit {0}
-Space n (draft load) = Unit {0}
 Space n (head_number number) = n < most_entries
-Space n (head_size high d m) = Unit {0}
-Space n (other k load) = Unit {0}
+Space n _ = Unit {0}
 
 new-number : (es : List definition.Entry) (n : ℕ) → length es < most_entries → set (filled 0 most_entries (numbers es)) (length es) n ≡ filled 0 most_entries (numbers es ++ (n ∷ []))
 new-number es n h =

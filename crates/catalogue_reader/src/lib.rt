@@ -1,43 +1,26 @@
 // A catalogue read out of bytes: the row "whole file", the words one after the other, and the rows "after reading".
 #![tactic(auto)]
 
-ghost use Rattle.std.specs.Prelude.{◌≡◌, [], ◌&&◌, not, ◌≤◌, length, take};
-ghost use Rattle.std.proofs.Math.Option.{none};
+ghost use Rattle.std.specs.Prelude.{◌≡◌, List, [], ◌≤◌, length, map};
 ghost use Rattle.integers.specs.All.{All};
-ghost use Rattle.integers.specs.Every.{any};
-ghost use Rattle.catalogue_rules.specs.Word.{words_of};
 ghost use Rattle.integers.specs.First.{first_given};
-ghost use Rattle.catalogue_rules.specs.Read.{opens_in, form_shown, file_rows, read_all, read, outside, read_words, dependent_at, lost_at};
+ghost use Rattle.catalogue_rules.specs.Catalogue as definition;
+ghost use Rattle.catalogue_rules.specs.Catalogue.{Outcome, refused, most_entries, most_bytes};
+ghost use Rattle.catalogue_rules.specs.Word.{words_of};
+ghost use Rattle.catalogue_rules.specs.Read.{checked, opens_in, form_shown, file_rows, read_all, read, outside, read_words, dependent_at, lost_at};
 ghost use Rattle.catalogue_rules.specs.Moving.{read_to_move};
-ghost use Rattle.catalogue_records.specs.Catalogues.{catalogue_of};
-ghost use Rattle.catalogue_steps.specs.Rows.{first_row};
-ghost use Rattle.catalogue_steps.specs.Readings.{is_closed, is_number};
+ghost use Rattle.catalogue_rules.specs.Form.{EntryFits};
+ghost use Rattle.catalogue_records.specs.Catalogues.{StoredIn};
+ghost use Rattle.catalogue_records.specs.EntriesIn.{form_in, option_in, entry_in, outcome_by, outcome_in};
 ghost use Rattle.catalogue_steps.specs.Words.{word_in};
 ghost use Rattle.catalogue_reader.specs.Store.{noted, Space};
-ghost use Rattle.catalogue_reader.specs.Ended.{fault_of};
-ghost use Rattle.catalogue_reader.specs.Opening.{opens_with};
-ghost use Rattle.catalogue_rules.specs.Form.{EntryFits};
-ghost use Rattle.catalogue_records.specs.EntriesIn.{form_in, entries_in};
-ghost use Rattle.catalogue_rules.specs.Catalogue.{most_entries, most_bytes};
 
 use catalogue_records::{Catalogue, Entry, Form, NUMBERS};
 use catalogue_steps::entries::dependent;
 use catalogue_steps::parts::{first_numbers, store};
-use catalogue_steps::reading::{Phase, Reading, numbered};
+use catalogue_steps::reading::{Phase, Reading};
 use catalogue_steps::words::{Word, decode, word_at};
-
-// Whether nothing may follow.
-fn closed(phase: Phase) -> bool
-    ensures { result ≡ is_closed phase }
-{
-    match phase {
-        Phase::Outside => false,
-        Phase::Numbered => false,
-        Phase::Inside => false,
-        Phase::After => false,
-        Phase::Closed => true,
-    }
-}
+use refusals::{Refusal, Refused};
 
 // A head's number is noted after those of the entries before it.
 fn note(numbers: &mut [u32; Catalogue::MOST_ENTRIES], count: usize, w: Word)
@@ -45,206 +28,165 @@ fn note(numbers: &mut [u32; Catalogue::MOST_ENTRIES], count: usize, w: Word)
     ensures { numbers.new ≡ noted numbers.old count (word_in w) }
 {
     match w {
-        Word::Head { number, d: _, m: _ } => {
-            numbers[count] = number;
-        }
-        Word::Coordinate(_) => {}
-        Word::See(_) => {}
-        Word::End(_) => {}
-        Word::Draft(_) => {}
-        Word::HeadNumber(number) => {
-            numbers[count] = number;
-        }
-        Word::HeadSize {
-            high: _,
-            d: _,
-            m: _,
-        } => {}
-        Word::Other { kind: _, load: _ } => {}
+        Word::Head { number, .. } => numbers[count] = number,
+        Word::HeadNumber(number) => numbers[count] = number,
+        _ => {}
     }
 }
 
 // The entries of the words, or the refusal of the first word that cannot stand. Entries, numbers of heads and coordinates are stored in place.
-fn read_words(bytes: &[u8]) -> Catalogue
-    ensures { result ≡ catalogue_of (read_words (outside []) 0 (words_of bytes.now)) }
+// The index is the place of a refusal too; with `map_err` and `?` its arm is not proved.
+fn read_words(bytes: &[u8]) -> Result<Catalogue, Refused>
+    ensures outcome { outcome_in result ≡ read_words (outside []) 0 (words_of bytes.now) }
+    ensures stored { StoredIn result }
 {
-    let none = Catalogue::empty();
-    let mut entries = none.entries;
-    let mut numbers = [0u32; Catalogue::MOST_ENTRIES];
-    let mut coordinates = [0i64; NUMBERS];
+    let mut entries = [Entry::empty(); Catalogue::MOST_ENTRIES];
+    let mut numbers = [0; Catalogue::MOST_ENTRIES];
+    let mut coordinates = [0; NUMBERS];
     let mut s = Reading::start();
     let n = bytes.len() / 4;
     for i in 0..n {
         let w = decode(word_at(bytes, i));
-        let t = s.step(&numbers, i, w);
-        if t.refusal != 0 {
-            return Catalogue::refused(t.refusal, i);
-        }
-        let k = s.count;
-        let c = t.count;
+        let t = match s.step(&numbers, i, w) {
+            Ok(t) => t,
+            Err(refusal) => return Err(Refused { refusal, place: i }),
+        };
         let part = s.part;
-        if k < c {
-            let form = t.form;
-            let e = part.whole(form, first_numbers(&coordinates, part.filled), i, w);
-            entries[k] = e;
+        if s.count < t.count {
+            entries[s.count] = part.whole(t.form, first_numbers(&coordinates, part.filled), i, w);
         }
         store(&mut coordinates, part.filled, w);
-        note(&mut numbers, c, w);
+        note(&mut numbers, t.count, w);
         s = t;
     }
-    let phase = s.phase;
-    if !closed(phase) {
-        return Catalogue::refused(10, n);
+    if s.phase != Phase::Closed {
+        return Err(Refused {
+            refusal: Refusal::WordOutOfPlace,
+            place: n,
+        });
     }
-    Catalogue {
-        refusal: 0,
-        place: 0,
+    Ok(Catalogue {
         count: s.count,
-        entries: entries,
-    }
-}
-
-// What a row "after reading" finds: whether there is a fault, and the place of the first.
-#[derive(Clone, Copy)]
-pub struct Fault {
-    pub found: bool,
-    pub at: usize,
-}
-
-// No fault.
-fn faultless() -> Fault
-    ensures { result ≡ fault_of none }
-{
-    Fault {
-        found: false,
-        at: 0,
-    }
+        entries,
+    })
 }
 
 // Row "after reading", 5: the head of the first dependent entry.
-fn first_dependent(c: Catalogue) -> Fault
-    requires count_le_most_entries { c.count ≤ most_entries }
-    requires all { All EntryFits (entries_in c) }
-    ensures { result ≡ fault_of (first_given dependent_at (entries_in c)) }
+fn first_dependent(entries: &[Entry]) -> Option<usize>
+    requires { All EntryFits (map entry_in entries.now) }
+    ensures { option_in result ≡ first_given dependent_at (map entry_in entries.now) }
 {
-    for k in 0..c.count {
-        let e = c.entries[k];
+    for e in entries {
         if dependent(e) {
-            return Fault {
-                found: true,
-                at: e.place,
-            };
+            return Some(e.place);
         }
     }
-    faultless()
+    None
 }
 
-// Whether an entry has a see word that names none of the first count numbers.
-fn lost(e: Entry, numbers: &[u32], count: usize) -> bool
-    requires { count ≤ length numbers.now }
-    ensures { result ≡ (e.sees && not (any (is_number e.see) (take count numbers.now))) }
+// The place of an entry's see word, if it names none of these numbers.
+fn lost(e: &Entry, numbers: &[u32]) -> Option<usize>
+    ensures { (es : List definition.Entry) → numbers.now ≡ map (λ e. e.head.number) es → option_in result ≡ lost_at es (entry_in e.now) }
 {
-    e.sees && !numbered(numbers, count, e.see)
+    let see = e.see?;
+    if numbers.contains(&see.number) {
+        return None;
+    }
+    Some(see.place)
 }
 
-// Row "after reading", 12: the first see word that names no entry.
-pub fn first_lost(c: Catalogue) -> Fault
-    requires { c.count ≤ most_entries }
-    ensures { result ≡ fault_of (first_given (lost_at (entries_in c)) (entries_in c)) }
+// Row "after reading", 12: the first see word that names no entry. With `find_map` it is proved safe, but not which it is.
+pub fn first_lost(entries: &[Entry]) -> Option<usize>
+    requires { length entries.now ≤ most_entries }
+    ensures { option_in result ≡ first_given (lost_at (map entry_in entries.now)) (map entry_in entries.now) }
 {
-    let numbers = catalogue_records::numbers(c);
-    for k in 0..c.count {
-        let e = c.entries[k];
-        if lost(e, &numbers, c.count) {
-            return Fault {
-                found: true,
-                at: e.at,
-            };
+    let numbers = catalogue_records::numbers(entries);
+    let numbers = &numbers[..entries.len()];
+    for e in entries {
+        if let Some(place) = lost(e, numbers) {
+            return Some(place);
         }
     }
-    faultless()
+    None
 }
 
 // The words of a file and the rows "after reading".
-fn read_all(bytes: &[u8]) -> Catalogue
-    ensures { result ≡ catalogue_of (read_all bytes.now) }
+fn read_all(bytes: &[u8]) -> Result<Catalogue, Refused>
+    ensures outcome { outcome_in result ≡ read_all bytes.now }
+    ensures stored { StoredIn result }
 {
-    let c = read_words(bytes);
-    if c.refusal != 0 {
-        return c;
+    let c = read_words(bytes)?;
+    if let Some(place) = first_dependent(c.list()) {
+        return Err(Refused {
+            refusal: Refusal::Dependent,
+            place,
+        });
     }
-    let bases = first_dependent(c);
-    let links = first_lost(c);
-    if bases.found {
-        return Catalogue::refused(5, bases.at);
+    if let Some(place) = first_lost(c.list()) {
+        return Err(Refused {
+            refusal: Refusal::SeesNoEntry,
+            place,
+        });
     }
-    if links.found {
-        return Catalogue::refused(12, links.at);
-    }
-    c
+    Ok(c)
 }
 
-// Whether the first word is of this kind.
-fn opens_with(kind: u32, bytes: &[u8]) -> bool
-    ensures { result ≡ opens_with kind (words_of bytes.now) }
+// Whether the first word is that of a head in this form.
+fn opens_in(form: Form, bytes: &[u8]) -> bool
+    ensures { result ≡ opens_in (form_in form) (words_of bytes.now) }
 {
-    4 <= bytes.len() && word_at(bytes, 0) / 268435456 == kind
+    4 <= bytes.len() && decode(word_at(bytes, 0)).opens(form)
 }
 
 // How many bytes the file may have: more when the first word is the number of a head in the new form.
 fn most_bytes(bytes: &[u8]) -> usize
     ensures { result ≡ most_bytes (form_shown (words_of bytes.now)) }
 {
-    if opens_with(6, bytes) {
+    if opens_in(Form::New, bytes) {
         return Catalogue::MOST_BYTES;
     }
     Catalogue::MOST_OLD_BYTES
 }
 
-// Row "whole file": 0 if none applies.
-fn file_refusal(bytes: &[u8]) -> u64
-    ensures { result ≡ first_row (file_rows bytes.now) }
+// Row "whole file".
+fn file(bytes: &[u8]) -> Result<(), Refused>
+    ensures { (o : Outcome) → outcome_by (λ u. o) result ≡ checked (λ n. refused n 0) (file_rows bytes.now) o }
 {
     if bytes.len() % 4 != 0 {
-        return 8;
+        return Err(Refused {
+            refusal: Refusal::PartOfAWord,
+            place: 0,
+        });
     }
     if most_bytes(bytes) < bytes.len() {
-        return 9;
+        return Err(Refused {
+            refusal: Refusal::TooManyBytes,
+            place: 0,
+        });
     }
-    0
+    Ok(())
 }
 
 // Reads a catalogue.
-pub fn read(bytes: &[u8]) -> Catalogue
-    ensures { result ≡ catalogue_of (read bytes.now) }
+pub fn read(bytes: &[u8]) -> Result<Catalogue, Refused>
+    ensures outcome { outcome_in result ≡ read bytes.now }
+    ensures stored { StoredIn result }
 {
-    let refusal = file_refusal(bytes);
-    if refusal != 0 {
-        return Catalogue::refused(refusal, 0);
-    }
+    file(bytes)?;
     read_all(bytes)
 }
 
-// Row 10 of a move to this form: the first word is that of a head in it.
-fn opens_in(form: Form, bytes: &[u8]) -> bool
-    ensures { result ≡ opens_in (form_in form) (words_of bytes.now) }
-{
-    match form {
-        Form::Old => opens_with(1, bytes),
-        Form::New => opens_with(6, bytes),
-    }
-}
-
 // Reads a catalogue that is to be written in this form: 10 for one that opens with a head in it, before any other word is judged.
-pub fn read_to_move(form: Form, bytes: &[u8]) -> Catalogue
-    ensures { result ≡ catalogue_of (read_to_move (form_in form) bytes.now) }
+pub fn read_to_move(form: Form, bytes: &[u8]) -> Result<Catalogue, Refused>
+    ensures outcome { outcome_in result ≡ read_to_move (form_in form) bytes.now }
+    ensures stored { StoredIn result }
 {
-    let refusal = file_refusal(bytes);
-    if refusal != 0 {
-        return Catalogue::refused(refusal, 0);
-    }
+    file(bytes)?;
     if opens_in(form, bytes) {
-        return Catalogue::refused(10, 0);
+        return Err(Refused {
+            refusal: Refusal::WordOutOfPlace,
+            place: 0,
+        });
     }
     read_all(bytes)
 }

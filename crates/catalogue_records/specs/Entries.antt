@@ -1,14 +1,14 @@
 -- That what was stored is found again, and the first place of which a test speaks, as a loop finds it.
-use Rattle.std.specs.Prelude.{◌≡◌, refl, Bool, true, false, List, [], ◌∷◌, map, ℕ, suc, ◌+◌, ◌*◌, ◌≤◌, ◌<◌, pos, length, get_or, take, drop}
+use Rattle.std.specs.Prelude.{◌≡◌, refl, false, List, [], ◌∷◌, map, ℕ, suc, ◌+◌, ◌*◌, ◌≤◌, ◌<◌, pos, length, get_or, take, drop, None}
 use Rattle.std.proofs.Math.Path.{sym, ap}
-use Rattle.std.proofs.Common.{ap₂, ◌∙◌, subst, add-one, arith, length-take, drop_of_length-le, drop-cons, get_or-take}
-use Rattle.std.proofs.Math.Option.{Option, none, some}
+use Rattle.std.proofs.Common.{ap₂, ◌∙◌, subst, add-one, arith, drop_of_length-le, drop-cons}
+use Rattle.std.proofs.Math.Option as maybe
 use Rattle.std.proofs.lemmas.List.{length-map}
 use Rattle.integers.specs.All.{All}
 use Rattle.integers.specs.AllLaws.{get_d_map, all-at}
 use Rattle.lattices.specs.Refusal.{vectors_of}
 use Rattle.catalogue_rules.specs.Catalogue as definition
-use Rattle.catalogue_rules.specs.Catalogue.{Form, old, new, Head, See, coordinates, see_number, most_entries, most_numbers}
+use Rattle.catalogue_rules.specs.Catalogue.{Form, old, new, Head, coordinates, most_entries, most_numbers}
 use Rattle.integers.specs.First.{first_given}
 use Rattle.catalogue_rules.specs.Form.{EntryFits}
 use Rattle.catalogue_rules.proofs.Laws.EntriesAccepted.{count-coordinates, few-coordinates, vectors-back}
@@ -18,16 +18,16 @@ use Rattle.catalogue_records.specs.declared.Catalogue.{Catalogue}
 use Rattle.catalogue_records.specs.EntriesIn.{form_in, see_in, entry_in, entries_in}
 use Rattle.integers.specs.Filled.{filled}
 use Rattle.integers.specs.FilledLaws.{take-filled}
-use Rattle.catalogue_records.specs.Stored.{no_entry, stored_form, sees, see_place, entry_of}
-use Rattle.catalogue_records.specs.Catalogues.{stored, holding}
+use Rattle.catalogue_records.specs.Stored.{no_entry, stored_form, stored_see, entry_of}
+use Rattle.catalogue_records.specs.Catalogues.{stored, catalogue_of, IsStored}
 
 -- ---- what was stored is found again
 
-see-back : (o : Option See) → see_in (sees o) (see_number o) (see_place o) ≡ o
-see-back none = refl
-see-back (some s) = refl
+pub see-back : (o : maybe.Option definition.See) → see_in (stored_see o) ≡ o
+see-back maybe.none = refl
+see-back (maybe.some s) = refl
 
-form-back : (f : Form) → form_in (stored_form f) ≡ f
+pub form-back : (f : Form) → form_in (stored_form f) ≡ f
 form-back old = refl
 form-back new = refl
 
@@ -47,67 +47,58 @@ map_back : (es : List definition.Entry) → All EntryFits es → map entry_in (m
 map_back [] p = refl
 map_back (e ∷ es) p = ap₂ ◌∷◌ (entry-back e p.0) (map_back es p.1)
 
-pub entries-back : (es : List definition.Entry) → length es ≤ most_entries → All EntryFits es → entries_in (holding (length es) (stored es)) ≡ es
+pub entries-back : (es : List definition.Entry) → length es ≤ most_entries → All EntryFits es → entries_in (catalogue_of es) ≡ es
 entries-back es few p =
     let n = length-map es entry_of in
     ap (λ k. map entry_in (take k (stored es))) (sym n) ∙ ap (map entry_in) (take-filled no_entry most_entries (map entry_of es) (omega (arith, n))) ∙ map_back es p
 
--- ---- the k-th entry
+-- so it is a catalogue with empty entries after its own
+pub is_stored : (es : List definition.Entry) → length es ≤ most_entries → All EntryFits es → IsStored (catalogue_of es)
+is_stored es few p = let back = sym (entries-back es few p) in record { count = ap length back; entries = ap stored back }
 
--- as the typing of arrays tells it: through what stands for an entry
-pub all-stored : {B : Type 0} (c : Catalogue) (f : Entry → B) → length (map f c.entries) ≡ most_entries → length c.entries ≡ most_entries
-all-stored c f p = sym (length-map c.entries f) ∙ p
+pub is_stored-catalogue : {c : Catalogue} → IsStored c → c ≡ catalogue_of (entries_in c)
+is_stored-catalogue {c} s = λ i. record { count = s.count i; entries = s.entries i }
+
+-- ---- the k-th entry
 
 -- what an array of entries gives beyond its end
 abbrev pub beyond : Entry
-beyond = record { form = Old; number = 0; d = 0; m = 0; place = 0; draft = false; sees = false; see = 0; at = 0; coordinates = [] }
+beyond = record { form = Old; number = 0; d = 0; m = 0; place = 0; draft = false; see = None; coordinates = [] }
 
-abbrev pub entry_at : Catalogue → ℕ → Entry
-entry_at c k = get_or c.entries k beyond
+abbrev pub entry_at : List Entry → ℕ → Entry
+entry_at l k = get_or l k beyond
 
--- a place, if the test says so
-abbrev pub place_if : Bool → ℕ → Option ℕ
-place_if true p = some p
-place_if false p = none
+module _ (l : List Entry) where
+  pub length-entries : length (map entry_in l) ≡ length l
+  length-entries = length-map l entry_in
 
--- the test of an entry: whether, and at which place
-pub record Says (f : definition.Entry → Option ℕ) (e : definition.Entry) (t : Bool) (p : ℕ) : Type 0 where
-  pub place : place_if t p ≡ f e
-
-module _ (c : Catalogue) (long : length c.entries ≡ most_entries) (few : c.count ≤ most_entries) where
-  pub length-entries : length (entries_in c) ≡ c.count
-  length-entries = length-map (take c.count c.entries) entry_in ∙ omega (arith, length-take c.count c.entries)
-
-  module _ (k : ℕ) (here : k < c.count) where
-    pub inside : k < length (entries_in c)
+  module _ (k : ℕ) (here : k < length l) where
+    pub inside : k < length (map entry_in l)
     inside = omega (arith, length-entries)
 
-    pub at_place : get_or (entries_in c) k (entry_in beyond) ≡ entry_in (entry_at c k)
-    at_place =
-        get_d_map entry_in (take c.count c.entries) beyond (entry_in beyond) k (omega (arith, length-take c.count c.entries))
-        ∙ ap entry_in (get_or-take c.count c.entries k beyond here)
+    pub at_place : get_or (map entry_in l) k (entry_in beyond) ≡ entry_in (entry_at l k)
+    at_place = get_d_map entry_in l beyond (entry_in beyond) k here
 
-    pub entry_has : (P : definition.Entry → Type 0) → All P (entries_in c) → P (entry_in (entry_at c k))
-    entry_has P p = subst P at_place (all-at P (entries_in c) (entry_in beyond) p k inside)
+    pub entry_has : (P : definition.Entry → Type 0) → All P (map entry_in l) → P (entry_in (entry_at l k))
+    entry_has P p = subst P at_place (all-at P (map entry_in l) (entry_in beyond) p k inside)
 
-    module _ {f : definition.Entry → Option ℕ} {t : Bool} {p : ℕ} (says : Says f (entry_in (entry_at c k)) t p) where
-      -- the place that is told, or the first after it
-      told : Bool → Option ℕ
-      told t = elim (place_if t p) [ some q ↦ some q | none ↦ first_given f (drop (suc k) (entries_in c)) ]
+  module _ (k : ℕ) (here : k < length l) (f : definition.Entry → maybe.Option ℕ) where
+    -- what the k-th entry gives, or else the first after it
+    told : maybe.Option ℕ → maybe.Option ℕ
+    told o = elim o [ maybe.some q ↦ maybe.some q | maybe.none ↦ first_given f (drop (suc k) (map entry_in l)) ]
 
-      first-from : first_given f (drop k (entries_in c)) ≡ told t
-      unfolding told
-      first-from =
-          ap (first_given f) (drop-cons (entries_in c) k (entry_in beyond) inside)
-          ∙ ap (λ o. elim o [ some q ↦ some q | none ↦ first_given f (drop (suc k) (entries_in c)) ]) (ap f at_place ∙ sym says.place)
+    first-from : {o : maybe.Option ℕ} → f (entry_in (entry_at l k)) ≡ o → first_given f (drop k (map entry_in l)) ≡ told o
+    unfolding told
+    first-from e =
+        ap (first_given f) (drop-cons (map entry_in l) k (entry_in beyond) (inside k here)) ∙ ap told (ap f (at_place k here) ∙ e)
 
-      pub first-here : t ≡ true → first_given f (drop k (entries_in c)) ≡ some p
-      unfolding told
-      first-here e = first-from ∙ ap told e
+    pub first-here : {p : ℕ} → f (entry_in (entry_at l k)) ≡ maybe.some p → first_given f (drop k (map entry_in l)) ≡ maybe.some p
+    unfolding told
+    first-here e = first-from e
 
-      pub first-later : t ≡ false → first_given f (drop k (entries_in c)) ≡ first_given f (drop (k + 1) (entries_in c))
-      unfolding told
-      first-later e = first-from ∙ ap told e ∙ ap (λ n. first_given f (drop n (entries_in c))) (sym (add-one k))
+    pub first-later : f (entry_in (entry_at l k)) ≡ maybe.none → first_given f (drop k (map entry_in l)) ≡ first_given f (drop (k + 1) (map entry_in l))
+    unfolding told
+    first-later e = first-from e ∙ ap (λ n. first_given f (drop n (map entry_in l))) (sym (add-one k))
 
-  pub first-end : (f : definition.Entry → Option ℕ) (k : ℕ) → c.count ≤ k → first_given f (drop k (entries_in c)) ≡ none
-  first-end f k h = ap (first_given f) (drop_of_length-le (entries_in c) {i = k} (omega (arith, length-entries)))
+  pub first-end : (f : definition.Entry → maybe.Option ℕ) (k : ℕ) → length l ≤ k → first_given f (drop k (map entry_in l)) ≡ maybe.none
+  first-end f k h = ap (first_given f) (drop_of_length-le (map entry_in l) {i = k} (omega (arith, length-entries)))

@@ -1,4 +1,4 @@
--- What is stored of a catalogue, against the definitions: an entry, the array of entries, what was read, and what a writing says.
+-- What is stored of a catalogue, against the definitions: an entry, the array of entries, and what reading and writing give.
 pub mod Stored
 pub mod Catalogues
 pub mod EntriesIn

@@ -1,7 +1,9 @@
-// What is stored of a catalogue: entries, the outcome of reading, and what a writing says.
+// What is stored of a catalogue: an entry with its see word, and the entries in an array.
 #![tactic(auto)]
 
-ghost use Rattle.std.specs.Prelude.{◌≡◌, map};
+ghost use Rattle.std.specs.Prelude.{◌≡◌, ◌≤◌, length, map, take};
+ghost use Rattle.integers.specs.Filled.{filled};
+ghost use Rattle.catalogue_rules.specs.Catalogue.{most_entries};
 ghost use Rattle.catalogue_records.specs.Stored.{no_entry};
 ghost use Rattle.catalogue_records.specs.Catalogues.{no_catalogue};
 
@@ -9,14 +11,20 @@ ghost use Rattle.catalogue_records.specs.Catalogues.{no_catalogue};
 pub const NUMBERS: usize = 4 * row_operations::WIDTH;
 
 // The form of a head: one word, or two with a longer number.
-#[derive(Clone, Copy)]
+#[derive(Clone, Copy, PartialEq, Eq)]
 pub enum Form {
     Old,
     New,
 }
 
-// An entry: its head, the form of the head and its place; whether it is a draft; whether it has a see word, its number and where it stands; d times m
-// coordinates, then zeros.
+// A see word: the number that it names, and the index of the word.
+#[derive(Clone, Copy)]
+pub struct See {
+    pub number: u32,
+    pub place: usize,
+}
+
+// An entry: its head, the form of the head and its place; whether it is a draft; its see word; d times m coordinates, then zeros.
 #[derive(Clone, Copy)]
 pub struct Entry {
     pub form: Form,
@@ -25,27 +33,15 @@ pub struct Entry {
     pub m: usize,
     pub place: usize,
     pub draft: bool,
-    pub sees: bool,
-    pub see: u32,
-    pub at: usize,
+    pub see: Option<See>,
     pub coordinates: [i64; NUMBERS],
 }
 
-// The outcome of reading: a refusal and its place, or the entries.
+// The first count entries; those after them are empty.
 #[derive(Clone, Copy)]
 pub struct Catalogue {
-    pub refusal: u64,
-    pub place: usize,
     pub count: usize,
     pub entries: [Entry; Catalogue::MOST_ENTRIES],
-}
-
-// What a writing says: a refusal and its place, or how many bytes were written.
-#[derive(Clone, Copy)]
-pub struct Written {
-    pub refusal: u64,
-    pub place: usize,
-    pub length: usize,
 }
 
 impl Catalogue {
@@ -65,23 +61,21 @@ impl Catalogue {
 
     pub const MOST_LOAD: u32 = 40000;
 
-    // No entry; without a refusal for 0.
-    pub fn refused(refusal: u64, place: usize) -> Catalogue
-        ensures { result ≡ no_catalogue refusal place }
+    pub fn empty() -> Catalogue
+        ensures { result ≡ no_catalogue }
     {
-        let none = Entry::empty();
         Catalogue {
-            refusal: refusal,
-            place: place,
             count: 0,
-            entries: [none; Self::MOST_ENTRIES],
+            entries: [Entry::empty(); Self::MOST_ENTRIES],
         }
     }
 
-    pub fn empty() -> Catalogue
-        ensures { result ≡ no_catalogue 0 0 }
+    // The entries.
+    pub fn list(&self) -> &[Entry]
+        requires { self.now.count ≤ most_entries }
+        ensures { result.now ≡ take self.now.count self.now.entries }
     {
-        Self::refused(0, 0)
+        &self.entries[..self.count]
     }
 }
 
@@ -96,21 +90,19 @@ impl Entry {
             m: 0,
             place: 0,
             draft: false,
-            sees: false,
-            see: 0,
-            at: 0,
+            see: None,
             coordinates: [0; NUMBERS],
         }
     }
 }
 
-// The numbers of the stored entries.
-pub fn numbers(c: Catalogue) -> [u32; Catalogue::MOST_ENTRIES]
-    ensures { result ≡ map (λ e. e.number) c.entries }
+// The numbers of the entries, then zeros.
+pub fn numbers(entries: &[Entry]) -> [u32; Catalogue::MOST_ENTRIES]
+    requires { length entries.now ≤ most_entries }
+    ensures { result ≡ filled 0 most_entries (map (λ e. e.number) entries.now) }
 {
-    let mut numbers = [0u32; Catalogue::MOST_ENTRIES];
-    for k in 0..Catalogue::MOST_ENTRIES {
-        let e = c.entries[k];
+    let mut numbers = [0; Catalogue::MOST_ENTRIES];
+    for (k, e) in entries.iter().enumerate() {
         numbers[k] = e.number;
     }
     numbers

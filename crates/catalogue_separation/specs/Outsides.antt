@@ -1,7 +1,6 @@
 -- The first vector outside a lattice, as the code finds it, tells what the definition tells.
-use Rattle.std.specs.Prelude.{◌≡◌, refl, Bool, true, false, not, ◌&&◌, List, [], ◌∷◌, map, ℕ, zero, suc, ◌+◌, ◌≤◌, ◌<◌, ℤ, length, get_or}
+use Rattle.std.specs.Prelude.{◌≡◌, refl, Bool, true, false, not, ◌&&◌, List, [], ◌∷◌, map, ℕ, zero, suc, ◌+◌, ◌<◌, ℤ, length, get_or, Option, Some, None}
 use Rattle.std.proofs.Common.{sym, ap, ◌∙◌, arith}
-use Rattle.std.proofs.lemmas.List.{length-map}
 use Rattle.std.proofs.lemmas.Bool.{not-true, not-false}
 use Rattle.integers.specs.Every.{every}
 use Rattle.lattices.specs.Vector.{Vec}
@@ -24,9 +23,18 @@ use Rattle.separation_rules.proofs.Laws.Outside.{outside-here, outside-next}
 use Rattle.catalogue_separation.specs.declared.Outside.{Outside}
 
 -- r has the place of the first of the vectors vs that is not in the lattice of bs, and its squared distance to it
-pub record OutsideOf (bs vs : List Vec) (r : Outside) : Type 0 where
+pub record FirstOutside (bs vs : List Vec) (r : Outside) : Type 0 where
   pub first : First (λ i. not (is_member bs (get_or vs i []))) (length vs) r.place
-  pub square : r.place < length vs → r.square ≡ squared_to bs (get_or vs r.place [])
+  pub within : r.place < length vs
+  pub square : r.square ≡ squared_to bs (get_or vs r.place [])
+
+-- all of them are in it
+pub record AllInside (bs vs : List Vec) : Type 0 where
+  pub none : First (λ i. not (is_member bs (get_or vs i []))) (length vs) (length vs)
+
+abbrev pub OutsideOf : List Vec → List Vec → Option Outside → Type 0
+OutsideOf bs vs (Some r) = FirstOutside bs vs r
+OutsideOf bs vs None = AllInside bs vs
 
 -- ---- what is told of it
 
@@ -78,13 +86,9 @@ module _ (g : Entry) (s : Sound g) (tell : ℕ → ℤ → Separation) (other : 
 
 -- ---- what the code has found of e, in the lattice of g
 
-module _ (e g : Entry) (s : Sound e) (t : Sound g) (same : e.head.m ≡ g.head.m) {l : Lattice} (p : LatticeOf (reduced_entry g) l)
-    {r : Outside} (o : OutsideOf (vectors_in l) (map (padded most_coordinates) e.vectors) r) where
+module _ (e g : Entry) (s : Sound e) (t : Sound g) (same : e.head.m ≡ g.head.m) {l : Lattice} (p : LatticeOf (reduced_entry g) l) where
   abbrev vs : List Vec
   vs = map (padded most_coordinates) e.vectors
-
-  count : length vs ≡ e.head.d
-  count = length-map e.vectors (padded most_coordinates) ∙ s.fits.count
 
   basis : vectors_in l ≡ map (padded most_coordinates) (reduced_of g)
   basis = lattice-vectors p ∙ basis-are g t
@@ -96,22 +100,19 @@ module _ (e g : Entry) (s : Sound e) (t : Sound g) (same : e.head.m ≡ g.head.m
   told-entered tell other =
       ap (λ bs. outside_from tell 1 bs vs other) basis ∙ entered-told g t tell other e.head.m 1 same e.vectors (entry-basis e s).full
 
-  module _ (h : r.place < e.head.d) where
-    here : r.place < length vs
-    here = omega (arith, count)
-
+  module _ {r : Outside} (o : FirstOutside (vectors_in l) (map (padded most_coordinates) e.vectors) r) where
     pub outside-held : holds g e ≡ false
-    outside-held = sym held ∙ one-no (is_member (vectors_in l)) vs r.place here (o.first.here here)
+    outside-held = sym held ∙ one-no (is_member (vectors_in l)) vs r.place o.within (o.first.here o.within)
 
     pub outside-is : (tell : ℕ → ℤ → Separation) (other : Separation) → outside_from tell 1 (reduced_of g) e.vectors other ≡ tell (r.place + 1) r.square
     outside-is tell other =
         let position : 1 + r.place ≡ r.place + 1 = omega arith in
-        sym (told-entered tell other) ∙ outside_told tell other (vectors_in l) 1 r.place vs here o.first.before (o.first.here here)
-        ∙ (λ i. tell (position i) (sym (o.square here) i))
+        sym (told-entered tell other) ∙ outside_told tell other (vectors_in l) 1 r.place vs o.within o.first.before (o.first.here o.within)
+        ∙ (λ i. tell (position i) (sym o.square i))
 
-  module _ (h : e.head.d ≤ r.place) where
+  module _ (o : AllInside (vectors_in l) (map (padded most_coordinates) e.vectors)) where
     all : (j : ℕ) → j < length vs → not (is_member (vectors_in l) (get_or vs j [])) ≡ false
-    all j k = o.first.before j (omega (arith, count))
+    all j k = o.none.before j k
 
     pub inside-held : holds g e ≡ true
     inside-held = sym held ∙ all_yes (is_member (vectors_in l)) vs all

@@ -1,6 +1,7 @@
 -- The standing entry of one entry, as the code finds it without those of the others: no entry is tested twice, and none is reduced but that one.
 use Rattle.std.specs.Prelude.{◌≡◌, refl, ◌↔◌, Bool, true, false, not, cond, ◌&&◌, List, ◌∷◌, ◌++◌, map, ℕ, suc, ◌≤◌, ◌<◌, nat_abs, length, get_or, take, drop}
 use Rattle.std.proofs.Common.{sym, ap, ap₂, ◌∙◌, subst, le_of_lt, arith, take-append-drop, drop-cons, get_or-take, length-take-le, eqb-true, eq-eqb}
+use Rattle.std.proofs.Math.Bool.{beq}
 use Rattle.std.proofs.Math.Decide.{dec_lt}
 use Rattle.integers.specs.Every.{every}
 use Rattle.integers.specs.All.{All}
@@ -84,18 +85,25 @@ module _ (f e : Entry) (t : Sound f) (s : Sound e) (m : f.head.m ≡ e.head.m) (
 
 -- ---- the standing entry of one
 
--- f is of the lattice of e and no draft, and of it and a draft
-abbrev pub checked_of : Entry → Entry → Bool
-checked_of e f = not f.draft && same_lattice f e
+-- f is of the lattice of e, and a draft or none
+abbrev pub marked_of : Bool → Entry → Entry → Bool
+marked_of draft e f = cond draft f.draft (not f.draft) && same_lattice f e
 
-abbrev pub draft_of : Entry → Entry → Bool
-draft_of e f = f.draft && same_lattice f e
+-- as the code tests it
+by-mark : (b draft s : Bool) → (cond draft b (not b) && s) ≡ (beq b draft && s)
+by-mark true true s = refl
+by-mark true false s = refl
+by-mark false true s = refl
+by-mark false false s = refl
+
+pub marked-test : (draft : Bool) (e f : Entry) {b : Bool} → beq f.draft draft ≡ b → marked_of draft e f ≡ (b && same_lattice f e)
+marked-test draft e f h = by-mark f.draft draft (same_lattice f e) ∙ ap (λ b. b && same_lattice f e) h
 
 -- how many entries are looked at for one that is no draft
 abbrev pub searched : Bool → ℕ → ℕ → ℕ
 searched draft k count = cond draft count k
 
-alike-good : (e f : Entry) → checked_of e f ≡ (same_lattice f e && not f.draft)
+alike-good : (e f : Entry) → marked_of false e f ≡ (same_lattice f e && not f.draft)
 alike-good e f = go f.draft (same_lattice f e)
   where
     go : (d s : Bool) → (not d && s) ≡ (s && not d)
@@ -105,7 +113,7 @@ alike-good e f = go f.draft (same_lattice f e)
     go false false = refl
 
 -- where all of the lattice are drafts, the tests agree
-alike-draft : (e f : Entry) → (same_lattice f e && not f.draft) ≡ false → draft_of e f ≡ same_lattice f e
+alike-draft : (e f : Entry) → (same_lattice f e && not f.draft) ≡ false → marked_of true e f ≡ same_lattice f e
 alike-draft e f = go f.draft (same_lattice f e)
   where
     go : (d s : Bool) → (s && not d) ≡ false → (d && s) ≡ s
@@ -124,10 +132,10 @@ module _ (es : List Entry) (o : Entry) (w : WellFormed es) (k : ℕ) (h : k < le
   sound = all-at Sound es o (sound-entries es w) k h
 
   -- found among all, or among those before an entry that is no draft
-  pub alike-checked : {r : ℕ} → First (λ j. checked_of e (at j)) (length es) r → r < length es → StandsAt es o k r
+  pub alike-checked : {r : ℕ} → First (λ j. marked_of false e (at j)) (length es) r → r < length es → StandsAt es o k r
   alike-checked {r} p l = checked-stands es o w k h l (λ j m. sym (alike-good e (at j)) ∙ p.before j m) (sym (alike-good e (at r)) ∙ p.here l)
 
-  pub alike-before : e.draft ≡ false → {r : ℕ} → First (λ j. checked_of e (at j)) k r → StandsAt es o k r
+  pub alike-before : e.draft ≡ false → {r : ℕ} → First (λ j. marked_of false e (at j)) k r → StandsAt es o k r
   alike-before plain {r} p = checked-stands es o w k h (omega (arith, p.within)) (λ j m. sym (alike-good e (at j)) ∙ p.before j m) (go (dec_lt r k))
     where
       go : Dec (r < k) → (same_lattice (at r) e && not (at r).draft) ≡ true
@@ -137,7 +145,7 @@ module _ (es : List Entry) (o : Entry) (w : WellFormed es) (k : ℕ) (h : k < le
           ap (λ i. same_lattice (at i) e && not (at i).draft) q ∙ ap₂ (λ s d. s && not d) ((one-lattice.exactly e e sound sound).1 (one_refl e)) plain
 
   -- found among the drafts before it, where none of the lattice is checked
-  module _ {n : ℕ} (none : First (λ j. checked_of e (at j)) (length es) n) (past_end : length es ≤ n) where
+  module _ {n : ℕ} (none : First (λ j. marked_of false e (at j)) (length es) n) (past_end : length es ≤ n) where
     drafts : (j : ℕ) → j < length es → (same_lattice (at j) e && not (at j).draft) ≡ false
     drafts j l = sym (alike-good e (at j)) ∙ none.before j (omega arith)
 
@@ -153,10 +161,10 @@ module _ (es : List Entry) (o : Entry) (w : WellFormed es) (k : ℕ) (h : k < le
     first-before : first_by same_lattice es e ≡ first_entry (λ f. same_lattice f e) e past
     first-before = ap (λ l. first_by same_lattice l e) (sym split) ∙ first-new one-lattice past e (drop (suc k) es) sound
 
-    here : (j : ℕ) → j < k → same_lattice (get_or past j o) e ≡ draft_of e (at j)
+    here : (j : ℕ) → j < k → same_lattice (get_or past j o) e ≡ marked_of true e (at j)
     here j l = ap (λ f. same_lattice f e) (get_or-take k es j o l) ∙ sym (alike-draft e (at j) (drafts j (omega arith)))
 
-    first-at : {r : ℕ} → First (λ j. draft_of e (at j)) k r → at r ≡ first_by same_lattice es e
+    first-at : {r : ℕ} → First (λ j. marked_of true e (at j)) k r → at r ≡ first_by same_lattice es e
     first-at {r} p = go (dec_lt r k)
       where
         go : Dec (r < k) → at r ≡ first_by same_lattice es e
@@ -167,5 +175,5 @@ module _ (es : List Entry) (o : Entry) (w : WellFormed es) (k : ℕ) (h : k < le
             let q : r ≡ k = omega (arith, p.within) in
             ap at q ∙ sym (first-before ∙ first-none (λ f. same_lattice f e) e o past (λ j m. here j (omega (arith, past-long)) ∙ p.before j (omega (arith, past-long))))
 
-    pub alike-drafts : {r : ℕ} → First (λ j. draft_of e (at j)) k r → StandsAt es o k r
+    pub alike-drafts : {r : ℕ} → First (λ j. marked_of true e (at j)) k r → StandsAt es o k r
     alike-drafts p = first-stands es o w k h (omega (arith, p.within)) drafts (first-at p)

@@ -1,5 +1,8 @@
 -- The places of the first entries of lattices, as the code finds them.
-use Rattle.std.specs.Prelude.{◌≡◌, ◌≢◌, Bool, true, false, ◌&&◌, List, ℕ, ◌+◌, ◌≤◌, ◌<◌, eqb, length, get_or, set}
+use Rattle.std.specs.Prelude.{◌≡◌, ◌≢◌, Bool, true, false, ◌&&◌, List, ℕ, ◌+◌, ◌≤◌, ◌<◌, eqb, ltb, cond, refl, length, get_or, set, Option, Some, None}
+use Rattle.std.specs.List.{position, position_or_len}
+use Rattle.std.proofs.lemmas.List.Sums.{fails_before_first, passes_at_first}
+use Rattle.std.proofs.lemmas.Bool.{ltb-true, ltb-false}
 use Rattle.std.proofs.Common.{sym, ap, ◌∙◌, subst, arith, length-set, get_or-set_same, get_or-set_other, eq-eqb, ne_eqb}
 use Rattle.std.proofs.Math.Decide.{dec_lt}
 use Rattle.lattice_membership.specs.Known.{Left}
@@ -11,6 +14,11 @@ pub record First (f : ℕ → Bool) (n r : ℕ) : Type 0 where
   pub within : r ≤ n
   pub before : (j : ℕ) → j < r → f j ≡ false
   pub here : r < n → f r ≡ true
+
+-- the same, as the code answers: the place, or that there is none
+abbrev pub FirstFound : (ℕ → Bool) → ℕ → Option ℕ → Type 0
+FirstFound f n (Some r) = First f n r × (r < n)
+FirstFound f n None = First f n n
 
 -- entry j is the first of its lattice, and of the lattice of entry k
 abbrev pub first_alike : List Left → List ℕ → ℕ → ℕ → Bool
@@ -32,6 +40,32 @@ pub record Firsts (list : List Left) (n : ℕ) (places : List ℕ) : Type 0 wher
 
 pub first-like : {f g : ℕ → Bool} {n r : ℕ} → ((j : ℕ) → j < n → f j ≡ g j) → First f n r → First g n r
 first-like {f} {g} {n} {r} same p = record { within = p.within; before = λ j h. sym (same j (omega (arith, p.within))) ∙ p.before j h; here = λ h. sym (same r h) ∙ p.here h }
+
+pub found-like : {f g : ℕ → Bool} {n : ℕ} → ((j : ℕ) → j < n → f j ≡ g j) → (o : Option ℕ) → FirstFound f n o → FirstFound g n o
+found-like same (Some r) p = (first-like same p.0, p.1)
+found-like same None p = first-like same p
+
+-- the search of a loop: at its end, and where the test speaks of a place
+pub none_found : {f : ℕ → Bool} {n k : ℕ} → ((j : ℕ) → j < k → f j ≡ false) → n ≤ k → FirstFound f n None
+none_found h l = record { within = omega arith; before = λ j m. h j (omega arith); here = λ m. absurd (omega arith) }
+
+pub place_found : {f : ℕ → Bool} {n k : ℕ} → ((j : ℕ) → j < k → f j ≡ false) → f k ≡ true → k < n → FirstFound f n (Some k)
+place_found h t l = (record { within = omega arith; before = h; here = λ m. t }, l)
+
+-- the library's search
+module _ {A : Type 0} (p : A → Bool) (l : List A) (d : A) where
+  searched : (b : Bool) → ltb (position_or_len p l) (length l) ≡ b → FirstFound (λ k. p (get_or l k d)) (length l) (cond b (Some (position_or_len p l)) None)
+  searched true e =
+      let here = ltb-true (position_or_len p l) (length l) e in
+      (record { within = omega (arith, here); before = λ j h. fails_before_first p l j d h; here = λ h. passes_at_first p l d h }, here)
+  searched false e = record {
+    within = omega arith;
+    before = λ j h. fails_before_first p l j d (omega (arith, h, ltb-false (position_or_len p l) (length l) e));
+    here = λ h. absurd (omega arith);
+  }
+
+  pub position_found : FirstFound (λ k. p (get_or l k d)) (length l) (position p l)
+  position_found = searched (ltb (position_or_len p l) (length l)) refl
 
 -- one place more is known
 pub before_more : (f : ℕ → Bool) (j : ℕ) → ((i : ℕ) → i < j → f i ≡ false) → f j ≡ false → (i : ℕ) → i < j + 1 → f i ≡ false

@@ -6,10 +6,9 @@ use Rattle.std.proofs.Math.Bool.{true, false, ◌&&◌, true≢false}
 use borrow.Author.Tests.{eqb-true, eq-eqb, ne_eqb}
 use Rattle.lattices.specs.Vector.{Vec}
 use Rattle.lattices.specs.Refusal.{most_vectors, most_coordinates}
-use Rattle.lattices.specs.Answer.{padded, table, reduction_of}
+use Rattle.lattices.specs.Answer.{padded, table}
 use Rattle.successive_minima.specs.Member.{is_member}
 use Rattle.greedy_reduction.specs.Start.{Coordinates}
-use Rattle.lattice_membership.specs.Laws.Made.{rows_back}
 use Rattle.catalogue_rules.specs.Catalogue.{Entry, input_of}
 use Rattle.fold_rules.specs.Fold.{reduced_of, holds, same_lattice}
 use Rattle.integers.specs.Every.{every}
@@ -26,12 +25,9 @@ reduced_entry e = left_of (input_of e)
 abbrev pub no_reduced : Left
 no_reduced = record { d = 0; m = 0; vectors = []; squares = []; passes = 0 }
 
-abbrev pub rows_in : Left → List Vec
-rows_in k = map (λ r. r.at) k.vectors
-
 -- the reduced vectors
 abbrev pub basis_in : Left → List Vec
-basis_in k = take k.d (rows_in k)
+basis_in k = take k.d k.vectors
 
 -- the lattice of a holds every reduced vector of b
 unfoldable pub held_in : Left → Left → Bool
@@ -60,21 +56,18 @@ length-table (suc h) w [] = ap suc (length-table h w [])
 length-table (suc h) w (r ∷ rows) = ap suc (length-table h w rows)
 
 module _ (e : Entry) (s : Sound e) where
-  rows_are : rows_in (reduced_entry e) ≡ (reduction_of (input_of e)).basis
-  rows_are = rows_back (reduction_of (input_of e)).basis
-
   pub basis-are : basis_in (reduced_entry e) ≡ map (padded most_coordinates) (reduced_of e)
-  basis-are = ap (take e.head.d) rows_are ∙ entry-rows e s
+  basis-are = entry-rows e s
 
-  pub rows-table : rows_in (reduced_entry e) ≡ table most_vectors most_coordinates (reduced_of e)
-  rows-table = rows_are ∙ ap (λ r. r.basis) (entry-reduction e s)
+  pub rows-table : (reduced_entry e).vectors ≡ table most_vectors most_coordinates (reduced_of e)
+  rows-table = ap (λ r. r.basis) (entry-reduction e s)
 
   -- the test on the rows is that of the definition
   pub held-vectors : (m : ℕ) → m ≡ e.head.m → (vs : List Vec) → Coordinates m vs
       → every (is_member (basis_in (reduced_entry e))) (map (padded most_coordinates) vs) ≡ every (is_member (reduced_of e)) vs
   held-vectors m q [] c = refl
   held-vectors m q (v ∷ vs) c =
-      ap₂ ◌&&◌ (ap (λ l. is_member (take e.head.d l) (padded most_coordinates v)) rows_are ∙ entry-member e s v (c.0 ∙ q)) (held-vectors m q vs c.1)
+      ap₂ ◌&&◌ (entry-member e s v (c.0 ∙ q)) (held-vectors m q vs c.1)
 
 module _ (e f : Entry) (s : Sound e) (t : Sound f) where
   pub held-is : e.head.m ≡ f.head.m → held_in (reduced_entry e) (reduced_entry f) ≡ holds e f

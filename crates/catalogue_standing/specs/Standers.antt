@@ -1,23 +1,31 @@
--- The places of the standing entries as the code finds them in a catalogue that was read: one lattice after the other, and one entry.
-use Rattle.std.specs.Prelude.{◌≡◌, refl, ◌≢◌, Bool, true, false, not, cond, ◌&&◌, List, map, ℕ, ◌+◌, ◌≤◌, ◌<◌, eqb, length, get_or, set}
-use Rattle.std.proofs.Common.{sym, ap, ap₂, ◌∙◌, subst, arith, length-set, get_or-set_same, get_or-set_other, ne_eqb}
+-- The places of the standing entries as the code finds them among entries that were read: one lattice after the other, and one entry.
+use Rattle.std.specs.Prelude.{◌≡◌, refl, Bool, true, false, not, cond, ◌&&◌, List, map, ℕ, ◌+◌, ◌≤◌, ◌<◌, eqb, length, get_or, set, take, Option, Some, None, unwrap_or}
+use Rattle.std.proofs.Common.{sym, ap, ap₂, ◌∙◌, subst, arith, length-set, get_or-set_same, get_or-set_other, get_or-take, length-take-le, ne_eqb}
 use Rattle.std.proofs.Math.Decide.{dec_lt}
 use Rattle.integers.specs.AllLaws.{get_d_map}
+use Rattle.integers.specs.Filled.{filled}
 use Rattle.catalogue_rules.specs.Catalogue as definition
 use Rattle.catalogue_rules.specs.Catalogue.{most_entries}
 use Rattle.catalogue_rules.specs.Form.{WellFormed}
-use Rattle.catalogue_records.specs.declared.Catalogue.{Catalogue}
-use Rattle.catalogue_records.specs.EntriesIn.{entry_in, entries_in}
+use Rattle.catalogue_records.specs.declared.Entry.{Entry}
+use Rattle.catalogue_records.specs.EntriesIn.{entry_in}
 use Rattle.catalogue_records.specs.Entries.{beyond, entry_at, at_place}
-use Rattle.catalogue_standing.specs.Places.{First, first-like}
+use Rattle.catalogue_standing.specs.Places.{First, first-like, FirstFound, found-like}
 use Rattle.catalogue_standing.specs.FirstPlaces.{FirstPlaces}
 use Rattle.catalogue_standing.specs.Standing.{StandsAt, StandingPlaces, stander_checked, stander_first, shared}
-use Rattle.catalogue_standing.specs.OneEntry.{checked_of, draft_of, searched, alike-before, alike-checked, alike-drafts}
-use Rattle.catalogue_standing.specs.ReducedEntries.{WasRead, ready-length}
+use Rattle.catalogue_standing.specs.OneEntry.{marked_of, searched, alike-before, alike-checked, alike-drafts}
+use Rattle.catalogue_standing.specs.ReducedEntries.{WasRead, ready-length, filled-cut}
 
-module _ (c : Catalogue) (r : WasRead c) where
+-- the first with this mark, of the lattice of e, among the first n entries
+pub found-cut : (draft : Bool) (e : definition.Entry) (l : List Entry) (n : ℕ) → n ≤ length l → (o : Option ℕ)
+    → FirstFound (λ j. marked_of draft e (entry_in (entry_at (take n l) j))) (length (take n l)) o → FirstFound (λ j. marked_of draft e (entry_in (entry_at l j))) n o
+found-cut draft e l n h o p =
+    found-like (λ j m. ap (λ f. marked_of draft e (entry_in f)) (get_or-take n l j beyond m)) o
+    (subst (λ m. FirstFound (λ j. marked_of draft e (entry_in (entry_at (take n l) j))) m o) (length-take-le n l h) p)
+
+module _ (l : List Entry) (r : WasRead l) where
   abbrev es : List definition.Entry
-  es = entries_in c
+  es = map entry_in l
 
   abbrev o : definition.Entry
   o = entry_in beyond
@@ -25,68 +33,61 @@ module _ (c : Catalogue) (r : WasRead c) where
   abbrev entry : ℕ → definition.Entry
   entry k = get_or es k o
 
-  here : (k : ℕ) → k < c.count → entry k ≡ entry_in (entry_at c k)
-  here k h = at_place c r.long r.few k h
+  inside : (k : ℕ) → k < length l → k < length es
+  inside k h = omega (arith, ready-length l r)
 
-  inside : (k : ℕ) → k < c.count → k < length es
-  inside k h = omega (arith, ready-length c r)
-
-  counted : {f : ℕ → Bool} {k : ℕ} → First f c.count k → First f (length es) k
-  counted {f} {k} = subst (λ n. First f n k) (sym (ready-length c r))
+  counted : {f : ℕ → Bool} {k : ℕ} → First f (length l) k → First f (length es) k
+  counted {f} {k} = subst (λ n. First f n k) (sym (ready-length l r))
 
   -- ---- one entry, found without the others
-  module _ (k : ℕ) (h : k < c.count) where
-    -- entry j is checked and of the lattice of entry k, or a draft of it
-    abbrev pub checked_like : ℕ → Bool
-    checked_like j = checked_of (entry_in (entry_at c k)) (entry_in (entry_at c j))
+  module _ (k : ℕ) (h : k < length l) where
+    -- entry j has the mark and is of the lattice of entry k
+    abbrev pub marked_like : Bool → ℕ → Bool
+    marked_like draft j = marked_of draft (entry_in (entry_at l k)) (entry_in (entry_at l j))
 
-    abbrev pub draft_like : ℕ → Bool
-    draft_like j = draft_of (entry_in (entry_at c k)) (entry_in (entry_at c j))
+    by_place : (draft : Bool) {n i : ℕ} → n ≤ length l → First (marked_like draft) n i → First (λ j. marked_of draft (entry k) (entry j)) n i
+    by_place draft m found = first-like (λ j s. ap₂ (marked_of draft) (sym (at_place l k h)) (sym (at_place l j (omega arith)))) found
 
-    by_place : (test : definition.Entry → definition.Entry → Bool) {n i : ℕ} → n ≤ c.count → First (λ j. test (entry_in (entry_at c k)) (entry_in (entry_at c j))) n i → First (λ j. test (entry k) (entry j)) n i
-    by_place test l found = first-like (λ j m. ap₂ test (sym (here k h)) (sym (here j (omega arith)))) found
+    plain-stands : (entry_at l k).draft ≡ false → {i : ℕ} → First (marked_like false) k i → StandsAt es o k i
+    plain-stands e found = alike-before es o r.formed k (inside k h) (ap (λ e. e.draft) (at_place l k h) ∙ e) (by_place false (omega arith) found)
 
-    pub plain-stands : (entry_at c k).draft ≡ false → {i : ℕ} → First checked_like k i → StandsAt es o k i
-    plain-stands e found = alike-before es o r.formed k (inside k h) (ap (λ e. e.draft) (here k h) ∙ e) (by_place checked_of (omega arith) found)
+    checked-stands : {i : ℕ} → First (marked_like false) (length l) i → i < length l → StandsAt es o k i
+    checked-stands found m = alike-checked es o r.formed k (inside k h) (counted (by_place false (omega arith) found)) (inside _ m)
 
-    pub checked-stands : {i : ℕ} → First checked_like c.count i → i < c.count → StandsAt es o k i
-    checked-stands found l = alike-checked es o r.formed k (inside k h) (counted (by_place checked_of (omega arith) found)) (inside _ l)
-
-    pub draft-stands : ((j : ℕ) → j < c.count → checked_like j ≡ false) → {i : ℕ} → First draft_like k i → StandsAt es o k i
-    draft-stands none found =
-        alike-drafts es o r.formed k (inside k h) (counted (by_place checked_of (omega arith) (record { within = omega arith; before = none; here = λ l. absurd (omega arith) }))) (omega (arith, ready-length c r))
-        (by_place draft_of (omega arith) found)
-
-    -- as the first loop looks for one that is no draft: among n entries
-    module _ {n : ℕ} (is : n ≡ searched (entry_at c k).draft k c.count) where
-      pub searched-most : n ≤ c.count
-      searched-most = subst (λ m. m ≤ c.count) (sym is) (go (entry_at c k).draft)
+    -- the first loop looks for one that is no draft: among n entries
+    module _ {n : ℕ} (is : n ≡ searched (entry_at l k).draft k (length l)) where
+      pub searched-most : n ≤ length l
+      searched-most = subst (λ m. m ≤ length l) (sym is) (go (entry_at l k).draft)
         where
-          go : (b : Bool) → cond b c.count k ≤ c.count
+          go : (b : Bool) → cond b (length l) k ≤ length l
           go true = omega arith
           go false = omega arith
 
-      all-searched : (entry_at c k).draft ≡ true → n ≡ c.count
-      all-searched e = is ∙ ap (λ b. cond b c.count k) e
+      all-searched : (entry_at l k).draft ≡ true → n ≡ length l
+      all-searched e = is ∙ ap (λ b. cond b (length l) k) e
 
-      those_before : (entry_at c k).draft ≡ false → n ≡ k
-      those_before e = is ∙ ap (λ b. cond b c.count k) e
+      those_before : (entry_at l k).draft ≡ false → n ≡ k
+      those_before e = is ∙ ap (λ b. cond b (length l) k) e
 
-      pub found-stands : {i : ℕ} → i < n → ((j : ℕ) → j < i → checked_like j ≡ false) → checked_like i ≡ true → StandsAt es o k i
-      found-stands {i} l before t = go (entry_at c k).draft refl
+      pub found-stands : (i : ℕ) → FirstFound (marked_like false) n (Some i) → StandsAt es o k i
+      found-stands i found = go (entry_at l k).draft refl
         where
-          found : First checked_like n i
-          found = record { within = omega arith; before = before; here = λ m. t }
+          go : (b : Bool) → (entry_at l k).draft ≡ b → StandsAt es o k i
+          go true e = checked-stands (subst (λ m. First (marked_like false) m i) (all-searched e) found.0) (omega (arith, found.1, all-searched e))
+          go false e = plain-stands e (subst (λ m. First (marked_like false) m i) (those_before e) found.0)
 
-          go : (b : Bool) → (entry_at c k).draft ≡ b → StandsAt es o k i
-          go true e = checked-stands (subst (λ m. First checked_like m i) (all-searched e) found) (omega (arith, l, all-searched e))
-          go false e = plain-stands e (subst (λ m. First checked_like m i) (those_before e) found)
+      module _ (none : FirstFound (marked_like false) n None) where
+        pub none-stands : (entry_at l k).draft ≡ false → StandsAt es o k k
+        none-stands e = plain-stands e (subst (λ m. First (marked_like false) m m) (those_before e) none)
 
-      pub none-stands : ((j : ℕ) → j < n → checked_like j ≡ false) → (entry_at c k).draft ≡ false → StandsAt es o k k
-      none-stands none e = plain-stands e (record { within = omega arith; before = λ j l. none j (omega (arith, l, those_before e)); here = λ l. absurd (omega arith) })
+        draft-stands : (entry_at l k).draft ≡ true → {i : ℕ} → First (marked_like true) k i → StandsAt es o k i
+        draft-stands e found =
+            alike-drafts es o r.formed k (inside k h) (counted (by_place false (omega arith) (subst (λ m. First (marked_like false) m m) (all-searched e) none)))
+            (omega (arith, ready-length l r)) (by_place true (omega arith) found)
 
-      pub drafts_stand : ((j : ℕ) → j < n → checked_like j ≡ false) → (entry_at c k).draft ≡ true → {i : ℕ} → First draft_like k i → StandsAt es o k i
-      drafts_stand none e found = draft-stands (λ j l. none j (omega (arith, l, all-searched e))) found
+        pub drafts_stand : (entry_at l k).draft ≡ true → (found : Option ℕ) → FirstFound (marked_like true) k found → StandsAt es o k (unwrap_or found k)
+        drafts_stand e (Some i) found = draft-stands e found.0
+        drafts_stand e None found = draft-stands e found
 
 -- ---- one lattice after the other, from the first entries and the marks
 
@@ -103,10 +104,10 @@ none_before firsts marks count below f h i l =
 pub record Marks (es : List definition.Entry) (o : definition.Entry) (marks : List Bool) : Type 0 where
   pub mark : (k : ℕ) → k < length es → get_or marks k false ≡ (get_or es k o).draft
 
-pub ready-marks : (c : Catalogue) → WasRead c → {marks : List Bool} → marks ≡ map (λ e. e.draft) c.entries → Marks (entries_in c) (entry_in beyond) marks
-ready-marks c r e = record {
-  mark = λ k h. ap (λ l. get_or l k false) e ∙ get_d_map (λ e. e.draft) c.entries beyond false k (omega (arith, ready-length c r, r.long, r.few))
-      ∙ ap (λ f. f.draft) (sym (at_place c r.long r.few k (omega (arith, ready-length c r))));
+pub ready-marks : (l : List Entry) → WasRead l → {marks : List Bool} → marks ≡ map (λ e. e.draft) l → Marks (map entry_in l) (entry_in beyond) marks
+ready-marks l r e = record {
+  mark = λ k h. ap (λ l. get_or l k false) e ∙ get_d_map (λ e. e.draft) l beyond false k (omega (arith, ready-length l r))
+      ∙ ap (λ f. f.draft) (sym (at_place l k (omega (arith, ready-length l r))));
 }
 
 -- r is the place of the standing entry of entry k in every list of entries that the places and marks are of
@@ -115,15 +116,21 @@ pub record Stander (firsts : List ℕ) (marks : List Bool) (count k r : ℕ) : T
 
 module _ (firsts : List ℕ) (marks : List Bool) (count : ℕ) where
   -- the lattice whose first entry is at place f
-  module _ (f : ℕ) (h : f < count) (own : get_or firsts f 0 ≡ f) {k : ℕ} (found : First (checked_at firsts marks f) count k) where
-    by-entry : (es : List definition.Entry) (o : definition.Entry) → Marks es o marks → length es ≡ count → First (λ j. eqb (get_or firsts j 0) f && not (get_or es j o).draft) (length es) k
-    by-entry es o m n = first-like (λ j l. ap (λ d. eqb (get_or firsts j 0) f && not d) (m.mark j l)) (subst (λ i. First (checked_at firsts marks f) i k) (sym n) found)
+  module _ (f : ℕ) (h : f < count) (own : get_or firsts f 0 ≡ f) where
+    by-entry : {k : ℕ} → First (checked_at firsts marks f) count k → (es : List definition.Entry) (o : definition.Entry) → Marks es o marks → length es ≡ count
+        → First (λ j. eqb (get_or firsts j 0) f && not (get_or es j o).draft) (length es) k
+    by-entry {k} found ds o m n = first-like (λ j l. ap (λ d. eqb (get_or firsts j 0) f && not d) (m.mark j l)) (subst (λ i. First (checked_at firsts marks f) i k) (sym n) found)
 
-    pub checked-there : k ≢ count → Stander firsts marks count f k
-    checked-there d = record { stands = λ es o w p m n. stander_checked es o w p f (omega (arith, n)) own (by-entry es o m n) (omega (arith, n, found.within, d)) }
+    checked-there : {k : ℕ} → First (checked_at firsts marks f) count k → k < count → Stander firsts marks count f k
+    checked-there found d = record { stands = λ es o w p m n. stander_checked es o w p f (omega (arith, n)) own (by-entry found es o m n) (omega (arith, n, d)) }
 
-    pub all-drafts : k ≡ count → Stander firsts marks count f f
-    all-drafts e = record { stands = λ es o w p m n. stander_first es o w p f (omega (arith, n)) own (by-entry es o m n) (omega (arith, n, e)) }
+    all-drafts : First (checked_at firsts marks f) count count → Stander firsts marks count f f
+    all-drafts found = record { stands = λ es o w p m n. stander_first es o w p f (omega (arith, n)) own (by-entry found es o m n) (omega (arith, n)) }
+
+    -- the checked one, or else the first, as all are drafts
+    pub stander_found : (o : Option ℕ) → FirstFound (checked_at firsts marks f) count o → Stander firsts marks count f (unwrap_or o f)
+    stander_found (Some k) p = checked-there p.0 p.1
+    stander_found None p = all-drafts p
 
   -- an entry shares it with the first of its lattice
   pub shared_with : {k r : ℕ} → k < count → Stander firsts marks count (get_or firsts k 0) r → Stander firsts marks count k r
@@ -147,10 +154,28 @@ module _ (firsts : List ℕ) (marks : List Bool) (count : ℕ) where
           subst (λ k. Stander firsts marks count k (get_or (set places n s) k 0)) (sym e)
           (subst (Stander firsts marks count n) (sym (get_or-set_same places n s 0 (omega (arith, p.long)))) q)
 
--- in a catalogue that was read
-pub standing-places : (c : Catalogue) (r : WasRead c) {firsts : List ℕ} {marks : List Bool} → FirstPlaces (entries_in c) (entry_in beyond) firsts → marks ≡ map (λ e. e.draft) c.entries
-    → {places : List ℕ} → Standers firsts marks c.count c.count places → StandingPlaces (entries_in c) (entry_in beyond) places
-standing-places c r p m {places} q = record { within = λ k h. (each k h).within; at = λ k h. (each k h).at }
+-- of entries that were read
+pub standing-places : (l : List Entry) (r : WasRead l) {firsts : List ℕ} {marks : List Bool} → FirstPlaces (map entry_in l) (entry_in beyond) firsts → marks ≡ map (λ e. e.draft) l
+    → {places : List ℕ} → Standers firsts marks (length l) (length l) places → StandingPlaces (map entry_in l) (entry_in beyond) places
+standing-places l r p m {places} q = record { within = λ k h. (each k h).within; at = λ k h. (each k h).at }
   where
-    each : (k : ℕ) → k < length (entries_in c) → StandsAt (entries_in c) (entry_in beyond) k (get_or places k 0)
-    each k h = (q.at k (omega (arith, ready-length c r))).stands (entries_in c) (entry_in beyond) r.formed p (ready-marks c r m) (ready-length c r)
+    each : (k : ℕ) → k < length (map entry_in l) → StandsAt (map entry_in l) (entry_in beyond) k (get_or places k 0)
+    each k h = (q.at k (omega (arith, ready-length l r))).stands (map entry_in l) (entry_in beyond) r.formed p (ready-marks l r m) (ready-length l r)
+
+-- the code hands over the places and marks of these entries alone
+pub standers_cut : (l : List Entry) (r : WasRead l) {firsts : List ℕ} {marks : List Bool} → FirstPlaces (map entry_in l) (entry_in beyond) firsts → length firsts ≡ most_entries
+    → marks ≡ filled false most_entries (map (λ e. e.draft) l)
+    → {places : List ℕ} → Standers (take (length l) firsts) (take (length l) marks) (length (take (length l) firsts)) (length (take (length l) firsts)) places
+    → StandingPlaces (map entry_in l) (entry_in beyond) places
+standers_cut l r {firsts} {marks} p long m {places} q =
+    standing-places l r below (filled-cut false (λ e. e.draft) l r.few m)
+    (subst (λ k. Standers (take (length l) firsts) (take (length l) marks) k k places) (length-take-le (length l) firsts (omega (arith, long, r.few))) q)
+  where
+    kept : (k : ℕ) → k < length (map entry_in l) → get_or (take (length l) firsts) k 0 ≡ get_or firsts k 0
+    kept k h = get_or-take (length l) firsts k 0 (omega (arith, ready-length l r))
+
+    below : FirstPlaces (map entry_in l) (entry_in beyond) (take (length l) firsts)
+    below = record {
+      below = λ k h. omega (arith, kept k h, p.below k h);
+      at = λ k h. ap (λ i. get_or (map entry_in l) i (entry_in beyond)) (kept k h) ∙ p.at k h;
+    }

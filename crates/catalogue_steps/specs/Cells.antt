@@ -3,41 +3,29 @@ use Rattle.std.specs.Prelude.{◌≡◌, refl, Bool, true, false, List, [], ◌�
 use Rattle.std.proofs.Common.{sym, ap, ap₂, ◌∙◌, append-nil, append_assoc, add-one, arith, length-set, length-append, take-suc-set}
 use Rattle.std.proofs.Math.Option.{Option}
 use Rattle.lattices.specs.Vector.{Vec}
-use Rattle.catalogue_rules.specs.Word.{Word, head, coordinate, see, end, draft, head_number, head_size, other}
+use Rattle.catalogue_rules.specs.Word.{Word, coordinate}
 use Rattle.catalogue_rules.specs.Catalogue as definition
-use Rattle.catalogue_rules.specs.Catalogue.{Head, See, coordinates, see_number, most_numbers}
+use Rattle.catalogue_rules.specs.Catalogue.{Head, See, coordinates, most_numbers}
 use Rattle.catalogue_rules.specs.Read.{State, outside, numbered, inside, after, closed, coordinate_of, with_vector, with_coordinate}
 use Rattle.catalogue_rules.proofs.Laws.Moves.{Moves, by-head, by_number, by_size, by-coordinate, by-draft, by-see, by_end}
 use Rattle.catalogue_rules.proofs.Laws.RoundTrip.{coordinates_snoc}
 use Rattle.integers.specs.Filled.{filled}
 use Rattle.catalogue_records.specs.declared.Form.{Form}
 use Rattle.catalogue_records.specs.declared.Entry.{Entry}
-use Rattle.catalogue_records.specs.Stored.{stored_form, sees, see_place, entry_of}
+use Rattle.catalogue_records.specs.Stored.{stored_form, stored_see, entry_of}
 use Rattle.catalogue_steps.specs.Parts.{whole}
 use Rattle.catalogue_steps.specs.Shown.{part_of, whole-entry}
 use Rattle.catalogue_steps.specs.States.{Fine}
 
 -- what a word does to the array: a coordinate is stored at place n
 abbrev pub placed : List ℤ → ℕ → Word → List ℤ
-placed l n (head number d m) = l
 placed l n (coordinate load) = set l n (coordinate_of load)
-placed l n (see number) = l
-placed l n (end count) = l
-placed l n (draft load) = l
-placed l n (head_number number) = l
-placed l n (head_size high d m) = l
-placed l n (other k load) = l
+placed l n _ = l
 
 -- there is room for a coordinate, and its load is within the limit
 abbrev pub Place : ℕ → Word → Type 0
-Place n (head number d m) = Unit {0}
 Place n (coordinate load) = n < most_numbers
-Place n (see number) = Unit {0}
-Place n (end count) = Unit {0}
-Place n (draft load) = Unit {0}
-Place n (head_number number) = Unit {0}
-Place n (head_size high d m) = Unit {0}
-Place n (other k load) = Unit {0}
+Place n _ = Unit {0}
 
 -- the coordinates of the entry being read
 abbrev pub cells_of : State → List ℤ
@@ -95,7 +83,7 @@ cells-moves (by_end b) fine c = record { long = c.long; first = refl }
 
 module _ (es : List definition.Entry) (h : Head) (vs : List Vec) (marked : Bool) (s : Option See) (l : List ℤ) (c : Cells (after es h vs marked) l) where
   abbrev pub made : Form → List ℤ → Entry
-  made f k = whole (part_of h vs [] marked) f (filled (pos 0) most_numbers k) (sees s) (see_number s) (see_place s)
+  made f k = whole (part_of h vs [] marked) f (filled (pos 0) most_numbers k) (stored_see s)
 
   pub made-entry : (f : Form) → f ≡ stored_form h.form → made f (take (length (coordinates vs ++ [])) l) ≡ entry_of (record { head = h; vectors = vs; draft = marked; see = s })
   made-entry f e = ap₂ made e (c.first ∙ append-nil (coordinates vs)) ∙ whole-entry h vs marked s

@@ -8,15 +8,12 @@ use Rattle.catalogue_records.specs.declared.Form.{Form}
 use Rattle.catalogue_records.specs.declared.Form.TheVariants.{Old}
 use Rattle.catalogue_records.specs.Stored.{stored_form}
 use Rattle.catalogue_records.specs.EntriesIn.{form_in}
+use Rattle.catalogue_records.specs.Entries.{form-back}
 
 -- that of the entries; old where there is none
 abbrev pub form_held : List definition.Entry → Form
 form_held [] = Old
 form_held (e ∷ es) = stored_form e.head.form
-
-form-back : (f : definition.Form) → form_in (stored_form f) ≡ f
-form-back old = refl
-form-back new = refl
 
 like : (f g : definition.Form) → not (same_form f g) ≡ false → f ≡ g
 like old old e = refl

@@ -1,5 +1,5 @@
 -- What the code holds of a state that steps have reached, and that a step more is the definition's.
-use Rattle.std.specs.Prelude.{◌≡◌, refl, ◌≢◌, List, ℕ, ◌≤◌, ℤ, length}
+use Rattle.std.specs.Prelude.{◌≡◌, refl, List, ℕ, ◌≤◌, ℤ, length, Ok}
 use Rattle.std.proofs.Common.{sym, ap, ◌∙◌, subst, arith, length-take}
 use Rattle.catalogue_rules.specs.Word.{Word, decode}
 use Rattle.catalogue_rules.specs.Catalogue.{most_entries, most_numbers}
@@ -8,7 +8,7 @@ use Rattle.catalogue_rules.proofs.Laws.Word.{InRange, decode_range}
 use Rattle.catalogue_rules.proofs.Laws.Moves.{Moves, by-head, by_number, by_size, by-coordinate, by-draft, by-see, by_end, Going, moved}
 use Rattle.catalogue_rules.proofs.Laws.WellFormed.{Known, known-moves}
 use Rattle.catalogue_steps.specs.declared.reading.Reading.{Reading}
-use Rattle.catalogue_steps.specs.Readings.{ReadyFor}
+use Rattle.catalogue_steps.specs.Readings.{stopped, ReadyFor}
 use Rattle.catalogue_steps.specs.States.{reading_of, step_of, whole_in, Fine}
 use Rattle.catalogue_steps.specs.Cells.{placed, Place, cells_of, Cells, cells-moves}
 use Rattle.catalogue_steps.specs.Room.{Due, due-moves, fine, ready}
@@ -21,13 +21,6 @@ pub record Held (state : State) (coordinates : List ℤ) (s : Reading) : Type 0 
   pub cells : Cells state coordinates
 
 -- ---- what is counted
-
-goes_on : (s : State) → (reading_of s).refusal ≡ 0
-goes_on (outside es) = refl
-goes_on (numbered es n p) = refl
-goes_on (inside es h vs v) = refl
-goes_on (after es h vs marked) = refl
-goes_on (closed es) = refl
 
 pub whole-count : (s : State) → (reading_of s).count ≡ length (whole_in s)
 whole-count (outside es) = refl
@@ -66,9 +59,9 @@ pub word_range : (n : ℕ) {w : Word} → w ≡ decode n → InRange w
 word_range n e = subst InRange (sym e) (decode_range n)
 
 -- one that stops
-pub stops_with : (x : Step) {t : Reading} → t ≡ step_of x → t.refusal ≢ 0 → x ≡ stop t.refusal
-stops_with (next u) e stops = absurd (stops (ap (λ t. t.refusal) e ∙ goes_on u))
-stops_with (stop n) e stops = ap (λ t. stop t.refusal) (sym e)
+pub stops_with : (x : Step) {n : ℕ} → stopped n ≡ step_of x → x ≡ stop n
+stops_with (next u) e = cc
+stops_with (stop n) e = cc
 
 -- one that goes on
 pub record Moved (s : State) (i : ℕ) (w : Word) (t : Reading) : Type 0 where
@@ -93,13 +86,13 @@ module _ (state : State) {coordinates : List ℤ} {s : Reading} (r : Held state 
   pub held-ready : {numbers : List ℕ} → length numbers ≡ most_entries → ReadyFor numbers s
   held-ready {numbers} long = subst (ReadyFor numbers) (sym r.shown) (ready state long r.known r.due)
 
-  module _ (i : ℕ) (w : Word) {t : Reading} (turned : t ≡ step_of (step state i w)) (ranged : InRange w) (goes : t.refusal ≡ 0) where
+  module _ (i : ℕ) (w : Word) {t : Reading} (turned : Ok t ≡ step_of (step state i w)) (ranged : InRange w) where
     pub moves-on : Moved state i w t
     moves-on = go (step state i w) refl turned (moved state i w)
       where
-        go : (x : Step) → step state i w ≡ x → t ≡ step_of x → Going (Moves state i w) x → Moved state i w t
-        go (next u) q e m = record { state = u; is = q; moves = m; known = known-moves m ranged r.known; due = due-moves m r.known r.due; shown = e }
-        go (stop n) q e m = absurd (m (sym (ap (λ t. t.refusal) e) ∙ goes))
+        go : (x : Step) → step state i w ≡ x → Ok t ≡ step_of x → Going (Moves state i w) x → Moved state i w t
+        go (next u) q e m = record { state = u; is = q; moves = m; known = known-moves m ranged r.known; due = due-moves m r.known r.due; shown = cc }
+        go (stop n) q e m = cc
 
     -- what is stored goes on with it
     pub held_on : {cs : List ℤ} → cs ≡ placed coordinates s.part.filled w → Held moves-on.state cs t

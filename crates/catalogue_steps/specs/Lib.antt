@@ -1,4 +1,4 @@
--- The steps of reading as code: words, an entry while it is read and a step (Words to Turns), the definition's states as the code holds them, and
+-- The steps of reading as code: words, an entry while it is read and a step (Words to Readings), the definition's states as the code holds them, and
 -- that a step has room and is the definition's (States to Held).
 pub mod Words
 pub mod Rows
@@ -6,7 +6,6 @@ pub mod Forms
 pub mod Parts
 pub mod Shown
 pub mod Readings
-pub mod Turns
 pub mod States
 pub mod Room
 pub mod Cells

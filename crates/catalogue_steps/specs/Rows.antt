@@ -1,8 +1,16 @@
 -- Rows of the table of refusals as the code decides them, some at a time: the number of the first that applies, 0 for none.
-use Rattle.std.specs.Prelude.{◌≡◌, refl, ◌≢◌, Bool, true, false, List, [], ◌∷◌, ◌++◌, ℕ}
+use Rattle.std.specs.Prelude.{◌≡◌, refl, ◌≢◌, Bool, true, false, List, [], ◌∷◌, ◌++◌, ℕ, Ok, Err}
+use Rattle.std.specs.declared.result.Result.{Result}
 use Rattle.std.proofs.Common.{sym, ap, ◌∙◌}
 use Rattle.integers.specs.All.{All}
 use Rattle.catalogue_rules.specs.Read.{checked}
+use Rattle.refusals.specs.declared.Refusal.{Refusal}
+use Rattle.refusals.specs.Number.{number_of}
+
+-- what was handed out, a refusal by its number
+abbrev pub turn_in : {A : Type 0} → Result A Refusal → Result A ℕ
+turn_in (Ok a) = Ok a
+turn_in (Err e) = Err (number_of e)
 
 abbrev pub first_row : List (Bool × ℕ) → ℕ
 first_row rows = checked (λ n. n) rows 0

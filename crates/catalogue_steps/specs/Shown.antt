@@ -10,11 +10,11 @@ use Rattle.integers.specs.Size.{Within, within-le, within-add, within-mul}
 use Rattle.integers.specs.Tests.{neither}
 use Rattle.lattices.specs.Refusal.{most_size}
 use Rattle.lattices.specs.Vector.{Vec, N, dot}
-use Rattle.catalogue_rules.specs.Catalogue.{Head, See, coordinates, see_number, most_numbers}
+use Rattle.catalogue_rules.specs.Catalogue.{Head, See, coordinates, most_numbers}
 use Rattle.catalogue_rules.proofs.Laws.RoundTrip.{coordinates_snoc}
 use Rattle.catalogue_steps.specs.declared.parts.Part.{Part}
 use Rattle.integers.specs.Filled.{filled}
-use Rattle.catalogue_records.specs.Stored.{stored_form, sees, see_place, entry_of}
+use Rattle.catalogue_records.specs.Stored.{stored_form, stored_see, entry_of}
 use Rattle.catalogue_steps.specs.Parts.{put_coordinate, put_vector, whole}
 
 -- an entry's head, its whole vectors and the vector being read, and whether its mark was read
@@ -69,5 +69,5 @@ module _ (h : Head) (vs : List Vec) (v : Vec) (marked : Bool) where
   part-vector = ap₂ (λ r n. made r 0 (pos 0) n) (length_snoc vs v) (ap length (sym (append-nil (coordinates (vs ++ (v ∷ []))) ∙ coordinates_snoc vs v)))
 
 -- the entry is whole
-pub whole-entry : (h : Head) (vs : List Vec) (marked : Bool) (s : Option See) → whole (part_of h vs [] marked) (stored_form h.form) (filled (pos 0) most_numbers (coordinates vs)) (sees s) (see_number s) (see_place s) ≡ entry_of (record { head = h; vectors = vs; draft = marked; see = s })
+pub whole-entry : (h : Head) (vs : List Vec) (marked : Bool) (s : Option See) → whole (part_of h vs [] marked) (stored_form h.form) (filled (pos 0) most_numbers (coordinates vs)) (stored_see s) ≡ entry_of (record { head = h; vectors = vs; draft = marked; see = s })
 whole-entry h vs marked s = refl

@@ -1,5 +1,5 @@
 -- The definition's state as the code stores it, and that a step of the code is a step of the definition.
-use Rattle.std.specs.Prelude.{◌≡◌, refl, Bool, true, false, not, ◌&&◌, ◌||◌, List, [], ◌∷◌, ◌++◌, map, ℕ, suc, ◌+◌, ◌≤◌, ◌<◌, leb, ltb, eqb, pos, nat_abs, length, take}
+use Rattle.std.specs.Prelude.{◌≡◌, refl, Bool, true, false, not, ◌&&◌, ◌||◌, List, [], ◌∷◌, ◌++◌, map, ℕ, suc, ◌+◌, ◌≤◌, ◌<◌, leb, ltb, eqb, pos, nat_abs, length, take, Ok}
 use Rattle.std.proofs.Common.{sym, ap, ap₂, ◌∙◌, arith, length-append}
 use Rattle.std.proofs.Math.Option.{Option, none, some}
 use Rattle.std.specs.Int.Signed.{lt_z}
@@ -22,7 +22,7 @@ use Rattle.integers.specs.FilledLaws.{take-filled, map_snoc, any-map}
 use Rattle.catalogue_steps.specs.Forms.{form_held, differs-held, held-entry}
 use Rattle.catalogue_steps.specs.Parts.{no_part, started}
 use Rattle.catalogue_steps.specs.Shown.{part_of, part-coordinate, part-vector}
-use Rattle.catalogue_steps.specs.Readings.{is_number, going, stopped, head_read, head_number_read, head_size_read, vector_phase, vector_read, column_read, coordinate_read, draft_read, end_read, step_read}
+use Rattle.catalogue_steps.specs.Readings.{is_number, Turn, going, goes, stopped, head_read, head_number_read, head_size_read, vector_phase, vector_read, column_read, coordinate_read, draft_read, end_read, step_read}
 
 abbrev pub reading : Phase → List definition.Entry → Form → Part → Reading
 reading phase es f p = going phase (length es) f p
@@ -35,8 +35,8 @@ reading_of (inside es h vs v) = reading Inside es (stored_form h.form) (part_of 
 reading_of (after es h vs marked) = reading After es (stored_form h.form) (part_of h vs [] marked)
 reading_of (closed es) = reading Closed es (form_held es) no_part
 
-abbrev pub step_of : Step → Reading
-step_of (next s) = reading_of s
+abbrev pub step_of : Step → Turn
+step_of (next s) = Ok (reading_of s)
 step_of (stop n) = stopped n
 
 -- the numbers of the heads read so far
@@ -68,12 +68,12 @@ Fine (closed es) = length es ≤ most_entries
 
 -- ---- rows
 
-step-rows : (rows : List (Bool × ℕ)) (s : State) → checked stopped rows (reading_of s) ≡ step_of (checked stop rows (next s))
+step-rows : (rows : List (Bool × ℕ)) (s : State) → checked stopped rows (Ok (reading_of s)) ≡ step_of (checked stop rows (next s))
 step-rows [] s = refl
 step-rows (r ∷ rows) s = go r.0 (step-rows rows s)
   where
-    go : (t : Bool) → checked stopped rows (reading_of s) ≡ step_of (checked stop rows (next s))
-        → ◌≡◌ {A = Reading} (elim t [ true ↦ stopped r.1 | false ↦ checked stopped rows (reading_of s) ]) (step_of (elim t [ true ↦ stop r.1 | false ↦ checked stop rows (next s) ]))
+    go : (t : Bool) → checked stopped rows (Ok (reading_of s)) ≡ step_of (checked stop rows (next s))
+        → ◌≡◌ {A = Turn} (elim t [ true ↦ stopped r.1 | false ↦ checked stopped rows (Ok (reading_of s)) ]) (step_of (elim t [ true ↦ stop r.1 | false ↦ checked stop rows (next s) ]))
     go true e = refl
     go false e = e
 
@@ -96,14 +96,14 @@ head_step : (es : List definition.Entry) (number d m i : ℕ) → length es ≤ 
 unfolding dot step
 head_step es number d m i h =
     let rows : Bool → Bool → List (Bool × ℕ) = λ t u. (t, 10) ∷ (leb most_entries (length es), 15) ∷ (not (one_to most_vectors d), 1) ∷ (not (one_to most_coordinates m), 2) ∷ (eqb number 0 || u, 11) ∷ [] in
-    ap₂ (λ t u. checked stopped (rows t u) (going Inside (length es) Old (started number d m i))) (differs-held es Old) (used-numbers number es h)
+    ap₂ (λ t u. checked stopped (rows t u) (goes Inside (length es) Old (started number d m i))) (differs-held es Old) (used-numbers number es h)
     ∙ step-rows (head_rows es number d m) (inside es (record { form = definition.old; number = number; d = d; m = m; place = i }) [] [])
 
 number_step : (es : List definition.Entry) (number i : ℕ) → length es ≤ most_entries
     → head_number_read (filled 0 most_entries (numbers es)) (reading_of (outside es)) number i ≡ step_of (at_head_number es number i)
 number_step es number i h =
     let rows : Bool → Bool → List (Bool × ℕ) = λ t u. (t, 10) ∷ (leb most_entries (length es), 15) ∷ (eqb number 0 || u, 11) ∷ [] in
-    ap₂ (λ t u. checked stopped (rows t u) (going Numbered (length es) New (started number 0 0 i))) (differs-held es New) (used-numbers number es h)
+    ap₂ (λ t u. checked stopped (rows t u) (goes Numbered (length es) New (started number 0 0 i))) (differs-held es New) (used-numbers number es h)
     ∙ step-rows (head_number_rows es number) (numbered es number i)
 
 size_step : (es : List definition.Entry) (n p high d m : ℕ)
@@ -127,11 +127,11 @@ module _ (es : List definition.Entry) (h : Head) (vs : List Vec) (marked : Bool)
 module _ (es : List definition.Entry) (h : Head) (vs : List Vec) where
   vector-step : (u : Vec) → vector_read (reading Inside es (stored_form h.form) (part_of h vs u false)) (part_of h vs u false) ≡ step_of (checked stop ((lt_z (pos most_square) (N u), 4) ∷ []) (next (with_vector es h (vs ++ (u ∷ [])))))
   vector-step u =
-      ap (λ p. checked stopped ((lt_z (pos most_square) (N u), 4) ∷ []) (going (vector_phase (eqb p.row p.d)) (length es) (stored_form h.form) p)) (part-vector h vs u false)
+      ap (λ p. checked stopped ((lt_z (pos most_square) (N u), 4) ∷ []) (goes (vector_phase (eqb p.row p.d)) (length es) (stored_form h.form) p)) (part-vector h vs u false)
       ∙ ap (λ s. checked stopped ((lt_z (pos most_square) (N u), 4) ∷ []) s) (go (eqb (length (vs ++ (u ∷ []))) h.d))
       ∙ step-rows ((lt_z (pos most_square) (N u), 4) ∷ []) (with_vector es h (vs ++ (u ∷ [])))
     where
-      go : (t : Bool) → going (vector_phase t) (length es) (stored_form h.form) (part_of h (vs ++ (u ∷ [])) [] false) ≡ reading_of (elim t [ true ↦ after es h (vs ++ (u ∷ [])) false | false ↦ inside es h (vs ++ (u ∷ [])) [] ])
+      go : (t : Bool) → goes (vector_phase t) (length es) (stored_form h.form) (part_of h (vs ++ (u ∷ [])) [] false) ≡ Ok (reading_of (elim t [ true ↦ after es h (vs ++ (u ∷ [])) false | false ↦ inside es h (vs ++ (u ∷ [])) [] ]))
       go true = refl
       go false = refl
 
@@ -186,7 +186,7 @@ step-shown (after es h vs marked) i (head number d m) fine =
     ap₂ (λ ns s. head_read (filled 0 most_entries ns) s number d m i) (map_snoc (λ e. e.head.number) es e) (entry-step es h vs marked none fine.1)
     ∙ head_step (with_entry es h vs marked none) number d m i (omega (arith, length-append es (e ∷ []), fine.0))
 step-shown (after es h vs marked) i (coordinate l) fine = refl
-step-shown (after es h vs marked) i (see number) fine = entry-step es h vs marked (some (record { number = number; place = i })) fine.1
+step-shown (after es h vs marked) i (see number) fine = ap Ok (entry-step es h vs marked (some (record { number = number; place = i })) fine.1)
 step-shown (after es h vs marked) i (end count) fine = ap (λ s. end_read s count) (entry-step es h vs marked none fine.1) ∙ end_step (with_entry es h vs marked none) count
 step-shown (after es h vs marked) i (draft l) fine = draft-step es h vs marked l
 step-shown (after es h vs marked) i (head_number number) fine =

@@ -7,12 +7,10 @@ ghost use Rattle.catalogue_records.specs.EntriesIn.{entry_in};
 use catalogue_records::Entry;
 
 // Whether the vectors of an entry are dependent.
-pub fn dependent(e: Entry) -> bool
-    requires { EntryFits (entry_in e) }
-    ensures { result ≡ is_dependent e.m (entry_in e).vectors }
+pub fn dependent(e: &Entry) -> bool
+    requires { EntryFits (entry_in e.now) }
+    ensures { result ≡ is_dependent e.now.m (entry_in e.now).vectors }
 {
-    let coordinates = e.coordinates;
-    let n = e.d * e.m;
-    let b = input_checks::basis(&coordinates[..n], e.d, e.m);
+    let b = input_checks::basis(&e.coordinates[..e.d * e.m], e.d, e.m);
     input_checks::dependent(&b, e.d)
 }

@@ -1,5 +1,5 @@
 // An entry while it is read.
-ghost use Rattle.std.specs.Prelude.{◌≡◌, ◌≤◌, ◌<◌, pos, length, take};
+ghost use Rattle.std.specs.Prelude.{◌≡◌, ◌≤◌, ◌<◌, pos, take};
 ghost use Rattle.integers.specs.Filled.{filled};
 ghost use Rattle.integers.specs.Size.{Within};
 ghost use Rattle.catalogue_steps.specs.Words.{word_in};
@@ -9,7 +9,7 @@ ghost use Rattle.catalogue_rules.specs.Catalogue.{most_numbers};
 ghost use Rattle.lattices.specs.Refusal.{most_vectors, most_coordinates};
 
 use super::words::Word;
-use catalogue_records::{Entry, Form, NUMBERS};
+use catalogue_records::{Entry, Form, NUMBERS, See};
 
 // What is read of an entry: its head, how many vectors are whole, how many coordinates of the next one and the sum of their squares, how many
 // coordinates in all, and whether the mark of a draft was read. The coordinates themselves stand in an array beside it, so that no step copies them.
@@ -32,10 +32,10 @@ impl Part {
         ensures { result ≡ started number d m place }
     {
         Part {
-            number: number,
-            d: d,
-            m: m,
-            place: place,
+            number,
+            d,
+            m,
+            place,
             row: 0,
             column: 0,
             square: 0,
@@ -59,15 +59,10 @@ impl Part {
         ensures { result ≡ put_coordinate self x }
     {
         Part {
-            number: self.number,
-            d: self.d,
-            m: self.m,
-            place: self.place,
-            row: self.row,
             column: self.column + 1,
             square: self.square + x * x,
             filled: self.filled + 1,
-            draft: self.draft,
+            ..self
         }
     }
 
@@ -77,15 +72,10 @@ impl Part {
         ensures { result ≡ put_vector self }
     {
         Part {
-            number: self.number,
-            d: self.d,
-            m: self.m,
-            place: self.place,
             row: self.row + 1,
             column: 0,
             square: 0,
-            filled: self.filled,
-            draft: self.draft,
+            ..self
         }
     }
 
@@ -94,40 +84,24 @@ impl Part {
         ensures { result ≡ put_mark self }
     {
         Part {
-            number: self.number,
-            d: self.d,
-            m: self.m,
-            place: self.place,
-            row: self.row,
-            column: self.column,
-            square: self.square,
-            filled: self.filled,
             draft: true,
+            ..self
         }
     }
 
     // The entry is whole, with or without a see word; its head has this form.
-    pub fn entry(
-        self,
-        form: Form,
-        coordinates: [i64; NUMBERS],
-        sees: bool,
-        see: u32,
-        at: usize,
-    ) -> Entry
-        ensures { result ≡ whole self form coordinates sees see at }
+    pub fn entry(self, form: Form, coordinates: [i64; NUMBERS], see: Option<See>) -> Entry
+        ensures { result ≡ whole self form coordinates see }
     {
         Entry {
-            form: form,
+            form,
             number: self.number,
             d: self.d,
             m: self.m,
             place: self.place,
             draft: self.draft,
-            sees: sees,
-            see: see,
-            at: at,
-            coordinates: coordinates,
+            see,
+            coordinates,
         }
     }
 
@@ -136,36 +110,19 @@ impl Part {
         ensures { result ≡ whole_at self form coordinates i (word_in w) }
     {
         match w {
-            Word::Head {
-                number: _,
-                d: _,
-                m: _,
-            } => self.entry(form, coordinates, false, 0, 0),
-            Word::Coordinate(_) => self.entry(form, coordinates, false, 0, 0),
-            Word::See(number) => self.entry(form, coordinates, true, number, i),
-            Word::End(_) => self.entry(form, coordinates, false, 0, 0),
-            Word::Draft(_) => self.entry(form, coordinates, false, 0, 0),
-            Word::HeadNumber(_) => self.entry(form, coordinates, false, 0, 0),
-            Word::HeadSize {
-                high: _,
-                d: _,
-                m: _,
-            } => self.entry(form, coordinates, false, 0, 0),
-            Word::Other { kind: _, load: _ } => self.entry(form, coordinates, false, 0, 0),
+            Word::See(number) => self.entry(form, coordinates, Some(See { number, place: i })),
+            _ => self.entry(form, coordinates, None),
         }
     }
 }
 
 // The first n of the numbers, then zeros.
 pub fn first_numbers(numbers: &[i64; NUMBERS], n: usize) -> [i64; NUMBERS]
-    requires n_le_most_numbers { n ≤ most_numbers }
-    requires numbers_len { length numbers.now ≡ most_numbers }
+    requires { n ≤ most_numbers }
     ensures { result ≡ filled (pos 0) most_numbers (take n numbers.now) }
 {
     let mut r = [0; NUMBERS];
-    for k in 0..n {
-        r[k] = numbers[k];
-    }
+    r[..n].copy_from_slice(&numbers[..n]);
     r
 }
 
@@ -174,24 +131,7 @@ pub fn store(coordinates: &mut [i64; NUMBERS], n: usize, w: Word)
     requires { Place n (word_in w) }
     ensures { coordinates.new ≡ placed coordinates.old n (word_in w) }
 {
-    match w {
-        Word::Head {
-            number: _,
-            d: _,
-            m: _,
-        } => {}
-        Word::Coordinate(load) => {
-            coordinates[n] = load as i64 - 20000;
-        }
-        Word::See(_) => {}
-        Word::End(_) => {}
-        Word::Draft(_) => {}
-        Word::HeadNumber(_) => {}
-        Word::HeadSize {
-            high: _,
-            d: _,
-            m: _,
-        } => {}
-        Word::Other { kind: _, load: _ } => {}
+    if let Word::Coordinate(load) = w {
+        coordinates[n] = i64::from(load) - 20000;
     }
 }

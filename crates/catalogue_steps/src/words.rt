@@ -1,9 +1,13 @@
 // Words out of bytes, and what a word is.
-ghost use Rattle.std.specs.Prelude.{◌≡◌, ◌+◌, ◌*◌, ◌≤◌, ◌<◌, length, get_or};
+ghost use Rattle.std.specs.Prelude.{◌≡◌, ◌+◌, ◌*◌, ◌≤◌, length, get_or};
 ghost use Rattle.catalogue_rules.specs.Word.{decode, words_of};
-ghost use Rattle.catalogue_steps.specs.Words.{word_in};
+ghost use Rattle.catalogue_records.specs.EntriesIn.{form_in};
+ghost use Rattle.catalogue_steps.specs.Words.{word_in, opens};
+
+use catalogue_records::Form;
 
 // A word's case with its load: the kinds 1 to 7, and what is refused. A head of two words is its number and its size; `high` are the bits above d.
+// No two words are compared.
 #[derive(Clone, Copy)]
 pub enum Word {
     Head { number: u32, d: usize, m: usize },
@@ -16,12 +20,16 @@ pub enum Word {
     Other { kind: u32, load: u32 },
 }
 
-// A byte as a number of a word's width.
-fn wide(b: u8) -> u32
-    ensures value { result ≡ b }
-    ensures upper_bound { result < 256 }
-{
-    b as u32
+impl Word {
+    // Whether it is the first word of a head in this form.
+    pub fn opens(self, form: Form) -> bool
+        ensures { result ≡ opens (form_in form) (word_in self) }
+    {
+        match form {
+            Form::Old => matches!(self, Word::Head { .. }),
+            Form::New => matches!(self, Word::HeadNumber(_)),
+        }
+    }
 }
 
 // The i-th word, lowest byte first.
@@ -30,13 +38,11 @@ pub fn word_at(bytes: &[u8], i: usize) -> u32
     ensures { result ≡ get_or (words_of bytes.now) i 0 }
 {
     let at = i * 4;
-    wide(bytes[at])
-        + wide(bytes[at + 1]) * 256
-        + wide(bytes[at + 2]) * 65536
-        + wide(bytes[at + 3]) * 16777216
+    u32::from_le_bytes([bytes[at], bytes[at + 1], bytes[at + 2], bytes[at + 3]])
 }
 
 // The top 4 bits are the kind, the other 28 the load.
+#[tactic(auto, unfolding(catalogue_rules::specs::Word::decode))]
 pub fn decode(w: u32) -> Word
     ensures { word_in result ≡ decode w }
 {

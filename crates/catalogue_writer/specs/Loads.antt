@@ -1,7 +1,7 @@
 -- What the code computes to write an entry: a coordinate plus 20,000, the words of coordinates one by one, and of a stored entry.
 use Rattle.std.specs.Prelude.{◌≡◌, false, T, List, [], ◌∷◌, ◌++◌, map, ℕ, suc, ◌+◌, ◌*◌, ◌≤◌, ◌<◌, ℤ, pos, negsuc, nat_abs, ◌+ℤ◌, length, get_or, take}
 use Rattle.std.proofs.Common.{sym, ap, ◌∙◌, subst, append_assoc, add-one, arith, length-append, length-take-le, take-suc, SFits}
-use Rattle.std.proofs.lemmas.List.{map-append, length-map}
+use Rattle.std.proofs.lemmas.List.{length-map}
 use Rattle.std.specs.Int.Signed.{non_neg}
 use Rattle.std.specs.Int.{w64}
 use Rattle.integers.specs.Order.{sub-ind}
@@ -30,17 +30,16 @@ load-nonneg (negsuc n) h = sub-ind (λ z. T (non_neg z)) 20000 (suc n) (λ k. ab
 
 -- ---- the words of the first j coordinates
 
-pub length-encoded : (cs : List ℤ) → length (encoded_coordinates cs) ≡ length cs
-length-encoded cs = length-map (map coordinate_word cs) encode ∙ length-map cs coordinate_word
+pub length-first : (cs : List ℤ) (j : ℕ) → j ≤ length cs → length (map coordinate_word (take j cs)) ≡ j
+length-first cs j h = length-map (take j cs) coordinate_word ∙ length-take-le j cs h
 
-pub length-first : (cs : List ℤ) (j : ℕ) → j ≤ length cs → length (encoded_coordinates (take j cs)) ≡ j
-length-first cs j h = length-encoded (take j cs) ∙ length-take-le j cs h
+pub first-more : (cs : List ℤ) (j : ℕ) → j < length cs → map coordinate_word (take j cs) ++ (coordinate_word (get_or cs j (pos 0)) ∷ []) ≡ map coordinate_word (take (j + 1) cs)
+first-more cs j h =
+    map_snoc coordinate_word (take j cs) (get_or cs j (pos 0))
+    ∙ ap (map coordinate_word) (sym (take-suc cs j (pos 0) h) ∙ ap (λ n. take n cs) (sym (add-one j)))
 
 pub encoded-more : (cs : List ℤ) (j : ℕ) → j < length cs → encoded_coordinates (take j cs) ++ (encode (coordinate_word (get_or cs j (pos 0))) ∷ []) ≡ encoded_coordinates (take (j + 1) cs)
-encoded-more cs j h =
-    map_snoc encode (map coordinate_word (take j cs)) (coordinate_word (get_or cs j (pos 0)))
-    ∙ ap (map encode) (map_snoc coordinate_word (take j cs) (get_or cs j (pos 0)))
-    ∙ ap encoded_coordinates (sym (take-suc cs j (pos 0) h) ∙ ap (λ n. take n cs) (sym (add-one j)))
+encoded-more cs j h = map_snoc encode (map coordinate_word (take j cs)) (coordinate_word (get_or cs j (pos 0))) ∙ ap (map encode) (first-more cs j h)
 
 -- ---- the words of a stored entry
 
@@ -60,15 +59,8 @@ length-parts e =
       length-append (draft_words e.draft) (see_words e.see),
     )
 
-pub encoded-parts : (e : Entry) → map encode (basis_words e) ++ map encode (draft_words e.draft) ++ map encode (see_words e.see) ≡ map encode (entry_words e)
-encoded-parts e =
-    let ws = basis_words e in
-    let ds = draft_words e.draft in
-    let ss = see_words e.see in
-    append_assoc (map encode ws) (map encode ds) (map encode ss)
-    ∙ ap (λ l. map encode ws ++ l) (sym (map-append encode ds ss))
-    ∙ sym (map-append encode ws (ds ++ ss))
-    ∙ ap (map encode) (parts e)
+pub entry-parts : (e : Entry) → (basis_words e ++ draft_words e.draft) ++ see_words e.see ≡ entry_words e
+entry-parts e = append_assoc (basis_words e) (draft_words e.draft) (see_words e.see) ∙ parts e
 
 -- the words as the code writes them, n being d times m
 module _ (e : stored.Entry) (fits : EntryFits (entry_in e)) (long : length e.coordinates ≡ most_numbers) where
@@ -85,7 +77,5 @@ module _ (e : stored.Entry) (fits : EntryFits (entry_in e)) (long : length e.coo
         cut e fits long,
       )
 
-  pub basis-encoded : map encode (head_words (entry_in e).head) ++ encoded_coordinates (take (e.d * e.m) e.coordinates) ≡ map encode (basis_words (entry_in e))
-  basis-encoded =
-      ap (λ l. map encode (head_words (entry_in e).head) ++ encoded_coordinates l) (sym (same e fits long))
-      ∙ sym (map-append encode (head_words (entry_in e).head) (map coordinate_word (coordinates (entry_in e).vectors)))
+  pub basis-parts : head_words (entry_in e).head ++ map coordinate_word (take (e.d * e.m) e.coordinates) ≡ basis_words (entry_in e)
+  basis-parts = ap (λ cs. head_words (entry_in e).head ++ map coordinate_word cs) (sym (same e fits long))

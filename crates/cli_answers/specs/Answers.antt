@@ -4,11 +4,9 @@ use Rattle.integers.specs.Decimal.{decimal, signed}
 use Rattle.text_layout.specs.Fields.{line}
 use Rattle.fold_rules.specs.Listing.{refused_word}
 use Rattle.text_output.specs.Joined.{joined}
-use Rattle.engine.specs.declared.Reduction.{Reduction}
-use Rattle.engine.specs.declared.NearestVector.{NearestVector}
-use Rattle.engine.specs.declared.members.MemberAnswer.{MemberAnswer}
+use Rattle.lattices.specs.Answer.{Reduction, Nearest, Membership}
 use Rattle.separation_answers.specs.declared.Separation.{Separation}
-use Rattle.separation_answers.specs.declared.Separation.TheVariants.{Refused, Same, DifferentM, DifferentD, FirstOutside, SecondOutside}
+use Rattle.separation_answers.specs.declared.Separation.TheVariants.{Same, DifferentM, DifferentD, FirstOutside, SecondOutside}
 use Rattle.cli_output.specs.Rows.{row_line}
 
 -- "refused", the number and the place
@@ -31,29 +29,29 @@ reduced_word = 114 ∷ 101 ∷ 100 ∷ 117 ∷ 99 ∷ 101 ∷ 100 ∷ []
 
 -- the reduced vectors, each behind "v"
 abbrev pub basis_text : (d m : ℕ) → Reduction → List ℕ
-basis_text d m a = row_lines 118 d m (map (λ row. row.at) a.vectors)
+basis_text d m a = row_lines 118 d m a.basis
 
 -- the passes and the squared lengths; the reduced vectors, U and V
 abbrev pub reduced_text : (d m : ℕ) → Reduction → List ℕ
 reduced_text d m a =
     line reduced_word (decimal a.passes ∷ map signed (take d a.squares))
-    ++ (basis_text d m a ++ (row_lines 85 d d (map (λ row. row.at) a.u) ++ row_lines 86 d d (map (λ row. row.at) a.v)))
+    ++ (basis_text d m a ++ (row_lines 85 d d a.u ++ row_lines 86 d d a.v))
 
 abbrev pub reduction_text : (d m : ℕ) → Reduction → List ℕ
 reduction_text d m a = cond (eqb a.refusal 0) (reduced_text d m a) (refused_text a.refusal a.place)
 
--- ---- a nearest vector
+-- ---- a nearest vector, with its solution in tenths
 
 -- "nearest"
 abbrev pub nearest_word : List ℕ
 nearest_word = 110 ∷ 101 ∷ 97 ∷ 114 ∷ 101 ∷ 115 ∷ 116 ∷ []
 
 -- the squared distance; the coefficients behind "c", the solution in tenths behind "s", the vector behind "v"
-abbrev pub found_text : (d m : ℕ) → NearestVector → List ℕ
-found_text d m a = line nearest_word (signed a.square ∷ []) ++ (row_line 99 d a.coefficients ++ (row_line 115 d a.tenths ++ row_line 118 m a.vector))
+abbrev pub found_text : (d m : ℕ) → List ℤ → Nearest → List ℕ
+found_text d m tenths a = line nearest_word (signed a.square ∷ []) ++ (row_line 99 d a.coefficients ++ (row_line 115 d tenths ++ row_line 118 m a.vector))
 
-abbrev pub nearest_text : (d m : ℕ) → NearestVector → List ℕ
-nearest_text d m a = cond (eqb a.refusal 0) (found_text d m a) (refused_text a.refusal a.place)
+abbrev pub nearest_text : (d m : ℕ) → List ℤ → Nearest → List ℕ
+nearest_text d m tenths a = cond (eqb a.refusal 0) (found_text d m tenths a) (refused_text a.refusal a.place)
 
 -- ---- a membership
 
@@ -61,7 +59,7 @@ nearest_text d m a = cond (eqb a.refusal 0) (found_text d m a) (refused_text a.r
 abbrev pub yes_or_no : Bool → List ℕ
 yes_or_no member = cond member (121 ∷ 101 ∷ 115 ∷ 10 ∷ []) (110 ∷ 111 ∷ 10 ∷ [])
 
-abbrev pub membership_text : MemberAnswer → List ℕ
+abbrev pub membership_text : Membership → List ℕ
 membership_text a = cond (eqb a.refusal 0) (yes_or_no a.member) (refused_text a.refusal a.place)
 
 -- ---- what separates two entries
@@ -88,7 +86,6 @@ outside_text word position square = line word (decimal position ∷ signed squar
 
 -- "m" or "d" behind the word says which of the two differs
 abbrev pub separation_text : Separation → List ℕ
-separation_text (Refused number place) = refused_text number place
 separation_text Same = line same_word []
 separation_text DifferentM = line different_word ((109 ∷ []) ∷ [])
 separation_text DifferentD = line different_word ((100 ∷ []) ∷ [])

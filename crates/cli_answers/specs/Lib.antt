@@ -1,4 +1,3 @@
 -- The text of each answer.
 pub mod Answers
-pub mod Cases
 pub mod Room

@@ -4,7 +4,6 @@ ghost use Rattle.text_output.specs.Puts.{Puts};
 ghost use Rattle.cli_answers.specs.Answers.{outside_text, separation_text};
 ghost use Rattle.cli_answers.specs.Room.{outside_room, separation_room};
 
-use super::put_refused;
 use separation_answers::Separation;
 
 // A vector outside the other entry's lattice: the word for the entry that has it, its position, the squared distance.
@@ -15,7 +14,7 @@ fn put_outside(out: &mut [u8], at: usize, word: &[u8], position: u32, square: i6
 {
     let first = text_output::put_bytes(out, at, word);
     let second = text_output::put_byte(out, first, b' ');
-    let third = cli_output::put_number(out, second, position as u64);
+    let third = cli_output::put_number(out, second, u64::from(position));
     let fourth = cli_output::put_field(out, third, square);
     text_output::put_byte(out, fourth, b'\n')
 }
@@ -27,7 +26,6 @@ pub fn put_separation(out: &mut [u8], at: usize, s: Separation) -> usize
     ensures upper_bound { result ≤ at + separation_room }
 {
     match s {
-        Separation::Refused(number, place) => put_refused(out, at, number, place as u64),
         Separation::Same => text_output::put_bytes(out, at, b"same\n"),
         Separation::DifferentM => text_output::put_bytes(out, at, b"different m\n"),
         Separation::DifferentD => text_output::put_bytes(out, at, b"different d\n"),

@@ -8,75 +8,56 @@ use std::{fs, io, str};
 
 mod help;
 
-// Whether the options of a stream stand among the two words that may follow: the number of each line, the reduced vectors.
+// The options of a stream: the number of each line, the reduced vectors.
 #[derive(Clone, Copy)]
 struct Options {
     numbered: bool,
     basis: bool,
-    fit: bool,
 }
 
-// One word more.
-fn with_word(o: Options, word: &[u8]) -> Options {
-    if word.len() == 0 {
-        return o;
-    }
+// One word more, which may be missing. None where it is no option.
+fn with_word(o: Options, word: &[u8]) -> Option<Options> {
     match word {
-        b"-n" => Options {
+        b"" => Some(o),
+        b"-n" => Some(Options {
             numbered: true,
-            basis: o.basis,
-            fit: o.fit,
-        },
-        b"-r" => Options {
-            numbered: o.numbered,
-            basis: true,
-            fit: o.fit,
-        },
-        _ => Options {
-            numbered: o.numbered,
-            basis: o.basis,
-            fit: false,
-        },
+            ..o
+        }),
+        b"-r" => Some(Options { basis: true, ..o }),
+        _ => None,
     }
 }
 
-fn options_of(first: &[u8], second: &[u8]) -> Options {
+fn options_of(first: &[u8], second: &[u8]) -> Option<Options> {
     let none = Options {
         numbered: false,
         basis: false,
-        fit: true,
     };
-    with_word(with_word(none, first), second)
+    with_word(with_word(none, first)?, second)
 }
 
 // Answers a stream of requests for reductions.
 fn reduce(rt: &(impl Input + Print + Say), first: &[u8], second: &[u8]) {
-    let o = options_of(first, second);
-    if !o.fit || o.basis {
-        help::say_usage(rt);
-        return;
+    match options_of(first, second) {
+        Some(o) if !o.basis => cli_requests::reduce(rt, o.numbered),
+        _ => help::say_usage(rt),
     }
-    cli_requests::reduce(rt, o.numbered);
 }
 
 // Answers a stream of requests for nearest vectors.
 fn nearest(rt: &(impl Input + Print + Say), first: &[u8], second: &[u8]) {
-    let o = options_of(first, second);
-    if !o.fit {
-        help::say_usage(rt);
-        return;
+    match options_of(first, second) {
+        Some(o) => cli_requests::nearest(rt, o.numbered, o.basis),
+        None => help::say_usage(rt),
     }
-    cli_requests::nearest(rt, o.numbered, o.basis);
 }
 
 // Answers a stream of questions whether a target is in a lattice.
 fn member(rt: &(impl Input + Print + Say), first: &[u8], second: &[u8]) {
-    let o = options_of(first, second);
-    if !o.fit || o.basis {
-        help::say_usage(rt);
-        return;
+    match options_of(first, second) {
+        Some(o) if !o.basis => cli_requests::member(rt, o.numbered),
+        _ => help::say_usage(rt),
     }
-    cli_requests::member(rt, o.numbered);
 }
 
 // Does what is done with a whole catalogue that the input holds. False where the word is no such command. It stays a function of its own, so
@@ -111,17 +92,17 @@ fn merge(rt: &(impl Input + Print + Say)) {
 
 // Whether the command reads a catalogue, from a file that may be named.
 fn is_catalogue(word: &[u8]) -> bool {
-    match word {
+    matches!(
+        word,
         b"fold"
-        | b"lookup"
-        | b"separate"
-        | b"list"
-        | b"encode"
-        | b"decode"
-        | b"new-form"
-        | b"old-form" => true,
-        _ => false,
-    }
+            | b"lookup"
+            | b"separate"
+            | b"list"
+            | b"encode"
+            | b"decode"
+            | b"new-form"
+            | b"old-form"
+    )
 }
 
 // Opens the file that is named. A name that is no text names none here.
@@ -173,7 +154,7 @@ fn about(rt: &(impl Print + Say), word: &[u8], first: &[u8]) -> bool {
     match word {
         b"help" | b"--help" | b"-h" => help::help(rt, first),
         b"--version" => help::version(rt),
-        b"refusals" => cli_answers::refusals::table(rt),
+        b"refusals" => cli_answers::sentences::table(rt),
         _ => return false,
     }
     true

@@ -1,10 +1,8 @@
 -- Digits tested one after another, and the bytes that they write.
-use Rattle.std.specs.Prelude.{◌≡◌, refl, Bool, true, ◌&&◌, List, [], ◌∷◌, ℕ, zero, suc, ◌+◌, ◌*◌, ◌/◌, ◌≤◌, ◌<◌, leb, length, get_or, set, take, drop}
+use Rattle.std.specs.Prelude.{◌≡◌, refl, true, List, [], ◌∷◌, ℕ, zero, suc, ◌+◌, ◌*◌, ◌/◌, ◌≤◌, ◌<◌, leb, length, get_or, set, take}
 use Rattle.std.proofs.Common.{sym, ap, ap₂, ◌∙◌, arith, take_all, leb-true}
 use Rattle.std.proofs.lemmas.List.Edits.{sets}
 use Rattle.integers.specs.Tests.{both}
-use Rattle.integers.specs.Every.{every}
-use Rattle.text_parts.specs.NumberLaws.{drop-next}
 use Rattle.text_output.specs.Puts.{sets_more}
 use Rattle.cli_merges.specs.Digits.{between, byte_of, bytes_in}
 
@@ -12,15 +10,6 @@ pub bounds : (low high b : ℕ) → between low high b ≡ true → (low ≤ b) 
 bounds low high b e = let h = both (leb low b) (leb b high) e in (leb-true low b h.0, leb-true b high h.1)
 
 -- ---- a test of every element
-
-pub every_next : (f : ℕ → Bool) (s : List ℕ) (i : ℕ) {t : Bool} → i < length s → f (get_or s i 0) ≡ t → every f (drop i s) ≡ t && every f (drop (i + 1) s)
-every_next f s i h e = ap (every f) (drop-next s i h) ∙ ap (λ t. t && every f (drop (i + 1) s)) e
-
-pub every_end : (f : ℕ → Bool) (s : List ℕ) (i : ℕ) → length s ≤ i → every f (drop i s) ≡ true
-every_end f [] zero h = refl
-every_end f [] (suc i) h = refl
-every_end f (b ∷ s) zero h = absurd (omega (arith, h))
-every_end f (b ∷ s) (suc i) h = every_end f s i (omega (arith, h))
 
 -- ---- the bytes
 

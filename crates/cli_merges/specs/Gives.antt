@@ -1,16 +1,13 @@
 -- What a function hands back for a line: the merge, and the text put into the output.
 use Rattle.std.specs.Prelude.{◌≡◌, refl, List, ℕ, ◌+◌, ◌≤◌}
-use Rattle.std.proofs.Common.{ap, subst}
+use Rattle.std.proofs.Common.{subst}
 use Rattle.text_output.specs.Puts.{Puts}
-use Rattle.merge_rules.specs.Merge as rules
 use Rattle.merges.specs.declared.Merge.{Merge}
-use Rattle.merges.specs.declared.Said.{Said}
-use Rattle.merges.specs.Stored.{merge_in, answer_in, said_in}
+use Rattle.merges.specs.Stored.{merge_in}
 use Rattle.merges.specs.IsMerge.{IsMerge}
 use Rattle.cli_merges.specs.declared.replies.Reply.{Reply}
-use Rattle.cli_merges.specs.Answers.{answer_text}
 use Rattle.cli_merges.specs.Room.{reply_room}
-use Rattle.cli_merges.specs.Replies.{Answered, only, called}
+use Rattle.cli_merges.specs.Replies.{Answered, only}
 
 pub record Gives (answered : Answered) (before : List ℕ) (at : ℕ) (after : List ℕ) (r : Reply) : Type 0 where
   pub is : IsMerge r.merge
@@ -24,12 +21,3 @@ gives_as {before = before} {at} {after} {r} e = subst (λ x. Gives x before at a
 pub gives-only : {m : Merge} {text before : List ℕ} {at : ℕ} {after : List ℕ} {end : ℕ} → IsMerge m → Puts text before at after end → end ≤ at + reply_room
     → Gives (only (merge_in m) text) before at after (record { merge = m; at = end })
 gives-only i p h = record { is = i; merge = refl; text = p; few = h }
-
-pub gives-call : (word : List ℕ) (r : Said) {s : rules.Said} {before : List ℕ} {at : ℕ} {after : List ℕ} {end : ℕ} → IsMerge r.merge → said_in r ≡ s
-    → Puts (answer_text word (answer_in r.answer)) before at after end → end ≤ at + reply_room → Gives (called word s) before at after (record { merge = r.merge; at = end })
-gives-call word r {before = before} {at} {after} {end} i e p h = record {
-  is = i;
-  merge = ap (λ s. s.merge) e;
-  text = subst (λ a. Puts (answer_text word a) before at after end) (ap (λ s. s.answer) e) p;
-  few = h;
-}

@@ -1,24 +1,21 @@
 -- What stands at the start of bytes that something was put into.
-use Rattle.std.specs.Prelude.{◌≡◌, refl, ◌≢◌, Bool, true, false, cond, List, [], ◌∷◌, ℕ, ◌+◌, ◌*◌, ◌/◌, ◌≤◌, eqb, length, take, drop}
-use Rattle.std.proofs.Common.{sym, ap, ap₂, ◌∙◌, arith, length-append, take_at, take_all}
+use Rattle.std.specs.Prelude.{◌≡◌, refl, Bool, true, false, List, ◌++◌, ℕ, ◌+◌, ◌*◌, ◌/◌, ◌≤◌, length, take, drop, Option, Some, None, Result, Ok, Err, IfOk}
+use Rattle.std.proofs.Common.{sym, ap, ap₂, ◌∙◌, arith, length-append, length-take, take_at, take_all}
 use Rattle.std.proofs.lemmas.List.Edits.{sets, sets-eq}
 use Rattle.catalogue_rules.specs.Catalogue.{Entry, Outcome, refused, accepted}
 use Rattle.catalogue_rules.specs.Word.{bytes_of}
 use Rattle.catalogue_rules.specs.Read.{read}
 use Rattle.catalogue_rules.specs.Write.{write}
-use Rattle.catalogue_rules.specs.Output.{output_by, untouched, filled_with, lent_rows}
+use Rattle.catalogue_rules.specs.Output.{Output, output_by, untouched, filled_with, lent_rows}
 use Rattle.catalogue_rules.proofs.Laws.Word as words
 use Rattle.catalogue_rules.proofs.Laws.Moves.{checked_case}
-use Rattle.catalogue_records.specs.declared.Catalogue.{Catalogue}
-use Rattle.catalogue_records.specs.Catalogues.{catalogue_of}
+use Rattle.refusals.specs.declared.Refused.{Refused}
+use Rattle.catalogue_records.specs.EntriesIn.{output_in}
 use Rattle.fold_rules.specs.Services.{folded_outcome, fold_of, listing_text, list_of}
 use Rattle.text_output.specs.Puts.{Puts}
 use Rattle.text_lines.specs.declared.Line.{Line}
 use Rattle.text_lines.specs.Told.{word_told, draft_told, words_in}
 use Rattle.text_encoding.specs.Stores.{Stores, stored-count, stored_bytes}
-use Rattle.text_encoding.specs.Counts.{words_count}
-use Rattle.cli_answers.specs.Answers.{refused_text}
-use Rattle.cli_merges.specs.Replies.{outcome_text}
 
 pub take-sets : (l text : List ℕ) {n : ℕ} → length text ≤ length l → n ≡ length text → take n (sets l 0 text) ≡ text
 take-sets l text {n} h e =
@@ -30,20 +27,31 @@ take-puts {text} {before} {end = end} h p = ap (take end) p.bytes ∙ take-sets 
 
 -- ---- the words of a line
 
-few-told : (n : ℕ) → length (word_told n) ≤ 1
-few-told n = go (eqb n 0)
-  where
-    go : (t : Bool) → length (cond t [] (n ∷ [])) ≤ 1
-    go true = omega arith
-    go false = omega arith
+few-told : (o : Option ℕ) → length (word_told o) ≤ 1
+few-told None = omega arith
+few-told (Some n) = omega arith
 
 few-draft : (b : Bool) → length (draft_told b) ≤ 1
 few-draft true = omega arith
 few-draft false = omega arith
 
-pub few_words : (l : Line) → l.count ≤ 225 → length l.coordinates ≡ 225 → length (words_in l) ≤ 229
-few_words l h k =
-    omega (arith, few-told l.size, few-draft l.draft, few-told l.see, words_count l (omega arith))
+pub few_words : (l : Line) → l.count ≤ 225 → length (words_in l) ≤ 229
+few_words l h =
+    let size = word_told l.size in
+    let coordinates = take l.count l.coordinates in
+    let mark = draft_told l.draft in
+    let see = word_told l.see in
+    omega (
+      arith,
+      h,
+      few-told l.size,
+      few-draft l.draft,
+      few-told l.see,
+      length-append size (coordinates ++ (mark ++ see)),
+      length-append coordinates (mark ++ see),
+      length-append mark see,
+      length-take l.count l.coordinates,
+    )
 
 -- all of them have room in 1024 bytes
 module _ {ws before after : List ℕ} {end : ℕ} (few : length ws ≤ 229) (room : length before ≡ 1024) (p : Stores ws before 0 after end) where
@@ -74,11 +82,6 @@ pub folded-few : (file out : List ℕ) → (fold_of file out).written ≤ length
 unfolding fold_of
 folded-few file out = counted write (folded_outcome (read file)) out
 
--- ---- a catalogue as text
-
-pub refused-reading : (o : Outcome) {c : Catalogue} → c ≡ catalogue_of o → c.refusal ≢ 0 → refused_text c.refusal c.place ≡ outcome_text o
-refused-reading o e h = ap (λ c. refused_text c.refusal c.place) e ∙ go o (λ z. h (ap (λ c. c.refusal) e ∙ z))
-  where
-    go : (o : Outcome) → (catalogue_of o).refusal ≢ 0 → refused_text (catalogue_of o).refusal (catalogue_of o).place ≡ outcome_text o
-    go (refused n p) h = refl
-    go (accepted es) h = absurd (h refl)
+pub few-written : (r : Result ℕ Refused) (lent : List ℕ) {o : Output} → output_in r lent ≡ o → o.written ≤ length o.lent → IfOk r (λ n. n ≤ length lent)
+few-written (Ok n) lent e h = omega (arith, h, ap (λ o. o.written) e, ap (λ o. length o.lent) e)
+few-written (Err r) lent e h = tt

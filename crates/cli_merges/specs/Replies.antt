@@ -1,23 +1,21 @@
 -- What is answered to a line, and the merge after it.
-use Rattle.std.specs.Prelude.{Bool, true, false, cond, List, [], ◌∷◌, ℕ, ◌%◌, eqb, ltb, length, take, drop, replicate}
+use Rattle.std.specs.Prelude.{Bool, true, false, cond, List, [], ◌∷◌, ℕ, ◌%◌, eqb, ltb, length, take, drop, replicate, Option, Some, None, Result, Ok, Err}
 use Rattle.integers.specs.Every.{every}
 use Rattle.catalogue_rules.specs.Catalogue.{Outcome, refused, accepted, new, most_bytes}
 use Rattle.catalogue_rules.specs.Word.{bytes_of}
 use Rattle.catalogue_rules.specs.Read.{read}
 use Rattle.catalogue_rules.specs.Output.{Output}
 use Rattle.fold_rules.specs.Services.{fold_of, list_of}
-use Rattle.catalogue_records.specs.declared.Written.{Written}
-use Rattle.catalogue_records.specs.Catalogues.{written_of}
+use Rattle.refusals.specs.declared.Refused.{Refused}
+use Rattle.refusals.specs.Number.{number_of}
 use Rattle.merge_rules.specs.Merge.{Merge, Said, file_of, add_to, look_in, close_of}
 use Rattle.text_rules.specs.Text.{text_of}
 use Rattle.text_rules.specs.Encoding.{content, is_empty}
 use Rattle.text_lines.specs.declared.Mistake.{Mistake}
 use Rattle.text_lines.specs.declared.Mistake.TheVariants.{PartMissing}
 use Rattle.text_lines.specs.declared.Line.{Line}
-use Rattle.text_lines.specs.Told.{is_none, line_read, words_in}
+use Rattle.text_lines.specs.Told.{line_read, words_in}
 use Rattle.cli_answers.specs.Answers.{refused_text, error_text}
-use Rattle.cli_entries.specs.declared.Wanted.{Wanted}
-use Rattle.cli_entries.specs.declared.Wanted.TheVariants.{Entry, NoNumber}
 use Rattle.cli_entries.specs.Asked.{wanted_in}
 use Rattle.cli_entries.specs.Mistakes.{mistake_text}
 use Rattle.cli_merges.specs.declared.commands.Command.{Command}
@@ -74,12 +72,11 @@ too_long = 108 ∷ 111 ∷ 110 ∷ 103 ∷ 101 ∷ 114 ∷ 32 ∷ 116 ∷ 104 �
 abbrev pub add_bytes : Merge → List ℕ → Answered
 add_bytes M bytes = called added_text (add_to M bytes)
 
--- a blank text tells no entry
-abbrev pub entry_mistake : Line → Mistake
-entry_mistake l = cond l.blank PartMissing l.mistake
-
-abbrev pub add_line : Merge → ℕ → Line → Answered
-add_line M line l = cond (is_none (entry_mistake l)) (add_bytes M (bytes_of (words_in l))) (only M (mistake_text line (entry_mistake l)))
+-- a blank line tells no entry
+abbrev pub add_line : Merge → ℕ → Result (Option Line) Mistake → Answered
+add_line M line (Ok (Some l)) = add_bytes M (bytes_of (words_in l))
+add_line M line (Ok None) = only M (mistake_text line PartMissing)
+add_line M line (Err mistake) = only M (mistake_text line mistake)
 
 -- as a line of a text in the new form tells it
 abbrev pub add_text : Merge → ℕ → List ℕ → Answered
@@ -95,9 +92,9 @@ add_hexadecimal M line s = cond (is_empty (drop (word_end s) s)) (add_digits M l
 
 -- ---- a number is looked up
 
-abbrev pub looked_text : Merge → ℕ → Wanted → List ℕ
-looked_text M line (Entry n) = answer_text [] (look_in M n)
-looked_text M line NoNumber = error_text line no_number
+abbrev pub looked_text : Merge → ℕ → Option ℕ → List ℕ
+looked_text M line (Some n) = answer_text [] (look_in M n)
+looked_text M line None = error_text line no_number
 
 -- ---- the merge is closed
 
@@ -107,11 +104,13 @@ close_reply M line s = cond (is_empty s) (called closed_text (close_of M)) (only
 -- ---- listing and fold of a closed merge
 
 -- the text that came into an output, or the refusal
-abbrev pub written_as : Written → List ℕ → List ℕ
-written_as w text = cond (eqb w.refusal 0) (take w.length text) (refused_text w.refusal w.place)
-
 abbrev pub written_text : Output → List ℕ
-written_text o = written_as (written_of o) o.lent
+written_text o = cond (eqb o.refusal 0) (take o.written o.lent) (refused_text o.refusal o.place)
+
+-- as a writing hands it out
+abbrev pub written_by : Result ℕ Refused → List ℕ → List ℕ
+written_by (Ok n) text = take n text
+written_by (Err r) text = refused_text (number_of r.refusal) r.place
 
 -- no listing has more bytes
 abbrev pub most_listing : ℕ
@@ -126,11 +125,8 @@ outcome_text (refused n p) = refused_text n p
 outcome_text (accepted es) = text_of es
 
 -- the text of the catalogue that came into an output, or the refusal
-abbrev pub decoded_as : Written → List ℕ → List ℕ
-decoded_as w bytes = cond (eqb w.refusal 0) (outcome_text (read (take w.length bytes))) (refused_text w.refusal w.place)
-
 abbrev pub decoded_text : Output → List ℕ
-decoded_text o = decoded_as (written_of o) o.lent
+decoded_text o = cond (eqb o.refusal 0) (outcome_text (read (take o.written o.lent))) (refused_text o.refusal o.place)
 
 abbrev pub fold_text_of : Merge → List ℕ
 fold_text_of M = decoded_text (fold_of (file_of M) (replicate (most_bytes new) 0))

@@ -5,7 +5,9 @@ ghost use Rattle.merges.specs.Stored.{answer_in};
 ghost use Rattle.cli_merges.specs.Answers.{provisional_text, final_text, answer_text};
 ghost use Rattle.cli_merges.specs.Room.{standing_room, answer_room};
 
+use cli_answers::put_refused;
 use merges::Answer;
+use refusals::Refused;
 
 // A standing number of an open merge.
 fn put_provisional(out: &mut [u8], at: usize, n: u32) -> usize
@@ -30,19 +32,22 @@ fn put_final(out: &mut [u8], at: usize, n: u32) -> usize
 }
 
 // The answer to a call, with the line that says that it was done.
-pub(crate) fn put_answer(out: &mut [u8], at: usize, done: &[u8], answer: Answer) -> usize
+pub(crate) fn put_answer(
+    out: &mut [u8],
+    at: usize,
+    done: &[u8],
+    answer: Result<Answer, Refused>,
+) -> usize
     requires answer_room_in_bounds { at + answer_room ≤ length out.old }
     requires done_len_bound { length done.now ≤ answer_room }
     ensures puts { Puts (answer_text done.now (answer_in answer)) out.old at out.new result }
     ensures upper_bound { result ≤ at + answer_room }
 {
     match answer {
-        Answer::Done => text_output::put_bytes(out, at, done),
-        Answer::Refused(number, place) => {
-            cli_answers::put_refused(out, at, number, place as u64)
-        }
-        Answer::Provisional(n) => put_provisional(out, at, n),
-        Answer::Final(n) => put_final(out, at, n),
-        Answer::NotYet => text_output::put_bytes(out, at, b"not yet\n"),
+        Ok(Answer::Done) => text_output::put_bytes(out, at, done),
+        Ok(Answer::Provisional(n)) => put_provisional(out, at, n),
+        Ok(Answer::Final(n)) => put_final(out, at, n),
+        Ok(Answer::NotYet) => text_output::put_bytes(out, at, b"not yet\n"),
+        Err(r) => put_refused(out, at, r),
     }
 }

@@ -37,14 +37,7 @@ fn word_length(s: &[u8]) -> usize
     ensures value { result ≡ word_length s.now }
     ensures upper_bound { result ≤ length s.now }
 {
-    let mut i = 0;
-    while i < s.len() {
-        if is_blank(s[i]) {
-            return i;
-        }
-        i += 1;
-    }
-    i
+    s.iter().position(|&b| is_blank(b)).unwrap_or(s.len())
 }
 
 // Whether two words are the same.
@@ -54,7 +47,7 @@ fn is_same(word: &[u8], other: &[u8]) -> bool
     word == other
 }
 
-// The command that a word is.
+// The command that a word is. A `match` on the bytes leaves goals open.
 fn named(word: &[u8]) -> Command
     ensures { result ≡ command_of word.now }
 {
@@ -99,10 +92,8 @@ pub(crate) fn read_command(s: &[u8]) -> Asked
     ensures length_in_bounds { result.length ≤ length s.now }
 {
     let word = first_word(s);
-    let from = word.from;
-    let end = word.end;
     Asked {
-        command: named(&s[from..end]),
-        length: end,
+        command: named(&s[word.from..word.end]),
+        length: word.end,
     }
 }

@@ -2,41 +2,19 @@
 ghost use Rattle.std.specs.Prelude.{◌≡◌, ◌+◌, ◌*◌, ◌≤◌, ◌<◌, length};
 ghost use Rattle.std.proofs.lemmas.List.Edits.{sets};
 ghost use Rattle.integers.specs.Every.{every};
-ghost use Rattle.cli_merges.specs.Digits.{between, is_digit, digit, byte_of, bytes_in};
-
-fn is_between(low: u8, high: u8, b: u8) -> bool
-    ensures { result ≡ between low high b }
-{
-    low <= b && b <= high
-}
-
-fn is_digit(b: u8) -> bool
-    ensures { result ≡ is_digit b }
-{
-    if is_between(b'0', b'9', b) {
-        return true;
-    }
-    if is_between(b'A', b'F', b) {
-        return true;
-    }
-    is_between(b'a', b'f', b)
-}
+ghost use Rattle.cli_merges.specs.Digits.{is_digit, digit, byte_of, bytes_in};
 
 // What a digit counts; 0 for what is none.
 fn digit(b: u8) -> u8
     ensures value { result ≡ digit b }
     ensures upper_bound { result < 16 }
 {
-    if is_between(b'0', b'9', b) {
-        return b - 48;
+    match b {
+        b'0'..=b'9' => b - 48,
+        b'A'..=b'F' => b - 55,
+        b'a'..=b'f' => b - 87,
+        _ => 0,
     }
-    if is_between(b'A', b'F', b) {
-        return b - 55;
-    }
-    if is_between(b'a', b'f', b) {
-        return b - 87;
-    }
-    0
 }
 
 // The byte of two digits.
@@ -50,8 +28,8 @@ fn byte_of(high: u8, low: u8) -> u8
 pub(crate) fn are_digits(s: &[u8]) -> bool
     ensures { result ≡ every is_digit s.now }
 {
-    for i in 0..s.len() {
-        if !is_digit(s[i]) {
+    for b in s {
+        if !b.is_ascii_hexdigit() {
             return false;
         }
     }

@@ -2,7 +2,7 @@
 // only move bytes; what is a line and what is kept of one is under contract in cli_lines, what is answered in the modules.
 #![tactic(auto)]
 
-ghost use Rattle.std.specs.Prelude.{◌+◌, ◌≤◌, length};
+ghost use Rattle.std.specs.Prelude.{◌≤◌, length, IfSome};
 ghost use Rattle.merges.specs.IsMerge.{IsMerge};
 ghost use Rattle.cli_merges.specs.Room.{reply_room};
 
@@ -22,133 +22,95 @@ struct Place {
     from: usize,
     line: u64,
     at: usize,
-    is_open: bool,
 }
 
-// Answers every line that ends, from the start of the bytes on.
+// Answers every line that ends, from the start of the bytes on. None where a write failed.
 fn answer_lines(
     rt: &(impl Print + Say),
     merge: Merge,
     bytes: &[u8],
     first: u64,
     out: &mut [u8],
-) -> Place
+) -> Option<Place>
     requires merge { IsMerge merge }
     requires reply_room_in_bounds { reply_room ≤ length out.old }
-    ensures merge_2 { IsMerge result.merge }
-    ensures from_in_bounds { result.from ≤ length bytes.now }
-    ensures at_in_bounds { result.at ≤ length out.old }
+    ensures merge_2 { IfSome result (λ p. IsMerge p.merge) }
+    ensures from_in_bounds { IfSome result (λ p. p.from ≤ length bytes.now) }
+    ensures at_in_bounds { IfSome result (λ p. p.at ≤ length out.old) }
 {
-    let mut m = merge;
-    let mut from = 0;
-    let mut line = first;
-    let mut at = 0;
-    while from < bytes.len() {
-        let end = from + cli_lines::line_length(&bytes[from..]);
+    let mut p = Place {
+        merge,
+        from: 0,
+        line: first,
+        at: 0,
+    };
+    while p.from < bytes.len() {
+        let end = p.from + cli_lines::line_length(&bytes[p.from..]);
         if end == bytes.len() {
             break;
         }
-        let room = cli_lines::make_room(rt, out, at, replies::MOST_BYTES);
-        if !room.is_open {
-            return Place {
-                merge: m,
-                from,
-                line,
-                at: 0,
-                is_open: false,
-            };
-        }
-        let r = replies::answer(m, &bytes[from..end], line, out, room.at);
-        m = r.merge;
-        at = r.at;
-        from = end + 1;
-        line = cli_lines::next(line);
+        let at = cli_lines::make_room(rt, out, p.at, replies::MOST_BYTES)?;
+        let r = replies::answer(p.merge, &bytes[p.from..end], p.line, out, at);
+        p = Place {
+            merge: r.merge,
+            from: end + 1,
+            line: cli_lines::next(p.line),
+            at: r.at,
+        };
     }
-    Place {
-        merge: m,
-        from,
-        line,
-        at,
-        is_open: true,
-    }
+    Some(p)
 }
 
-// The merge, what is kept of the line that has not ended, and the line's number; whether the input is over, and whether all reads and writes went
-// through.
+// The merge, what is kept of the line that has not ended, and the line's number; and whether the input is over.
 #[derive(Clone, Copy)]
 struct Turn {
     merge: Merge,
     have: usize,
     line: u64,
     is_over: bool,
-    is_open: bool,
 }
 
-// Reads once, answers every line that ends and writes the answers, so that what has come is answered before more is waited for.
+// Reads once, answers every line that ends and writes the answers, so that what has come is answered before more is waited for. None where a read
+// or a write failed.
 fn take_turn(
     rt: &(impl Print + Say),
     input: &mut impl Read,
-    merge: Merge,
+    t: Turn,
     bytes: &mut [u8],
-    have: usize,
-    line: u64,
     out: &mut [u8],
-) -> Turn
-    requires merge { IsMerge merge }
+) -> Option<Turn>
+    requires merge { IsMerge t.merge }
     requires in_bounds { 4097 ≤ length bytes.old }
     requires reply_room_in_bounds { reply_room ≤ length out.old }
-    requires have_bound { have ≤ 4097 }
-    ensures merge_2 { IsMerge result.merge }
-    ensures have_bound_2 { result.have ≤ 4097 }
+    requires have_bound { t.have ≤ 4097 }
+    ensures merge_2 { IfSome result (λ t. IsMerge t.merge) }
+    ensures have_bound_2 { IfSome result (λ t. t.have ≤ 4097) }
 {
-    let f = cli_input::read_more(rt, input, bytes, have);
-    let end = f.end;
-    if end == have {
-        return Turn {
-            merge,
-            have,
-            line,
-            is_over: true,
-            is_open: f.is_open,
-        };
+    let end = cli_input::read_more(rt, input, bytes, t.have)?;
+    if end == t.have {
+        return Some(Turn { is_over: true, ..t });
     }
-    let p = answer_lines(rt, merge, &bytes[..end], line, out);
-    let at = p.at;
-    let after = p.merge;
-    if !p.is_open {
-        return Turn {
-            merge: after,
-            have: 0,
-            line,
-            is_over: true,
-            is_open: false,
-        };
+    let p = answer_lines(rt, t.merge, &bytes[..end], t.line, out)?;
+    if !cli_output::write(rt, &out[..p.at]) {
+        return None;
     }
-    let is_open = cli_output::write(rt, &out[..at]);
-    Turn {
-        merge: after,
+    Some(Turn {
+        merge: p.merge,
         have: cli_lines::keep(bytes, p.from, end),
         line: p.line,
-        is_over: !is_open,
-        is_open,
-    }
+        is_over: false,
+    })
 }
 
-// Answers the last line, which no newline ends, unless a read or a write failed.
+// Answers the last line, which no newline ends.
 fn finish(rt: &(impl Print + Say), bytes: &[u8], t: Turn, out: &mut [u8])
     requires in_bounds { 4097 ≤ length bytes.now }
     requires reply_room_in_bounds { reply_room ≤ length out.old }
     requires merge { IsMerge t.merge }
     requires have_bound { t.have ≤ 4097 }
 {
-    if !t.is_open {
-        return;
-    }
-    let have = t.have;
-    let merge = t.merge;
-    let r = replies::answer(merge, &bytes[..have], t.line, out, 0);
-    let at = r.at;
-    cli_output::write(rt, &out[..at]);
+    let r = replies::answer(t.merge, &bytes[..t.have], t.line, out, 0);
+    cli_output::write(rt, &out[..r.at]);
 }
 
 // Takes turns until the input is over or a read or a write fails. Nothing says that a stream ends and a proved loop must, so the turns are
@@ -157,25 +119,28 @@ fn serve_with(rt: &(impl Print + Say), input: &mut impl Read, bytes: &mut [u8], 
     requires in_bounds { 4097 ≤ length bytes.old }
     requires reply_room_in_bounds { reply_room ≤ length out.old }
 {
-    let mut merge = Merge::start();
-    let mut have = 0;
-    let mut line = 1;
+    let mut turn = Turn {
+        merge: Merge::start(),
+        have: 0,
+        line: 1,
+        is_over: false,
+    };
     for _ in 0..u64::MAX {
-        let t = take_turn(rt, input, merge, bytes, have, line, out);
+        let Some(t) = take_turn(rt, input, turn, bytes, out) else {
+            return;
+        };
         if t.is_over {
             finish(rt, bytes, t, out);
             return;
         }
-        merge = t.merge;
-        have = t.have;
-        line = t.line;
+        turn = t;
     }
 }
 
 // Answers the commands of a run. The bytes are what all turns share: so much is read and written at a time.
 pub fn serve(rt: &(impl Input + Print + Say)) {
-    let mut bytes = [0u8; 32768];
-    let mut out = [0u8; 131072];
+    let mut bytes = [0; 32768];
+    let mut out = [0; 131072];
     let mut input = rt.reader();
     serve_with(rt, &mut input, &mut bytes, &mut out);
 }

@@ -1,7 +1,11 @@
 // A line answered: a call of the merge, or what is wrong with the line.
-ghost use Rattle.std.specs.Prelude.{◌≡◌, true, ◌+◌, ◌*◌, ◌≤◌, length};
+ghost use Rattle.std.specs.Prelude.{◌≡◌, true, ◌+◌, ◌*◌, ◌≤◌, length, map, IfOk};
 ghost use Rattle.text_output.specs.Puts.{Puts};
+ghost use Rattle.integers.specs.All.{All};
+ghost use Rattle.catalogue_rules.specs.Form.{EntryFits};
+ghost use Rattle.catalogue_records.specs.EntriesIn.{entry_in};
 ghost use Rattle.text_rules.specs.Encoding.{is_empty};
+ghost use Rattle.text_rules.specs.Text.{text_of};
 ghost use Rattle.text_lines.specs.Told.{words_in};
 ghost use Rattle.catalogue_rules.specs.Word.{bytes_of};
 ghost use Rattle.catalogue_rules.specs.Read.{read};
@@ -9,17 +13,17 @@ ghost use Rattle.cli_answers.specs.Answers.{error_text};
 ghost use Rattle.cli_entries.specs.Asked.{wanted_in};
 ghost use Rattle.merges.specs.Stored.{merge_in};
 ghost use Rattle.merges.specs.IsMerge.{IsMerge};
-ghost use Rattle.cli_merges.specs.Replies.{entry_mistake, behind_command, add_bytes, add_text, add_digits, add_hexadecimal, looked_text, close_reply, written_as, listing_of, outcome_text, fold_text_of, closed_reply, command_reply, content_reply, answer};
+ghost use Rattle.cli_merges.specs.Replies.{behind_command, add_bytes, add_text, add_digits, add_hexadecimal, looked_text, close_reply, written_by, listing_of, outcome_text, fold_text_of, closed_reply, command_reply, content_reply, answer};
 ghost use Rattle.cli_merges.specs.Room.{reply_room};
 ghost use Rattle.cli_merges.specs.Gives.{Gives};
 
 use super::answers::put_answer;
 use super::commands::{Command, first_word, read_command};
 use super::digits;
-use catalogue_records::{Catalogue, Form, Written};
-use cli_answers::put_error;
-use cli_entries::Wanted;
+use catalogue_records::{Catalogue, Entry, Form};
+use cli_answers::{put_error, put_refused};
 use merges::Merge;
+use refusals::Refused;
 use text_lines::{Line, Mistake};
 use text_parts::tokens::blanks;
 
@@ -59,51 +63,39 @@ fn add_bytes(merge: Merge, bytes: &[u8], out: &mut [u8], at: usize) -> Reply
     ensures { Gives (add_bytes (merge_in merge) bytes.now) out.old at out.new result }
 {
     let said = merge.add(bytes);
-    let answer = said.answer;
-    let after = said.merge;
     Reply {
-        merge: after,
-        at: put_answer(out, at, b"added\n", answer),
+        merge: said.merge,
+        at: put_answer(out, at, b"added\n", said.answer),
     }
-}
-
-// What is wrong with a line that is to tell an entry: a blank one does not.
-fn mistake_in(l: Line) -> Mistake
-    ensures { result ≡ entry_mistake l }
-{
-    if l.blank {
-        return Mistake::PartMissing;
-    }
-    l.mistake
 }
 
 // Adds the entry that a line tells.
-fn add_told(merge: Merge, l: Line, out: &mut [u8], at: usize) -> Reply
+fn add_told(merge: Merge, l: &Line, out: &mut [u8], at: usize) -> Reply
     requires merge { IsMerge merge }
     requires reply_room_in_bounds { at + reply_room ≤ length out.old }
-    requires count_bound { l.count ≤ 225 }
-    ensures { Gives (add_bytes (merge_in merge) (bytes_of (words_in l))) out.old at out.new result }
+    requires count_bound { l.now.count ≤ 225 }
+    ensures { Gives (add_bytes (merge_in merge) (bytes_of (words_in l.now))) out.old at out.new result }
 {
-    let mut bytes = [0u8; 1024];
+    let mut bytes = [0; 1024];
     let n = text_encoding::put_line(&mut bytes, 0, l) * 4;
     add_bytes(merge, &bytes[..n], out, at)
 }
 
-// Adds the entry that a text tells.
+// Adds the entry that a text tells. A blank one tells none.
 fn add_text(merge: Merge, line: u64, s: &[u8], out: &mut [u8], at: usize) -> Reply
     requires merge { IsMerge merge }
     requires reply_room_in_bounds { at + reply_room ≤ length out.old }
     ensures { Gives (add_text (merge_in merge) line s.now) out.old at out.new result }
 {
-    let l = text_lines::read_line(Form::New, s);
-    let mistake = mistake_in(l);
-    if !text_lines::is_none(mistake) {
-        return Reply {
-            merge,
-            at: cli_entries::put_mistake(out, at, line, mistake),
-        };
+    let mistake = match text_lines::read_line(Form::New, s) {
+        Ok(Some(l)) => return add_told(merge, &l, out, at),
+        Ok(None) => Mistake::PartMissing,
+        Err(mistake) => mistake,
+    };
+    Reply {
+        merge,
+        at: cli_entries::put_mistake(out, at, line, mistake),
     }
-    add_told(merge, l, out, at)
 }
 
 // Adds the entry of the bytes that digits write.
@@ -125,7 +117,7 @@ fn add_digits(merge: Merge, line: u64, s: &[u8], out: &mut [u8], at: usize) -> R
             at: put_error(out, at, line, b"an odd number of digits"),
         };
     }
-    let mut bytes = [0u8; 2048];
+    let mut bytes = [0; 2048];
     let n = digits::put_bytes(s, &mut bytes);
     add_bytes(merge, &bytes[..n], out, at)
 }
@@ -138,15 +130,13 @@ fn add_hexadecimal(merge: Merge, line: u64, s: &[u8], out: &mut [u8], at: usize)
     ensures { Gives (add_hexadecimal (merge_in merge) line s.now) out.old at out.new result }
 {
     let word = first_word(s);
-    let from = word.from;
-    let end = word.end;
-    if !is_blank(&s[end..]) {
+    if !is_blank(&s[word.end..]) {
         return Reply {
             merge,
             at: put_error(out, at, line, b"something that is no hexadecimal digit"),
         };
     }
-    add_digits(merge, line, &s[from..end], out, at)
+    add_digits(merge, line, &s[word.from..word.end], out, at)
 }
 
 // Looks up the number that a word writes.
@@ -157,8 +147,8 @@ fn put_looked(merge: Merge, line: u64, s: &[u8], out: &mut [u8], at: usize) -> u
     ensures upper_bound { result ≤ at + reply_room }
 {
     match cli_entries::entry_in(s) {
-        Wanted::Entry(number) => put_answer(out, at, b"", merge.looked(number)),
-        Wanted::NoNumber => put_error(out, at, line, b"look wants the number of an entry"),
+        Some(number) => put_answer(out, at, b"", merge.looked(number)),
+        None => put_error(out, at, line, b"look wants the number of an entry"),
     }
 }
 
@@ -175,27 +165,24 @@ fn close(merge: Merge, line: u64, s: &[u8], out: &mut [u8], at: usize) -> Reply
         };
     }
     let said = merge.close();
-    let answer = said.answer;
-    let after = said.merge;
     Reply {
-        merge: after,
-        at: put_answer(out, at, b"closed\n", answer),
+        merge: said.merge,
+        at: put_answer(out, at, b"closed\n", said.answer),
     }
 }
 
 // The text that came, or why none did.
-fn put_written(text: &[u8], w: Written, out: &mut [u8], at: usize) -> usize
+fn put_written(text: &[u8], w: Result<usize, Refused>, out: &mut [u8], at: usize) -> usize
     requires reply_room_in_bounds { at + reply_room ≤ length out.old }
     requires text_len_bound { length text.now ≤ reply_room }
-    requires length_in_bounds { w.length ≤ length text.now }
-    ensures puts { Puts (written_as w text.now) out.old at out.new result }
+    requires length_in_bounds { IfOk w (λ n. n ≤ length text.now) }
+    ensures puts { Puts (written_by w text.now) out.old at out.new result }
     ensures upper_bound { result ≤ at + reply_room }
 {
-    if w.refusal != 0 {
-        return cli_answers::put_refused(out, at, w.refusal, w.place as u64);
+    match w {
+        Ok(n) => text_output::put_bytes(out, at, &text[..n]),
+        Err(r) => put_refused(out, at, r),
     }
-    let n = w.length;
-    text_output::put_bytes(out, at, &text[..n])
 }
 
 // The listing of a closed merge.
@@ -206,9 +193,22 @@ fn put_listing(merge: Merge, out: &mut [u8], at: usize) -> usize
     ensures puts { Puts (listing_of (merge_in merge)) out.old at out.new result }
     ensures upper_bound { result ≤ at + reply_room }
 {
-    let mut text = [0u8; catalogue_listing::MOST_BYTES];
+    let mut text = [0; catalogue_listing::MOST_BYTES];
     let w = merge.list(&mut text);
     put_written(&text, w, out, at)
+}
+
+// The text of entries that were read.
+fn put_text(entries: &[Entry], out: &mut [u8], at: usize) -> usize
+    requires all { All EntryFits (map entry_in entries.now) }
+    requires length_bound { length (text_of (map entry_in entries.now)) ≤ reply_room }
+    requires reply_room_in_bounds { at + reply_room ≤ length out.old }
+    ensures puts { Puts (text_of (map entry_in entries.now)) out.old at out.new result }
+    ensures upper_bound { result ≤ at + reply_room }
+{
+    let mut text = [0; catalogue_listing::MOST_BYTES];
+    let n = text_decoding::put_entries(entries, &mut text);
+    text_output::put_bytes(out, at, &text[..n])
 }
 
 // A catalogue as text.
@@ -217,13 +217,10 @@ fn put_decoded(bytes: &[u8], out: &mut [u8], at: usize) -> usize
     ensures puts { Puts (outcome_text (read bytes.now)) out.old at out.new result }
     ensures upper_bound { result ≤ at + reply_room }
 {
-    let c = catalogue::read(bytes);
-    if c.refusal != 0 {
-        return cli_answers::put_refused(out, at, c.refusal, c.place as u64);
+    match catalogue::read(bytes) {
+        Ok(c) => put_text(c.list(), out, at),
+        Err(r) => put_refused(out, at, r),
     }
-    let mut text = [0u8; catalogue_listing::MOST_BYTES];
-    let n = text_decoding::put_entries(c, &mut text);
-    text_output::put_bytes(out, at, &text[..n])
 }
 
 // The fold of a closed merge as text.
@@ -234,13 +231,11 @@ fn put_fold(merge: Merge, out: &mut [u8], at: usize) -> usize
     ensures puts { Puts (fold_text_of (merge_in merge)) out.old at out.new result }
     ensures upper_bound { result ≤ at + reply_room }
 {
-    let mut bytes = [0u8; Catalogue::MOST_BYTES];
-    let w = merge.fold(&mut bytes);
-    if w.refusal != 0 {
-        return cli_answers::put_refused(out, at, w.refusal, w.place as u64);
+    let mut bytes = [0; Catalogue::MOST_BYTES];
+    match merge.fold(&mut bytes) {
+        Ok(n) => put_decoded(&bytes[..n], out, at),
+        Err(r) => put_refused(out, at, r),
     }
-    let n = w.length;
-    put_decoded(&bytes[..n], out, at)
 }
 
 // Listing or fold, if the merge is closed.
@@ -310,9 +305,7 @@ fn answer_text(merge: Merge, s: &[u8], line: u64, out: &mut [u8], at: usize) -> 
         return Reply { merge, at };
     }
     let asked = read_command(s);
-    let command = asked.command;
-    let from = asked.length;
-    carry_out(merge, command, line, &s[from..], out, at)
+    carry_out(merge, asked.command, line, &s[asked.length..], out, at)
 }
 
 // Answers a line. What stands behind a `#` is a comment.

@@ -29,10 +29,9 @@ pub fn fail(rt: &impl Say, what: &[u8], error: io::Error) {
     let _ = write!(rest, "{error}");
     let end = 128 - rest.len().min(128);
     let whole = str::from_utf8(&text[..end]).unwrap_or("");
-    let words = match whole.split_once(" (os error ") {
-        Some((before, _)) => before,
-        None => whole,
-    };
+    let words = whole
+        .split_once(" (os error ")
+        .map_or(whole, |(before, _)| before);
     rt.say(what);
     rt.say(b": ");
     rt.say(words.as_bytes());

@@ -2,13 +2,13 @@
 // Standard error is beside it.
 #![tactic(auto)]
 
-ghost use Rattle.std.specs.Prelude.{◌≡◌, [], ◌∷◌, map, ◌+◌, ◌*◌, ◌≤◌, min, length, take};
+ghost use Rattle.std.specs.Prelude.{◌≡◌, [], ◌∷◌, map, ◌+◌, ◌*◌, ◌≤◌, length, take};
 ghost use Rattle.integers.specs.Decimal.{decimal, signed};
 ghost use Rattle.text_layout.specs.Fields.{after};
 ghost use Rattle.text_output.specs.Puts.{Puts};
 ghost use Rattle.text_output.specs.Joined.{joined};
 ghost use Rattle.text_fields.specs.Blank.{blank};
-ghost use Rattle.lattices.specs.Refusal.{most_coordinates};
+ghost use Rattle.lattices.specs.Refusal.{most_vectors, most_coordinates};
 ghost use Rattle.cli_output.specs.Rows.{row_line};
 ghost use Rattle.cli_output.specs.Room.{number_room, field_room, row_room, line_room, lines_room};
 
@@ -36,27 +36,12 @@ pub fn number(rt: &(impl Print + Say), n: u64) -> bool {
 
 // Writes z, a minus before it where it is negative.
 pub fn signed(rt: &(impl Print + Say), z: i64) -> bool {
-    if z < 0 {
-        if !write(rt, b"-") {
-            return false;
-        }
-    }
-    number(rt, text_output::magnitude(z))
+    (z >= 0 || write(rt, b"-")) && number(rt, z.unsigned_abs())
 }
 
 // Ends the line.
 pub fn newline(rt: &(impl Print + Say)) -> bool {
     write(rt, b"\n")
-}
-
-// The lesser of two.
-fn lesser(a: usize, b: usize) -> usize
-    ensures { result ≡ min a b }
-{
-    if a < b {
-        return a;
-    }
-    b
 }
 
 // A number in decimal.
@@ -86,8 +71,8 @@ fn put_row(out: &mut [u8], at: usize, row: &[i64], n: usize) -> usize
     ensures upper_bound { result ≤ at + row_room }
 {
     let mut k = at;
-    for i in 0..lesser(n, row.len()) {
-        k = put_field(out, k, row[i]);
+    for z in &row[..n.min(row.len())] {
+        k = put_field(out, k, *z);
     }
     text_output::put_byte(out, k, b'\n')
 }
@@ -130,6 +115,28 @@ pub fn put_table_row(out: &mut [u8], at: usize, letter: u8, row: [i64; 4], n: us
     put_line(out, at, letter, &row, n)
 }
 
+// A line for each of the first d of four rows.
+fn put_lines<const N: usize>(
+    out: &mut [u8],
+    at: usize,
+    letter: u8,
+    rows: &[[i64; N]],
+    d: usize,
+    n: usize,
+) -> usize
+    requires width_bound { N ≤ most_coordinates }
+    requires rows_bound { length rows.now ≤ most_vectors }
+    requires lines_room_in_bounds { at + lines_room ≤ length out.old }
+    ensures puts { Puts (joined (row_line letter n) (take d rows.now)) out.old at out.new result }
+    ensures upper_bound { result ≤ at + lines_room }
+{
+    let mut k = at;
+    for row in &rows[..d.min(rows.len())] {
+        k = put_line(out, k, letter, row, n);
+    }
+    k
+}
+
 // A line for each of the first d vectors, of m coordinates each.
 pub fn put_vectors(
     out: &mut [u8],
@@ -142,12 +149,7 @@ pub fn put_vectors(
     ensures puts { Puts (joined (row_line 118 m) (take d rows)) out.old at out.new result }
     ensures upper_bound { result ≤ at + lines_room }
 {
-    let mut k = at;
-    for i in 0..lesser(d, 4) {
-        let row = rows[i];
-        k = put_vector(out, k, row, m);
-    }
-    k
+    put_lines(out, at, b'v', &rows, d, m)
 }
 
 // A line for each of the first d rows of a table, of d numbers each.
@@ -156,10 +158,5 @@ pub fn put_table(out: &mut [u8], at: usize, letter: u8, rows: [[i64; 4]; 4], d: 
     ensures puts { Puts (joined (row_line letter d) (take d rows)) out.old at out.new result }
     ensures upper_bound { result ≤ at + lines_room }
 {
-    let mut k = at;
-    for i in 0..lesser(d, 4) {
-        let row = rows[i];
-        k = put_table_row(out, k, letter, row, d);
-    }
-    k
+    put_lines(out, at, letter, &rows, d, d)
 }

@@ -1,6 +1,5 @@
--- A line and what is answered to it: the definitions in Reply and Replies, laws in Told and Cases.
+-- A line and what is answered to it: the definitions in Reply and Replies, laws in Told.
 pub mod Reply
 pub mod Replies
 pub mod Told
-pub mod Cases
 pub mod Room

@@ -3,7 +3,6 @@ use Rattle.std.specs.Prelude.{Bool, true, false, cond, List, [], ◌∷◌, ◌+
 use Rattle.integers.specs.Decimal.{decimal}
 use Rattle.lattices.specs.Refusal.{Input}
 use Rattle.lattices.specs.Answer.{reduction_of, nearest_of, membership_of}
-use Rattle.engine.specs.Packed.{packed, packed_nearest, packed_membership}
 use Rattle.text_parts.specs.declared.Kind.{Kind}
 use Rattle.text_parts.specs.declared.Kind.TheVariants.{Number, Semicolon, End, Unexpected, TooLarge, TooMany, NoCount}
 use Rattle.text_parts.specs.Numbers.{leading}
@@ -12,7 +11,7 @@ use Rattle.text_parts.specs.Parts.{is_semicolon, is_end, taken_at}
 use Rattle.text_parts.specs.Counts.{counts_at}
 use Rattle.cli_answers.specs.Answers.{error_text, reduction_text, basis_text, nearest_text, membership_text}
 use Rattle.cli_replies.specs.declared.Command.{Command}
-use Rattle.cli_replies.specs.declared.Command.TheVariants.{Reduce, Nearest, NearestOnBasis, Member}
+use Rattle.cli_replies.specs.declared.Command.TheVariants.{Reduce, About}
 use Rattle.cli_replies.specs.declared.Wanted.{Wanted}
 use Rattle.cli_replies.specs.declared.Wanted.TheVariants.{Vector, VectorOnBasis, Membership}
 use Rattle.cli_replies.specs.Reply.{Reply, always, headed}
@@ -24,7 +23,7 @@ abbrev pub no_number : List ℕ
 no_number = 115 ∷ 111 ∷ 109 ∷ 101 ∷ 116 ∷ 104 ∷ 105 ∷ 110 ∷ 103 ∷ 32 ∷ 116 ∷ 104 ∷ 97 ∷ 116 ∷ 32 ∷ 105 ∷ 115 ∷ 32 ∷ 110 ∷ 111 ∷ 32 ∷ 110 ∷ 117 ∷ 109 ∷ 98 ∷ 101 ∷ 114 ∷ []
 
 abbrev pub what_is_wrong : Kind → List ℕ
-what_is_wrong Number = no_number
+what_is_wrong (Number z) = no_number
 -- "a part too many"
 what_is_wrong Semicolon = 97 ∷ 32 ∷ 112 ∷ 97 ∷ 114 ∷ 116 ∷ 32 ∷ 116 ∷ 111 ∷ 111 ∷ 32 ∷ 109 ∷ 97 ∷ 110 ∷ 121 ∷ []
 -- "a part is missing"
@@ -43,7 +42,7 @@ mistake_text line stop = error_text line (what_is_wrong stop)
 -- ---- d m ; numbers
 
 abbrev pub reduced_of : (d m : ℕ) → List ℤ → List ℕ
-reduced_of d m numbers = reduction_text d m (packed (reduction_of (record { numbers = numbers; d = d; m = m; target = [] })))
+reduced_of d m numbers = reduction_text d m (reduction_of (record { numbers = numbers; d = d; m = m; target = [] }))
 
 -- no part of a line has more numbers: a number and a blank take two of its 4096 bytes
 abbrev pub most_listed : ℕ
@@ -60,16 +59,16 @@ reduce_reply line s = let c = counts_at s in cond (is_semicolon c.stop) (reduce_
 -- the reduced vectors, where they are asked for and the search is not refused
 abbrev pub basis_of : (with : Bool) (refusal d m : ℕ) → List ℤ → List ℕ
 basis_of with refusal d m numbers =
-    cond with (cond (eqb refusal 0) (basis_text d m (packed (reduction_of (record { numbers = numbers; d = d; m = m; target = [] })))) []) []
+    cond with (cond (eqb refusal 0) (basis_text d m (reduction_of (record { numbers = numbers; d = d; m = m; target = [] }))) []) []
 
 -- the nearest vector, after the reduced ones
 abbrev pub found_on : (with : Bool) (d m : ℕ) → List ℤ → List ℤ → Reply
 found_on with d m numbers target =
     let i : Input = record { numbers = numbers; d = d; m = m; target = target } in
-    record { asked = i ∷ []; text = λ tenths. basis_of with (nearest_of i).refusal d m numbers ++ nearest_text d m (packed_nearest (nearest_of i) tenths) }
+    record { asked = i ∷ []; text = λ tenths. basis_of with (nearest_of i).refusal d m numbers ++ nearest_text d m tenths (nearest_of i) }
 
 abbrev pub member_on : (d m : ℕ) → List ℤ → List ℤ → List ℕ
-member_on d m numbers target = membership_text (packed_membership (membership_of (record { numbers = numbers; d = d; m = m; target = target })))
+member_on d m numbers target = membership_text (membership_of (record { numbers = numbers; d = d; m = m; target = target }))
 
 -- what is asked about the target
 abbrev pub wanted_of : Wanted → (d m : ℕ) → List ℤ → List ℤ → Reply
@@ -93,9 +92,7 @@ target_reply wanted line s =
 
 abbrev pub reply : Command → ℕ → List ℕ → Reply
 reply Reduce line s = always (reduce_reply line s)
-reply Nearest line s = target_reply Vector line s
-reply NearestOnBasis line s = target_reply VectorOnBasis line s
-reply Member line s = target_reply Membership line s
+reply (About wanted) line s = target_reply wanted line s
 
 -- the line's number before its answer, where it is asked for
 abbrev pub number_text : Bool → ℕ → List ℕ

@@ -1,13 +1,14 @@
 // A line answered: a request, or what is wrong with it.
 #![tactic(auto)]
 
-ghost use Rattle.std.specs.Prelude.{◌≡◌, ◌+◌, ◌≤◌, length};
+ghost use Rattle.std.specs.Prelude.{◌≡◌, [], true, false, ◌+◌, ◌≤◌, length};
+ghost use Rattle.lattices.specs.Answer.{reduction_of};
 ghost use Rattle.text_output.specs.Puts.{Puts};
-ghost use Rattle.cli_replies.specs.Replies.{mistake_text, reduced_of, reduce_with, reduce_reply, basis_of, found_on, member_on, wanted_of, with_target, with_vectors, target_reply, reply, number_text, answer};
+ghost use Rattle.cli_answers.specs.Answers.{basis_text};
+ghost use Rattle.cli_replies.specs.Replies.{what_is_wrong, mistake_text, reduced_of, reduce_with, reduce_reply, found_on, member_on, wanted_of, with_target, with_vectors, target_reply, reply, number_text, answer};
 ghost use Rattle.cli_replies.specs.Reply.{Told};
 ghost use Rattle.cli_output.specs.Room.{field_room, lines_room};
 ghost use Rattle.cli_answers.specs.Room.{refused_room, reduction_room};
-ghost use Rattle.cli_replies.specs.Replies.{most_listed};
 ghost use Rattle.cli_replies.specs.Room.{mistake_room, target_room, answer_room};
 
 use text_parts::Kind;
@@ -18,14 +19,8 @@ pub const MOST_BYTES: usize = 21 + cli_answers::MOST_BYTES;
 // No line has more numbers in a part: a number and a blank take two bytes.
 pub const MOST_LISTED: usize = 2048;
 
-// What the lines ask for.
-#[derive(Clone, Copy)]
-pub enum Command {
-    Reduce,
-    Nearest,
-    NearestOnBasis,
-    Member,
-}
+// Room for the numbers of a part.
+pub type Listed = [i64; MOST_LISTED];
 
 // What is asked about a target.
 #[derive(Clone, Copy)]
@@ -35,21 +30,35 @@ pub enum Wanted {
     Membership,
 }
 
+// What the lines ask for.
+#[derive(Clone, Copy)]
+pub enum Command {
+    Reduce,
+    About(Wanted),
+}
+
 // What is wrong where a part stops in a way that it may not.
+fn what_is_wrong(stop: Kind) -> &'static [u8]
+    ensures sentence { result.now ≡ what_is_wrong stop }
+    ensures upper_bound { length result.now ≤ 27 }
+{
+    match stop {
+        Kind::Number(_) | Kind::Unexpected => b"something that is no number",
+        Kind::Semicolon => b"a part too many",
+        Kind::End => b"a part is missing",
+        Kind::TooLarge => b"a number beyond 64 bits",
+        Kind::TooMany => b"too many numbers",
+        Kind::NoCount => b"d and m are counts",
+    }
+}
+
+// The line that says it.
 fn put_mistake(out: &mut [u8], at: usize, line: u64, stop: Kind) -> usize
     requires { at + mistake_room ≤ length out.old }
     ensures puts { Puts (mistake_text line stop) out.old at out.new result }
     ensures upper_bound { result ≤ at + mistake_room }
 {
-    match stop {
-        Kind::Number => cli_answers::put_error(out, at, line, b"something that is no number"),
-        Kind::Semicolon => cli_answers::put_error(out, at, line, b"a part too many"),
-        Kind::End => cli_answers::put_error(out, at, line, b"a part is missing"),
-        Kind::Unexpected => cli_answers::put_error(out, at, line, b"something that is no number"),
-        Kind::TooLarge => cli_answers::put_error(out, at, line, b"a number beyond 64 bits"),
-        Kind::TooMany => cli_answers::put_error(out, at, line, b"too many numbers"),
-        Kind::NoCount => cli_answers::put_error(out, at, line, b"d and m are counts"),
-    }
+    cli_answers::put_error(out, at, line, what_is_wrong(stop))
 }
 
 // The reduction of the numbers.
@@ -58,7 +67,7 @@ fn put_reduction(out: &mut [u8], at: usize, d: usize, m: usize, numbers: &[i64])
     ensures puts { Puts (reduced_of d m numbers.now) out.old at out.new result }
     ensures upper_bound { result ≤ at + reduction_room }
 {
-    cli_answers::put_reduction(out, at, engine::reduce(numbers, d, m), d, m)
+    cli_answers::put_reduction(out, at, &engine::reduce(numbers, d, m), d, m)
 }
 
 // Answers the second part of a reduction, the numbers, vector by vector.
@@ -69,78 +78,88 @@ fn reduce_with(
     d: usize,
     m: usize,
     s: &[u8],
-    numbers: &mut [i64],
+    numbers: &mut Listed,
 ) -> usize
-    requires reduction_room_in_bounds { at + reduction_room ≤ length out.old }
-    requires numbers_len { length numbers.old ≡ most_listed }
+    requires { at + reduction_room ≤ length out.old }
     ensures puts { Puts (reduce_with line d m s.now) out.old at out.new result }
     ensures upper_bound { result ≤ at + reduction_room }
 {
     let part = text_parts::read_part(s, numbers);
-    let stop = part.stop;
-    if !text_parts::is_end(stop) {
-        return put_mistake(out, at, line, stop);
+    if part.stop != Kind::End {
+        return put_mistake(out, at, line, part.stop);
     }
-    let n = part.count;
-    put_reduction(out, at, d, m, &numbers[..n])
+    put_reduction(out, at, d, m, &numbers[..part.count])
 }
 
 // Answers `d m ; numbers`.
-fn reduce(out: &mut [u8], at: usize, line: u64, s: &[u8], numbers: &mut [i64]) -> usize
-    requires reduction_room_in_bounds { at + reduction_room ≤ length out.old }
-    requires numbers_len { length numbers.old ≡ most_listed }
+fn reduce(out: &mut [u8], at: usize, line: u64, s: &[u8], numbers: &mut Listed) -> usize
+    requires { at + reduction_room ≤ length out.old }
     ensures puts { Puts (reduce_reply line s.now) out.old at out.new result }
     ensures upper_bound { result ≤ at + reduction_room }
 {
     let counts = text_parts::first_part::read_counts(s);
-    let stop = counts.stop;
-    if !text_parts::is_semicolon(stop) {
-        return put_mistake(out, at, line, stop);
+    if counts.stop != Kind::Semicolon {
+        return put_mistake(out, at, line, counts.stop);
     }
-    let from = counts.length;
-    reduce_with(out, at, line, counts.d, counts.m, &s[from..], numbers)
+    reduce_with(
+        out,
+        at,
+        line,
+        counts.d,
+        counts.m,
+        &s[counts.length..],
+        numbers,
+    )
 }
 
-// The reduced vectors, unless the search is refused.
-fn put_basis(
-    out: &mut [u8],
-    at: usize,
-    basis: bool,
-    refusal: u64,
-    d: usize,
-    m: usize,
-    numbers: &[i64],
-) -> usize
-    requires { at + lines_room ≤ length out.old }
-    ensures puts { Puts (basis_of basis refusal d m numbers.now) out.old at out.new result }
+// The reduced vectors.
+fn put_basis(out: &mut [u8], at: usize, d: usize, m: usize, numbers: &[i64]) -> usize
+    requires in_bounds { at + lines_room ≤ length out.old }
+    requires accepted { (reduction_of (record { numbers = numbers.now; d = d; m = m; target = [] })).refusal ≡ 0 }
+    ensures puts { Puts (basis_text d m (reduction_of (record { numbers = numbers.now; d = d; m = m; target = [] }))) out.old at out.new result }
     ensures upper_bound { result ≤ at + lines_room }
 {
-    if !basis {
-        return at;
+    match engine::reduce(numbers, d, m) {
+        Ok(a) => cli_answers::put_basis(out, at, &a, d, m),
+        Err(_) => at,
     }
-    if refusal != 0 {
-        return at;
-    }
-    cli_answers::put_basis(out, at, engine::reduce(numbers, d, m), d, m)
 }
 
 // The vector nearest to the target.
 fn put_nearest(
     out: &mut [u8],
     at: usize,
-    basis: bool,
     d: usize,
     m: usize,
     numbers: &[i64],
     target: &[i64],
 ) -> usize
     requires { at + target_room ≤ length out.old }
-    ensures told { Told (found_on basis d m numbers.now target.now) out.old at out.new result }
+    ensures told { Told (found_on false d m numbers.now target.now) out.old at out.new result }
+    ensures upper_bound { result ≤ at + target_room }
+{
+    cli_answers::put_nearest(out, at, &engine::nearest(numbers, d, m, target), d, m)
+}
+
+// The same behind the reduced vectors, unless the search is refused.
+fn put_on_basis(
+    out: &mut [u8],
+    at: usize,
+    d: usize,
+    m: usize,
+    numbers: &[i64],
+    target: &[i64],
+) -> usize
+    requires { at + target_room ≤ length out.old }
+    ensures told { Told (found_on true d m numbers.now target.now) out.old at out.new result }
     ensures upper_bound { result ≤ at + target_room }
 {
     let a = engine::nearest(numbers, d, m, target);
-    let k = put_basis(out, at, basis, a.refusal, d, m, numbers);
-    cli_answers::put_nearest(out, k, a, d, m)
+    if a.is_err() {
+        return cli_answers::put_nearest(out, at, &a, d, m);
+    }
+    let k = put_basis(out, at, d, m, numbers);
+    cli_answers::put_nearest(out, k, &a, d, m)
 }
 
 // Whether the target is in the lattice.
@@ -174,8 +193,8 @@ fn put_wanted(
     ensures upper_bound { result ≤ at + target_room }
 {
     match wanted {
-        Wanted::Vector => put_nearest(out, at, false, d, m, numbers, target),
-        Wanted::VectorOnBasis => put_nearest(out, at, true, d, m, numbers, target),
+        Wanted::Vector => put_nearest(out, at, d, m, numbers, target),
+        Wanted::VectorOnBasis => put_on_basis(out, at, d, m, numbers, target),
         Wanted::Membership => put_member(out, at, d, m, numbers, target),
     }
 }
@@ -190,20 +209,17 @@ fn with_target(
     m: usize,
     numbers: &[i64],
     s: &[u8],
-    target: &mut [i64],
+    target: &mut Listed,
 ) -> usize
-    requires target_room_in_bounds { at + target_room ≤ length out.old }
-    requires target_len { length target.old ≡ most_listed }
+    requires { at + target_room ≤ length out.old }
     ensures told { Told (with_target wanted line d m numbers.now s.now) out.old at out.new result }
     ensures upper_bound { result ≤ at + target_room }
 {
     let part = text_parts::read_part(s, target);
-    let stop = part.stop;
-    if !text_parts::is_end(stop) {
-        return put_mistake(out, at, line, stop);
+    if part.stop != Kind::End {
+        return put_mistake(out, at, line, part.stop);
     }
-    let n = part.count;
-    put_wanted(out, at, wanted, d, m, numbers, &target[..n])
+    put_wanted(out, at, wanted, d, m, numbers, &target[..part.count])
 }
 
 // Answers the parts after the first of such a request, vectors and target.
@@ -215,22 +231,17 @@ fn with_vectors(
     d: usize,
     m: usize,
     s: &[u8],
-    numbers: &mut [i64],
-    target: &mut [i64],
+    numbers: &mut Listed,
+    target: &mut Listed,
 ) -> usize
-    requires target_room_in_bounds { at + target_room ≤ length out.old }
-    requires numbers_len { length numbers.old ≡ most_listed }
-    requires target_len { length target.old ≡ most_listed }
+    requires { at + target_room ≤ length out.old }
     ensures told { Told (with_vectors wanted line d m s.now) out.old at out.new result }
     ensures upper_bound { result ≤ at + target_room }
 {
     let part = text_parts::read_part(s, numbers);
-    let stop = part.stop;
-    if !text_parts::is_semicolon(stop) {
-        return put_mistake(out, at, line, stop);
+    if part.stop != Kind::Semicolon {
+        return put_mistake(out, at, line, part.stop);
     }
-    let n = part.count;
-    let from = part.length;
     with_target(
         out,
         at,
@@ -238,8 +249,8 @@ fn with_vectors(
         line,
         d,
         m,
-        &numbers[..n],
-        &s[from..],
+        &numbers[..part.count],
+        &s[part.length..],
         target,
     )
 }
@@ -251,21 +262,17 @@ fn about_target(
     wanted: Wanted,
     line: u64,
     s: &[u8],
-    numbers: &mut [i64],
-    target: &mut [i64],
+    numbers: &mut Listed,
+    target: &mut Listed,
 ) -> usize
-    requires target_room_in_bounds { at + target_room ≤ length out.old }
-    requires numbers_len { length numbers.old ≡ most_listed }
-    requires target_len { length target.old ≡ most_listed }
+    requires { at + target_room ≤ length out.old }
     ensures told { Told (target_reply wanted line s.now) out.old at out.new result }
     ensures upper_bound { result ≤ at + target_room }
 {
     let counts = text_parts::first_part::read_counts(s);
-    let stop = counts.stop;
-    if !text_parts::is_semicolon(stop) {
-        return put_mistake(out, at, line, stop);
+    if counts.stop != Kind::Semicolon {
+        return put_mistake(out, at, line, counts.stop);
     }
-    let from = counts.length;
     with_vectors(
         out,
         at,
@@ -273,7 +280,7 @@ fn about_target(
         line,
         counts.d,
         counts.m,
-        &s[from..],
+        &s[counts.length..],
         numbers,
         target,
     )
@@ -286,22 +293,16 @@ fn put_reply(
     command: Command,
     line: u64,
     s: &[u8],
-    numbers: &mut [i64],
-    target: &mut [i64],
+    numbers: &mut Listed,
+    target: &mut Listed,
 ) -> usize
-    requires reduction_room_in_bounds { at + reduction_room ≤ length out.old }
-    requires numbers_len { length numbers.old ≡ most_listed }
-    requires target_len { length target.old ≡ most_listed }
+    requires { at + reduction_room ≤ length out.old }
     ensures told { Told (reply command line s.now) out.old at out.new result }
     ensures upper_bound { result ≤ at + reduction_room }
 {
     match command {
         Command::Reduce => reduce(out, at, line, s, numbers),
-        Command::Nearest => about_target(out, at, Wanted::Vector, line, s, numbers, target),
-        Command::NearestOnBasis => {
-            about_target(out, at, Wanted::VectorOnBasis, line, s, numbers, target)
-        }
-        Command::Member => about_target(out, at, Wanted::Membership, line, s, numbers, target),
+        Command::About(wanted) => about_target(out, at, wanted, line, s, numbers, target),
     }
 }
 
@@ -324,14 +325,12 @@ pub fn answer(
     numbered: bool,
     s: &[u8],
     line: u64,
-    numbers: &mut [i64],
-    target: &mut [i64],
+    numbers: &mut Listed,
+    target: &mut Listed,
     out: &mut [u8],
     at: usize,
 ) -> usize
-    requires answer_room_in_bounds { at + answer_room ≤ length out.old }
-    requires numbers_len { length numbers.old ≡ most_listed }
-    requires target_len { length target.old ≡ most_listed }
+    requires { at + answer_room ≤ length out.old }
     ensures told { Told (answer command numbered line s.now) out.old at out.new result }
     ensures upper_bound { result ≤ at + answer_room }
 {

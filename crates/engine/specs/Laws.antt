@@ -5,6 +5,6 @@ pub mod Few
 pub mod Over
 pub mod Answer
 pub mod Tenths
-pub mod Named
+pub mod Nearest
 pub mod Membership
 pub mod Members

@@ -7,26 +7,24 @@ use cli_output::Say;
 // Writes a name, and whether the first n bytes of an output are these.
 pub(crate) fn compared(rt: &(impl Print + Say), name: &[u8], bytes: &[u8], out: &[u8], n: usize) {
     let _ = rt.write_all(name);
-    if n <= out.len() {
-        if bytes == &out[..n] {
-            let _ = rt.write_all(b": the same\n");
-            return;
-        }
-    }
-    let _ = rt.write_all(b": others\n");
+    let word = match out.get(..n) {
+        Some(first) if first == bytes => b": the same\n".as_slice(),
+        _ => b": others\n",
+    };
+    let _ = rt.write_all(word);
 }
 
 // Folds a folded catalogue.
 fn again(rt: &(impl Print + Say), bytes: &[u8]) {
     let mut out = [170u8; 96];
     let w = catalogue::fold(bytes, &mut out);
-    compared(rt, b"folded again", bytes, &out, w.length);
+    compared(rt, b"folded again", bytes, &out, w.unwrap_or(0));
 }
 
 // The same with the first n bytes.
 fn again_first(rt: &(impl Print + Say), bytes: &[u8], n: usize) {
-    if n <= bytes.len() {
-        again(rt, &bytes[..n]);
+    if let Some(first) = bytes.get(..n) {
+        again(rt, first);
     }
 }
 
@@ -34,14 +32,14 @@ fn again_first(rt: &(impl Print + Say), bytes: &[u8], n: usize) {
 fn folded_again(rt: &(impl Print + Say), bytes: &[u8]) {
     let mut out = [170u8; 96];
     let w = catalogue::fold(bytes, &mut out);
-    again_first(rt, &out, w.length);
+    again_first(rt, &out, w.unwrap_or(0));
 }
 
 // Writes a catalogue out unfolded.
 fn written_out(rt: &(impl Print + Say), bytes: &[u8]) {
     let mut out = [170u8; 96];
     let w = catalogue::write_out(bytes, &mut out);
-    compared(rt, b"written out", bytes, &out, w.length);
+    compared(rt, b"written out", bytes, &out, w.unwrap_or(0));
 }
 
 // The lookups of 1 to 5, of which 17 says that there is none.

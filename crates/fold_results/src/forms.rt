@@ -1,12 +1,12 @@
 // The new form: what folding writes of it, and whether fold, lookups and listing are those of the old form.
 use super::drafts::{all_found, compared};
-use super::{field, folded, found, listed};
+use super::{folded, found, listed, outcome};
 use cli_output::Say;
 
 // Moves the first n bytes to the new form.
 fn moved_first(bytes: &[u8], n: usize, out: &mut [u8]) {
-    if n <= bytes.len() {
-        catalogue::new_form(&bytes[..n], out);
+    if let Some(first) = bytes.get(..n) {
+        let _ = catalogue::new_form(first, out);
     }
 }
 
@@ -15,23 +15,20 @@ fn fold_moved(rt: &(impl Print + Say), old: &[u8], new: &[u8]) {
     let mut out = [170u8; 4104];
     let w = catalogue::fold(old, &mut out);
     let mut moved = [170u8; 4104];
-    moved_first(&out, w.length, &mut moved);
+    moved_first(&out, w.unwrap_or(0), &mut moved);
     let mut own = [170u8; 4104];
     let v = catalogue::fold(new, &mut own);
     let _ = rt.write_all(b"with room");
-    field(rt, v.refusal);
-    field(rt, v.place as u64);
-    field(rt, v.length as u64);
-    cli_output::newline(rt);
+    outcome(rt, v);
     compared(rt, b"the moved fold", &moved, &own, 4104);
 }
 
 // Whether both have one listing.
 fn one_listing(rt: &(impl Print + Say), old: &[u8], new: &[u8]) {
     let mut text = [0u8; catalogue_listing::MOST_BYTES];
-    catalogue_listing::list(old, &mut text);
+    let _ = catalogue_listing::list(old, &mut text);
     let mut other = [0u8; catalogue_listing::MOST_BYTES];
-    catalogue_listing::list(new, &mut other);
+    let _ = catalogue_listing::list(new, &mut other);
     compared(
         rt,
         b"the listing",

@@ -2,6 +2,7 @@
 #![tactic(auto)]
 
 use cli_output::Say;
+use refusals::Refused;
 
 mod drafts;
 mod forms;
@@ -19,9 +20,21 @@ fn byte(rt: &(impl Print + Say), b: u8) {
 
 // Writes bytes as numbers.
 fn show(rt: &(impl Print + Say), bytes: &[u8]) {
-    for i in 0..bytes.len() {
-        byte(rt, bytes[i]);
+    for b in bytes {
+        byte(rt, *b);
     }
+    cli_output::newline(rt);
+}
+
+// Writes the refusal and its place, 0 where nothing is refused, and how much came, and ends the line.
+fn outcome(rt: &(impl Print + Say), r: Result<usize, Refused>) {
+    let (number, place, n) = match r {
+        Ok(n) => (0, 0, n),
+        Err(r) => (r.refusal.number(), r.place, 0),
+    };
+    field(rt, number);
+    field(rt, place as u64);
+    field(rt, n as u64);
     cli_output::newline(rt);
 }
 
@@ -31,10 +44,7 @@ fn folded_to(rt: &(impl Print + Say), name: &[u8], bytes: &[u8], room: &mut [u8]
     cli_output::newline(rt);
     let w = catalogue::fold(bytes, room);
     let _ = rt.write_all(b"fold");
-    field(rt, w.refusal);
-    field(rt, w.place as u64);
-    field(rt, w.length as u64);
-    cli_output::newline(rt);
+    outcome(rt, w);
     show(rt, room);
 }
 
@@ -45,28 +55,28 @@ fn folded(rt: &(impl Print + Say), name: &[u8], bytes: &[u8]) {
 
 // Writes a number, and what its lookup gives: refusal, place and standing number.
 fn found(rt: &(impl Print + Say), bytes: &[u8], number: u32) {
-    let f = catalogue::lookup(bytes, number);
     let _ = rt.write_all(b"lookup");
     field(rt, number as u64);
-    field(rt, f.refusal);
-    field(rt, f.place as u64);
-    field(rt, f.standing as u64);
-    cli_output::newline(rt);
+    outcome(
+        rt,
+        catalogue::lookup(bytes, number).map(|standing| standing as usize),
+    );
 }
 
 // Writes the listing, or the catalogue's refusal.
 fn listed(rt: &(impl Print + Say), bytes: &[u8]) {
     let mut text = [0u8; catalogue_listing::MOST_BYTES];
-    let w = catalogue_listing::list(bytes, &mut text);
-    if w.refusal != 0 {
-        let _ = rt.write_all(b"refused");
-        field(rt, w.refusal);
-        field(rt, w.place as u64);
-        cli_output::newline(rt);
-        return;
+    match catalogue_listing::list(bytes, &mut text) {
+        Ok(n) => {
+            let _ = rt.write_all(&text[..n]);
+        }
+        Err(r) => {
+            let _ = rt.write_all(b"refused");
+            field(rt, r.refusal.number());
+            field(rt, r.place as u64);
+            cli_output::newline(rt);
+        }
     }
-    let n = w.length;
-    let _ = rt.write_all(&text[..n]);
 }
 
 // Document 01's catalogue: a see word forward to a folded entry, and one on a folded entry.
@@ -236,20 +246,14 @@ fn largest(rt: &(impl Print + Say), name: &[u8], count: u32) {
     let mut text = [0u8; catalogue_listing::MOST_BYTES];
     let w = catalogue_listing::list(&bytes[..k], &mut text);
     let _ = rt.write_all(b"list");
-    field(rt, w.refusal);
-    field(rt, w.place as u64);
-    field(rt, w.length as u64);
-    cli_output::newline(rt);
+    outcome(rt, w);
 }
 
 // Writes what listing to a lent output says, and the output afterwards.
 fn lent(rt: &(impl Print + Say), bytes: &[u8], room: &mut [u8]) {
     let w = catalogue_listing::list(bytes, room);
     let _ = rt.write_all(b"list");
-    field(rt, w.refusal);
-    field(rt, w.place as u64);
-    field(rt, w.length as u64);
-    cli_output::newline(rt);
+    outcome(rt, w);
     show(rt, room);
 }
 

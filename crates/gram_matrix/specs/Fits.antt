@@ -1,12 +1,8 @@
 -- What fits in 64 bits where the sizes of two numbers together do.
-use Rattle.std.specs.Prelude.{◌≡◌, List, [], ◌∷◌, ℕ, zero, suc, ◌+◌, ◌*◌, ◌≤◌, ℤ, pos, nat_abs, ◌+ℤ◌, ◌-ℤ◌, ◌*ℤ◌, set, take}
-use Rattle.std.proofs.Common.{ap, ◌∙◌, arith, SFits}
-use Rattle.std.proofs.lemmas.List.{set-get_or}
+use Rattle.std.specs.Prelude.{◌+◌, ◌≤◌, ℤ, nat_abs, ◌+ℤ◌, ◌-ℤ◌}
+use Rattle.std.proofs.Common.{arith, SFits}
 use Rattle.std.specs.Int.{w64}
-use Rattle.integers.specs.Identity.{by_ring, reads}
-use Rattle.integers.specs.Size.{Within, size-add, size-sub, within-add, within-le, fits-within}
-use Rattle.lattices.specs.Vector.{nth, dot}
-use Rattle.row_operations.specs.Dot.{dot-suc, DotTurn}
+use Rattle.integers.specs.Size.{size-add, size-sub, fits-within}
 use Rattle.row_operations.specs.Minus.{room}
 
 pub record Room (a p : ℤ) : Type 0 where
@@ -19,23 +15,3 @@ fits z h = fits-within {B = room} (record { within = h }) tt
 
 pub room_fits : (a p : ℤ) → nat_abs a + nat_abs p ≤ room → Room a p
 room_fits a p h = record { right = fits p (omega arith); sum = fits (a +ℤ p) (omega (arith, size-add a p)); difference = fits (a -ℤ p) (omega (arith, size-sub a p)) }
-
--- a multiple of 0 changes nothing
-pub lose_nothing : (a : List ℤ) (i : ℕ) (q : ℤ) → set a i (nth a i -ℤ q *ℤ pos 0) ≡ a
-lose_nothing a i q = ap (set a i) (nothing (nth a i)) ∙ set-get_or a i (pos 0)
-  where
-    nothing : (x : ℤ) → x -ℤ q *ℤ pos 0 ≡ x
-    nothing x = by_ring (x ∷ q ∷ []) (search reads) (search reads) tt
-
--- the sum of the first i products
-pub sum-within : {P : ℕ} (i : ℕ) (a b : List ℤ) → ((k : ℕ) → Within P (nth a k *ℤ nth b k)) → Within (i * P) (dot (take i a) (take i b))
-unfolding dot
-sum-within zero a b f = record { within = omega arith }
-sum-within {P} (suc i) a b f = rw dot-suc (within-le (omega arith) (within-add (sum-within i a b f) (f i)))
-
--- what fits in turn i
-pub turn_at : (a b : List ℤ) → ((k : ℕ) → Within 3000000000000000000 (nth a k *ℤ nth b k)) → (i : ℕ) → i ≤ 2 → SFits w64 (nth a i) → SFits w64 (nth b i) → DotTurn a b i
-turn_at a b f i h p q = record { left = p; right = q; product = fits-within (f i) tt; sum = fits-within sum tt; next = fits-within (within-add sum (f i)) tt }
-  where
-    sum : Within (2 * 3000000000000000000) (dot (take i a) (take i b))
-    sum = within-le (omega arith) (sum-within i a b f)

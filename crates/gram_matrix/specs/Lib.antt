@@ -6,7 +6,6 @@ pub mod ByRow
 pub mod Columns
 pub mod Fits
 pub mod Lose
-pub mod Exchange
 pub mod Cross
 pub mod Passed
 pub mod Formed

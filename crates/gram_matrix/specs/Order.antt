@@ -1,13 +1,13 @@
 -- Rows ordered by length in place: by insertion, where neighbours change places.
-use Rattle.std.specs.Prelude.{◌≡◌, Bool, true, false, ℤ, pos, length, get_or, take, drop, set}
+use Rattle.std.specs.List.{swap}
+use Rattle.std.specs.Prelude.{◌≡◌, Bool, true, false, length, get_or, take, drop, set}
 use Rattle.std.proofs.Math.Path.{refl, ap}
-use Rattle.std.proofs.Common.{sym, ap₂, ◌∙◌, arith, length-set, length-take-le}
-use mathlib.Core.List.{List, [], ◌∷◌, ◌++◌, map}
+use Rattle.std.proofs.Common.{sym, ◌∙◌, arith, add-one, length-take-le}
+use mathlib.Core.List.{List, [], ◌∷◌, ◌++◌}
 use Prim.Native.Nat.{ℕ, zero, suc, ◌+◌, ◌-◌, ◌≤◌, ◌<◌}
 use Rattle.std.specs.Int.Signed.{lt_z}
-use Rattle.lattices.specs.Vector.{N, nth}
+use Rattle.lattices.specs.Vector.{N}
 use Rattle.lattices.specs.Greedy.{Row, insert, order, insert_by, order_by}
-use Rattle.greedy_reduction.specs.Start.{Coordinates}
 
 -- ---- neighbours that change places
 
@@ -25,26 +25,10 @@ module _ {A : Type 0} where
   exchanged-set d zero (p ∷ q ∷ l) h = refl
   exchanged-set d (suc j) (p ∷ l) h = ap {B = List A} (λ k. p ∷ k) (exchanged-set d j l (omega arith))
 
--- rows stay as wide as they are
-pub exchanged-wide : (w j : ℕ) (t : List (List ℤ)) → Coordinates w t → Coordinates w (exchanged j t)
-unfolding exchanged
-exchanged-wide w j [] c = tt
-exchanged-wide w zero (p ∷ []) c = c
-exchanged-wide w zero (p ∷ q ∷ t) c = (c.1.0, (c.0, c.1.1))
-exchanged-wide w (suc j) (p ∷ t) c = (c.0, exchanged-wide w j t c.1)
-
--- two entries of a row stored crosswise
-abbrev pub swapped : ℕ → List ℤ → List ℤ
-swapped j r = set (set r j (nth r (suc j))) (suc j) (nth r j)
-
-pub swapped-wide : (w j : ℕ) (t : List (List ℤ)) → Coordinates w t → Coordinates w (map (swapped j) t)
-swapped-wide w j [] c = tt
-swapped-wide w j (r ∷ t) c = (length-set (set r j (nth r (suc j))) (suc j) (nth r j) ∙ length-set r j (nth r (suc j)) ∙ c.0, swapped-wide w j t c.1)
-
--- in rows that are long enough this is the exchange
-pub map_swapped : (j n : ℕ) (t : List (List ℤ)) → suc j < n → Coordinates n t → map (swapped j) t ≡ map (exchanged j) t
-map_swapped j n [] h c = refl
-map_swapped j n (r ∷ t) h c = ap₂ ◌∷◌ (exchanged-set (pos 0) j r (omega (arith, c.0))) (map_swapped j n t h c.1)
+-- as the library has it
+pub exchanged-swap : {A : Type 0} (j : ℕ) (l : List A) → suc j < length l → swap l j (j + 1) ≡ exchanged j l
+exchanged-swap j [] h = absurd (omega arith)
+exchanged-swap j (d ∷ l) h = rw add-one (exchanged-set d j (d ∷ l) h)
 
 -- ---- the insertion by exchanges
 

@@ -11,13 +11,10 @@ use Rattle.integers.specs.ListLaws.{same, nth-⊕, nth-⊙, length-⊕, length-�
 use Rattle.lattices.specs.Vector.{Vec, nth, dot, comb, ◌⊕◌, ◌⊙◌, ◌⊖◌}
 use Rattle.lattices.specs.Laws.Vector.{dot-⊙ʳ, dot_comm, dot-nil, against}
 use Rattle.lattices.specs.Greedy.{Row, vectors}
-use Rattle.lattices.specs.Refusal.{most_coordinates}
-use Rattle.greedy_reduction.specs.Start.{Coordinates, comb-places, minus-places}
 use Rattle.row_operations.specs.Rows.{gained, transposed}
 use Rattle.gram_matrix.specs.Gram.{gram_of, gram-losing, rows-losing, losing, losing_entry, map-set, nth-against}
-use Rattle.gram_matrix.specs.Tied.{Kind, Tied, scaled, bit, scaled-row, tied-length, tied-length-gram}
+use Rattle.gram_matrix.specs.Tied.{Kind, Tied, scaled, bit, scaled-row, tied-length-gram}
 use Rattle.gram_matrix.specs.Columns.{gained_columns, transposed-gained}
-use Rattle.gram_matrix.specs.Lose.{take-wide, row-wide}
 use Rattle.gram_matrix.specs.Cross.{crossed, crossed-is}
 
 -- ---- every entry of the Gram matrix, beyond the last too
@@ -97,16 +94,6 @@ tied-left {K} {rows} {g} t k h x j =
     count : k < length (vectors rows)
     count = omega (arith, length-map rows (λ r. r.vector))
 
--- ---- rows stay as wide as they are
-set-wide : (w k : ℕ) (r : Vec) (t : List Vec) → Coordinates w t → length r ≡ w → Coordinates w (set t k r)
-set-wide w k r [] c e = tt
-set-wide w zero r (p ∷ t) c e = (e, c.1)
-set-wide w (suc k) r (p ∷ t) c e = (c.0, set-wide w k r t c.1 e)
-
-losing-wide : (w : ℕ) (x : List ℤ) (t : List Vec) (k : ℕ) → k < length t → Coordinates w t → Coordinates w (losing x t k)
-losing-wide w x t k h c = set-wide w k (get_or t k [] ⊖ comb x (take k t)) t c
-    (minus-places w (get_or t k []) (comb x (take k t)) (row-wide w k t c h) (comb-places w x (take k t) (take-wide w k t c)))
-
 -- ---- the pass: after the row operations the tables belong to rows that lost and gained alike
 pub tied-passed : {K : Kind} {rows : List Row} {g b u v : List (List ℤ)} → Tied K rows g b u v → (k : ℕ) → k < length rows → (x : List ℤ) (after : List Row)
     → vectors after ≡ losing x (vectors rows) k → map (λ r. r.u) after ≡ losing x (map (λ r. r.u) rows) k → map (λ r. r.v) after ≡ gained x (get_or (map (λ r. r.v) rows) k []) (map (λ r. r.v) rows)
@@ -122,8 +109,6 @@ tied-passed {K} {rows} {g} {b} {u} {v} t k h x after p q r = record {
   vectors = ap (scaled (bit K.vectors)) p ∙ sym (losing-⊙ (bit K.vectors) x (vectors rows) k) ∙ ap (λ l. losing x l k) t.vectors;
   us = q ∙ ap (λ l. losing x l k) t.us;
   vs = ap transposed r ∙ transposed-gained x k (map (λ r. r.v) rows) ∙ ap (gained_columns x k) t.vs;
-  vectors-wide = losing-wide most_coordinates x b k (omega (arith, ap length t.vectors, length-map (vectors rows) (λ r. bit K.vectors ⊙ r), length-map rows (λ r. r.vector))) t.vectors-wide;
-  us-wide = losing-wide 4 x u k (omega (arith, tied-length t)) t.us-wide;
 }
   where
     long : k < length g

@@ -1,5 +1,5 @@
 -- Which rows the tables belong to: g is their Gram matrix up to a positive factor, b has their vectors or zeros, u their rows of U, v the
--- rows of V (whose columns the rows have); the rows of b and u are as wide as the tables are. Order by length works on the tables alone.
+-- rows of V (whose columns the rows have). Order by length works on the tables alone.
 use Rattle.std.specs.Prelude.{◌≡◌, refl, Bool, true, false, List, [], ◌∷◌, map, ℕ, zero, suc, ◌+◌, ◌-◌, ◌<◌, ◌≤◌, ℤ, pos, ◌*ℤ◌, ◌<ℤ◌, length, get_or}
 use Rattle.std.proofs.Common.{sym, ap, ap₂, ◌∙◌, subst, ⊎_elim, arith}
 use Rattle.std.proofs.Math.Path.{fun_ext}
@@ -11,18 +11,10 @@ use Rattle.integers.specs.AllLaws.{get_d_map}
 use Rattle.integers.specs.ListLaws.{nth-⊙, length-⊙}
 use Rattle.lattices.specs.Vector.{N, nth, ◌⊙◌}
 use Rattle.lattices.specs.Greedy.{Row, vectors}
-use Rattle.lattices.specs.Refusal.{most_coordinates}
 use Rattle.greedy_reduction.specs.Start.{Coordinates}
 use Rattle.row_operations.specs.Rows.{transposed}
-use Rattle.gram_matrix.specs.Order.{exchanged, exchanged-wide, swapped, map_swapped, insert_at, insert_at-suc, longer, blank}
+use Rattle.gram_matrix.specs.Order.{exchanged, insert_at, insert_at-suc, longer, blank}
 use Rattle.gram_matrix.specs.Gram.{gram_of, gram-length, gram-exchanged, gram-diagonal, map-exchanged, coordinates-against}
-
--- four tables of four rows
-pub record Held (g b u v : List (List ℤ)) : Type 0 where
-  pub gram : length g ≡ 4
-  pub vectors : length b ≡ 4
-  pub us : length u ≡ 4
-  pub vs : length v ≡ 4
 
 -- the factor of the Gram matrix, and whether the vectors stand in their table; where they do not, it holds zeros
 pub record Kind : Type 0 where
@@ -46,8 +38,6 @@ pub record Tied (K : Kind) (rows : List Row) (g b u v : List (List ℤ)) : Type 
   pub vectors : scaled (bit K.vectors) (vectors rows) ≡ b
   pub us : map (λ r. r.u) rows ≡ u
   pub vs : transposed (map (λ r. r.v) rows) ≡ v
-  pub vectors-wide : Coordinates most_coordinates b
-  pub us-wide : Coordinates 4 u
 
 -- ---- rows that change places
 exchanged-⊙ : (F : ℤ) (j : ℕ) (r : List ℤ) → exchanged j (F ⊙ r) ≡ F ⊙ exchanged j r
@@ -79,28 +69,17 @@ pub tied-square : {K : Kind} {rows : List Row} {g b u v : List (List ℤ)} → T
 tied-square {K} {rows} {g} t = coordinates-⊙ K.factor (length rows) g
     (subst (Coordinates (length rows)) t.gram (subst (λ n. Coordinates n (gram_of (vectors rows))) (length-map rows (λ r. r.vector)) (coordinates-against (vectors rows) (vectors rows))))
 
-pub tied-wide : {K : Kind} {rows : List Row} {g b u v : List (List ℤ)} → Tied K rows g b u v → Coordinates (length rows) v
-unfolding transposed
-tied-wide {rows = rows} t = subst (Coordinates (length rows)) t.vs (column 0, (column 1, (column 2, (column 3, tt))))
-  where
-    column : (i : ℕ) → length (map (λ r. nth r i) (map (λ r. r.v) rows)) ≡ length rows
-    column i = length-map (map (λ r. r.v) rows) (λ r. nth r i) ∙ length-map rows (λ r. r.v)
-
-pub tied-exchanged : {K : Kind} {rows : List Row} {g b u v : List (List ℤ)} (j : ℕ) → suc j < length rows → Tied K rows g b u v
-    → Tied K (exchanged j rows) (exchanged j (map (swapped j) g)) (exchanged j b) (exchanged j u) (map (swapped j) v)
-tied-exchanged {K} {rows} {g} {b} {u} {v} j h t = record {
+pub tied-exchanged : {K : Kind} {rows : List Row} {g b u v : List (List ℤ)} (j : ℕ) → Tied K rows g b u v
+    → Tied K (exchanged j rows) (exchanged j (map (exchanged j) g)) (exchanged j b) (exchanged j u) (map (exchanged j) v)
+tied-exchanged {K} {rows} {g} {b} {u} {v} j t = record {
   positive = t.positive;
   gram = ap gram_of (map-exchanged (λ r. r.vector) j rows) ∙ gram-exchanged j (vectors rows)
       ∙ ap (λ l. exchanged j (map (exchanged j) l)) t.gram
       ∙ ap (exchanged j) (map-map (exchanged j) (λ r. K.factor ⊙ r) g ∙ ap (λ f. map f g) (fun_ext (exchanged-⊙ K.factor j)) ∙ sym (map-map (λ r. K.factor ⊙ r) (exchanged j) g))
-      ∙ sym (map-exchanged (λ r. K.factor ⊙ r) j (map (exchanged j) g))
-      ∙ ap (λ l. map (λ r. K.factor ⊙ r) (exchanged j l)) (sym (map_swapped j (length rows) g h (tied-square t)));
+      ∙ sym (map-exchanged (λ r. K.factor ⊙ r) j (map (exchanged j) g));
   vectors = ap (scaled (bit K.vectors)) (map-exchanged (λ r. r.vector) j rows) ∙ map-exchanged (λ r. bit K.vectors ⊙ r) j (vectors rows) ∙ ap (exchanged j) t.vectors;
   us = map-exchanged (λ r. r.u) j rows ∙ ap (exchanged j) t.us;
-  vs = ap transposed (map-exchanged (λ r. r.v) j rows) ∙ transposed-exchanged j (map (λ r. r.v) rows) ∙ ap (map (exchanged j)) t.vs
-      ∙ sym (map_swapped j (length rows) v h (tied-wide t));
-  vectors-wide = exchanged-wide most_coordinates j b t.vectors-wide;
-  us-wide = exchanged-wide 4 j u t.us-wide;
+  vs = ap transposed (map-exchanged (λ r. r.v) j rows) ∙ transposed-exchanged j (map (λ r. r.v) rows) ∙ ap (map (exchanged j)) t.vs;
 }
 
 -- ---- the diagonal holds the squared lengths, up to the factor

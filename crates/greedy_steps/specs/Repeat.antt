@@ -8,7 +8,7 @@ use Rattle.integers.specs.Identity.{by_ring, reads}
 use Rattle.lattices.specs.Vector.{N, nth}
 use Rattle.lattices.specs.Greedy.{Row, shorter, total, greedy_by}
 use Rattle.gram_matrix.specs.Tied.{Kind, Tied, tied-diagonal, tied-shorter, shorter_in}
-use Rattle.gram_matrix.specs.Work.{work_of, vectors_in, table_in, vectors-back, table-back}
+use Rattle.gram_matrix.specs.Work.{Belongs}
 use Rattle.gram_matrix.specs.declared.work.Work.{Work}
 use Rattle.greedy_steps.specs.State.{blank, order_rows, pass_rows, greedy_rows, greedy_passes}
 use Rattle.greedy_steps.specs.Fine.{Fine, fine-fewer, fine-order}
@@ -149,17 +149,13 @@ repeated {n = n} {k = k} s t a c h = record {
 
 -- what a reduction hands back
 pub record Outcome (K : Kind) (n before : ℕ) (rows : List Row) (g : List (List ℤ)) (w : Work) : Type 0 where
-  pub tied : Tied K (greedy_rows n rows) g (vectors_in w.vectors) (table_in w.u) (table_in w.v)
+  pub tied : Belongs K (greedy_rows n rows) g w
   pub passes : w.passes ≡ before + greedy_passes n rows
 
-pub outcome : {K : Kind} {w : Work} {p n before : ℕ} (g b u v : List (List ℤ)) (rows out : List Row) → w ≡ work_of b u v p → Tied K out g b u v → out ≡ greedy_rows n rows → p ≡ before + greedy_passes n rows
-    → Outcome K n before rows g w
-outcome {K} {n = n} {before} g b u v rows out e t o q = subst (Outcome K n before rows g) (sym e) (record {
-  tied = rw (vectors-back b, table-back u, table-back v) (subst (λ l. Tied K l g b u v) o t);
-  passes = q;
-})
+pub outcome : {K : Kind} {n before : ℕ} (g : List (List ℤ)) (w : Work) (rows out : List Row) → Belongs K out g w → out ≡ greedy_rows n rows → w.passes ≡ before + greedy_passes n rows → Outcome K n before rows g w
+outcome {K} g w rows out t o q = record { tied = subst (λ l. Belongs K l g w) o t; passes = q }
 
 -- after the turn that is the last
-pub ended : {K : Kind} {n p₀ p q k : ℕ} {w : Work} {rows : List Row} {g b u v g' b' u' v' : List (List ℤ)} (s : Going K n p₀ rows g b u v p) → Round K n k p s.now → w ≡ work_of b' u' v' q
-    → Tied K (next_rows n k s.now) g' b' u' v' → q ≡ suc (p + greedy_passes k (order_rows n s.now)) → shorter_at k (next_rows n k s.now) ≡ false → Outcome K n p₀ rows g' w
-ended {n = n} {k = k} {rows = rows} {g' = g'} {b'} {u'} {v'} s t e a c h = outcome g' b' u' v' rows (next_rows n k s.now) e a (sym (t.stops h).0 ∙ s.same) (omega (arith, c, (t.stops h).1, s.count))
+pub ended : {K : Kind} {n p₀ p k : ℕ} {rows : List Row} {g b u v g' : List (List ℤ)} (w : Work) (s : Going K n p₀ rows g b u v p) → Round K n k p s.now
+    → Belongs K (next_rows n k s.now) g' w → w.passes ≡ suc (p + greedy_passes k (order_rows n s.now)) → shorter_at k (next_rows n k s.now) ≡ false → Outcome K n p₀ rows g' w
+ended {n = n} {k = k} {rows = rows} {g' = g'} w s t a c h = outcome g' w rows (next_rows n k s.now) a (sym (t.stops h).0 ∙ s.same) (omega (arith, c, (t.stops h).1, s.count))

@@ -14,7 +14,6 @@ use Rattle.integers.specs.Size.{Within, load}
 use Rattle.integers.specs.ListLaws.{nth-⊙}
 use Rattle.lattices.specs.Vector.{Vec, N, nth, dot, comb, ◌⊙◌, ◌⊖◌}
 use Rattle.lattices.specs.Nearest.{nearest}
-use Rattle.lattices.specs.Refusal.{most_coordinates}
 use Rattle.lattices.specs.Greedy as Greedy
 use Rattle.lattices.specs.Greedy.{Row}
 use Rattle.lattices.specs.Answer.{padded}
@@ -82,9 +81,9 @@ length-transposed : (t : List (List ℤ)) → length (transposed t) ≡ 4
 unfolding transposed
 length-transposed t = refl
 
-module _ {K : Kind} {k : ℕ} {g b u v : List (List ℤ)} {rows : List Row} (t : Tied K rows g b u v) (r : PassReady K k rows) (three : k ≤ 3) (four : length u ≡ 4) where
+module _ {K : Kind} {k : ℕ} {g b u v : List (List ℤ)} {rows : List Row} (t : Tied K rows g b u v) (r : PassReady K k rows) (three : k ≤ 3) (four : length g ≡ 4) where
   rows_four : length rows ≡ 4
-  rows_four = sym (length-map rows (λ s. s.u)) ∙ ap length t.us ∙ four
+  rows_four = sym (tied-length-gram t) ∙ four
 
   abbrev x : List ℤ
   x = padded 4 (coefficients k rows)
@@ -147,27 +146,19 @@ module _ {K : Kind} {k : ℕ} {g b u v : List (List ℤ)} {rows : List Row} (t :
   vectors-fit true e i = rw ones (Room.vectors-room k rows r.fine three r.reduced e i)
   vectors-fit false e i = rw (zero-entry (Greedy.vectors rows) k i, zero-load k x (Greedy.vectors rows) i) (omega arith)
 
-  pub vectors_lose : Loses most_coordinates k x b
-  vectors_lose = record {
-    four = ap length (sym t.vectors) ∙ length-map (Greedy.vectors rows) _ ∙ length-map rows (λ s. s.vector) ∙ rows_four;
-    wide = t.vectors-wide;
-    fits = rw (sym t.vectors) (vectors-fit K.vectors refl);
-  }
+  pub vectors_lose : Loses k x b
+  vectors_lose = record { fits = rw (sym t.vectors) (vectors-fit K.vectors refl) }
 
-  pub us_lose : Loses 4 k x u
+  pub us_lose : Loses k x u
   unfolding Room.x
-  us_lose = record {
-    four = four;
-    wide = t.us-wide;
-    fits = rw (sym t.us) (Room.u-table-room k rows r.fine three r.reduced);
-  }
+  us_lose = record { fits = rw (sym t.us) (Room.u-table-room k rows r.fine three r.reduced) }
 
   abbrev columns : List (List ℤ)
   columns = map (λ s. s.v) rows
 
   pub vs-gain : Gains k x v
   unfolding Room.x
-  vs-gain = rw (sym t.vs) (record { four = length-transposed columns; fits = λ i j h. pick i j h (dec_lt i 4) })
+  vs-gain = rw (sym t.vs) (record { fits = λ i j h. pick i j h (dec_lt i 4) })
     where
       pick : (i j : ℕ) → j < k → Dec (i < 4) → nat_abs (nth (get_or (transposed columns) i []) j) + nat_abs (nth x j *ℤ nth (get_or (transposed columns) i []) k) ≤ room
       pick i j h (yes l) = rw (nth-transposed columns i j l, nth-transposed columns i k l) (Room.v-table-room k rows r.fine three r.reduced j i h)

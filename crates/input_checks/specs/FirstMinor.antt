@@ -1,5 +1,5 @@
 -- A minor that is not zero, as code finds it, and that the list is dependent exactly when there is none.
-use Rattle.std.specs.Prelude.{◌≡◌, refl, ◌≢◌, true, false, List, [], ◌∷◌, ◌++◌, map, ℕ, zero, suc, ◌+◌, ◌^◌, ◌≤◌, ◌<◌, ℤ, pos, length, get_or, set, take, drop, replicate, ◌≤ℤ◌}
+use Rattle.std.specs.Prelude.{◌≡◌, refl, ◌≢◌, true, false, List, [], ◌∷◌, ◌++◌, map, ℕ, zero, suc, ◌+◌, ◌^◌, ◌≤◌, ◌<◌, ℤ, pos, length, get_or, set, take, drop, replicate, ◌≤ℤ◌, Option, Some, None, is_some, Bool, not}
 use Rattle.std.proofs.Common.{sym, ap, ap₂, ◌∙◌, subst, add-one, arith, length-take, length-set, length-append, length-drop, get_or-take, get_or-drop}
 use Rattle.std.proofs.Math.Decide.{ℕ_discrete, dec_lt}
 use Rattle.std.proofs.lemmas.List.{length-map}
@@ -31,10 +31,10 @@ pub record Chosen (bs : List Vec) (at : List ℕ) (z : ℤ) : Type 0 where
   pub below : (i : ℕ) → i < most_vectors → get_or at i 0 < most_coordinates
   pub minor : z ≡ volume bs index
 
--- a minor that is not zero, or zero where there is none
-pub record FirstMinor (bs : List Vec) (m : Minor) : Type 0 where
-  pub none : m.minor ≡ pos 0 → (s : Index) → length s ≡ most_coordinates → volume bs s ≡ pos 0
-  pub some : m.minor ≢ pos 0 → Chosen bs m.at m.minor
+-- a minor that is not zero, or none where all are
+abbrev pub FirstMinor : List Vec → Option Minor → Type 0
+FirstMinor bs None = (s : Index) → length s ≡ most_coordinates → volume bs s ≡ pos 0
+FirstMinor bs (Some m) = (m.minor ≢ pos 0) × Chosen bs m.at m.minor
 
 -- ---- the determinant of the picked coordinates is the minor
 
@@ -220,6 +220,13 @@ all-zero bs h = ≤ℤ-le_z (≤ℤ_of_≡ (inner-zero most_coordinates (volume 
 
 pub some-minor : (bs : List Vec) {at : List ℕ} {z : ℤ} → Chosen bs at z → z ≢ pos 0 → is_dependent most_coordinates bs ≡ false
 some-minor bs c h = independent_of_minor most_coordinates bs c.index c.wide (λ e. h (c.minor ∙ e))
+
+-- the search for a minor decides
+pub found-none : (bs : List Vec) (o : Option Minor) (t : Bool) → FirstMinor bs o → is_some o ≡ not t → t ≡ is_dependent most_coordinates bs
+found-none bs None true h e = sym (all-zero bs h)
+found-none bs None false h e = cc
+found-none bs (Some m) true h e = cc
+found-none bs (Some m) false h e = sym (some-minor bs h.1 h.0)
 
 -- what holds of every number below n and of n holds below n + 1
 pub one_more : (P : ℕ → Type 0) (n : ℕ) → ((k : ℕ) → k < n → P k) → P n → (k : ℕ) → k < n + 1 → P k

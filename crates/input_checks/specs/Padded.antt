@@ -1,11 +1,11 @@
 -- Vectors filled up with zeros: how the array grows row by row and coordinate by coordinate, and that zeros change neither
 -- an inner product, nor which vectors are too long, nor which lists are dependent.
-use Rattle.std.specs.Prelude.{◌≡◌, refl, ◌↔◌, Bool, true, false, ◌||◌, List, [], ◌∷◌, map, ℕ, zero, suc, ◌+◌, ◌*◌, ◌≤◌, ◌<◌, ℤ, pos, nat_abs, length, get_or, set, take, drop, ltb}
-use Rattle.std.proofs.Common.{sym, ap, ap₂, ◌∙◌, zero-le, le_of_suc-le-suc, not-suc-le-zero, le_trans, arith, add-one, length-take, length-drop, take_all, drop-drop, get_or-drop}
+use Rattle.std.specs.Prelude.{◌≡◌, refl, ◌↔◌, Bool, true, false, ◌||◌, List, [], ◌∷◌, map, ℕ, zero, suc, ◌+◌, ◌*◌, ◌≤◌, ◌<◌, ℤ, pos, nat_abs, length, get_or, set, take, drop, ltb, ◌++◌}
+use Rattle.std.proofs.Common.{sym, ap, ap₂, ◌∙◌, zero-le, le_of_suc-le-suc, not-suc-le-zero, le_trans, arith, add-one, length-take, length-drop, take_all, drop-drop, length-take-le}
 use Rattle.std.proofs.lemmas.List.{length-map}
 use Rattle.std.specs.Int.Signed.{lt_z}
-use Rattle.row_operations.specs.Front.{front, front-suc}
-use Rattle.lattices.specs.Vector.{Vec, nth, comb, Dependent}
+use Rattle.row_operations.specs.Front.{front}
+use Rattle.lattices.specs.Vector.{Vec, comb, Dependent}
 use Rattle.lattices.specs.Laws.Vector.{◌≈◌, ≈_refl, ≈-⊕, ≈-⊙, ≈-N, ≈-nth}
 use Rattle.lattices.specs.Volume.{is_dependent}
 use Rattle.lattices.specs.Refusal.{vectors_of, too_long, most_size, most_square}
@@ -16,13 +16,9 @@ use Rattle.exterior_algebra.specs.Dependence.{Fit, dependent_exactly}
 
 -- ---- one coordinate more, one row more, as code stores them
 
--- of the numbers from place `at` on one more stands in the row
-pub front-more : (at j : ℕ) (l old : List ℤ) {v : List ℤ} {x : ℤ} → at + j < length l → j < length old → v ≡ front j (drop at l) old → x ≡ nth l (at + j)
-    → set v j x ≡ front (j + 1) (drop at l) old
-front-more at j l old h k e f =
-    ap₂ (λ v x. set v j x) e (f ∙ sym (get_or-drop at l j (pos 0)))
-    ∙ front-suc j (drop at l) old (pos 0) (omega (arith, length-drop at l)) k
-    ∙ ap (λ i. front i (drop at l) old) (sym (add-one j))
+-- some of the numbers, all in front
+front-cut : (m : ℕ) (l old : List ℤ) → m ≤ length l → front (length (take m l)) (take m l) old ≡ front m l old
+front-cut m l old h = ap₂ ◌++◌ (take_all (length (take m l)) (take m l) (omega arith)) (ap (λ n. drop n old) (length-take-le m l h))
 
 -- numbers in front of zeros
 pub front-zeros : (n m : ℕ) (l : List ℤ) → m ≤ n → m ≤ length l → front m l (padded n []) ≡ padded n (take m l)
@@ -30,12 +26,6 @@ front-zeros n zero l h k = refl
 front-zeros zero (suc m) l h k = absurd (not-suc-le-zero h)
 front-zeros (suc n) (suc m) [] h k = absurd (not-suc-le-zero k)
 front-zeros (suc n) (suc m) (x ∷ l) h k = ap {B = List ℤ} (λ r. x ∷ r) (front-zeros n m l (le_of_suc-le-suc h) (le_of_suc-le-suc k))
-
-pub padded-more : (n at j : ℕ) (l : List ℤ) {v : List ℤ} {x : ℤ} → j < n → at + j < length l → v ≡ padded n (take j (drop at l)) → x ≡ nth l (at + j)
-    → set v j x ≡ padded n (take (j + 1) (drop at l))
-padded-more n at j l h k e f =
-    front-more at j l (padded n []) k (omega (arith, length-padded n [])) (e ∙ sym (front-zeros n j (drop at l) (omega arith) (omega (arith, length-drop at l)))) f
-    ∙ front-zeros n (j + 1) (drop at l) (omega arith) (omega (arith, length-drop at l))
 
 -- the next row is zeros still
 next-zeros : (h w i m : ℕ) (l : List ℤ) → i < h → get_or (table h w (vectors_of i m l)) i [] ≡ padded w []
@@ -58,12 +48,9 @@ module _ (h w i m : ℕ) (l : List ℤ) {t : List (List ℤ)} (k : i < h) (e : t
   next_row : get_or t i [] ≡ padded w []
   next_row = ap (λ t. get_or t i []) e ∙ next-zeros h w i m l k
 
-  pub next-wide : length (get_or t i []) ≡ w
-  next-wide = ap length next_row ∙ length-padded w []
-
-  pub table_more : {r : List ℤ} → m ≤ w → i * m + m ≤ length l → r ≡ front m (drop (i * m) l) (get_or t i []) → set t i r ≡ table h w (vectors_of (i + 1) m l)
-  table_more n f g =
-      ap₂ (λ t r. set t i r) e (g ∙ ap (front m (drop (i * m) l)) next_row ∙ front-zeros w m (drop (i * m) l) n (omega (arith, length-drop (i * m) l)))
+  pub table_more : {r v : List ℤ} → m ≤ w → i * m + m ≤ length l → v ≡ take m (drop (i * m) l) → r ≡ front (length v) v (get_or t i []) → set t i r ≡ table h w (vectors_of (i + 1) m l)
+  table_more n f p g =
+      ap₂ (λ t r. set t i r) e (g ∙ ap (λ v. front (length v) v (get_or t i [])) p ∙ front-cut m (drop (i * m) l) (get_or t i []) (omega (arith, length-drop (i * m) l)) ∙ ap (front m (drop (i * m) l)) next_row ∙ front-zeros w m (drop (i * m) l) n (omega (arith, length-drop (i * m) l)))
       ∙ set-row h w i m l k ∙ ap (λ n. table h w (vectors_of n m l)) (sym (add-one i))
 
 -- ---- zeros change no inner product
@@ -82,12 +69,6 @@ any-padded f e (suc n) (x ∷ v) h = ap (λ t. f x || t) (any-padded f e n v (le
 pub too_long-padded : (n : ℕ) (v : Vec) → length v ≤ n → too_long (padded n v) ≡ too_long v
 too_long-padded n v h =
     ap₂ (λ t z. t || lt_z (pos most_square) z) (any-padded (λ x. ltb most_size (nat_abs x)) refl n v h) (≈-N (padded-≈ n v h))
-
--- a target, read from place 0 on
-pub too_long-target : (n m : ℕ) (t : Vec) → length t ≡ m → m ≤ n → too_long (padded n (take m (drop 0 t))) ≡ too_long t
-too_long-target n m t e h =
-    let short : length t ≤ m = omega arith in
-    ap (λ v. too_long (padded n v)) (take_all m t short) ∙ too_long-padded n t (le_trans short h)
 
 pub any-long-padded : (n : ℕ) (bs : List Vec) → Fit n bs → any too_long (map (padded n) bs) ≡ any too_long bs
 any-long-padded n [] h = refl

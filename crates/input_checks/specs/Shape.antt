@@ -17,6 +17,7 @@ use Rattle.input_checks.specs.Padded.{any-padded}
 pub record Shaped (i : Input) : Type 0 where
   pub few : i.d ≤ most_vectors
   pub narrow : i.m ≤ most_coordinates
+  pub count : length i.numbers ≡ i.d * i.m
   pub small : any (any beyond) (basis i) ≡ false
   pub rest : {n : ℕ} → First i (drop 3 vector_checks) n → First i vector_checks n
 

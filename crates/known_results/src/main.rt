@@ -2,17 +2,22 @@
 // of "nearest" apart, and membership; and the same in more than four coordinates.
 #![tactic(auto)]
 
-ghost use Rattle.std.specs.Prelude.{◌≡◌, ◌≤◌, length, take};
+ghost use Rattle.std.specs.Prelude.{◌≤◌, length};
 
 use cli_output::Say;
 
-// Writes the name of an input, then the answer to its reduction.
-fn reduced(rt: &(impl Print + Say), name: &[u8], numbers: &[i64], d: usize, m: usize) {
+// Writes the name of an input, then the answer.
+fn answered(rt: &(impl Print + Say), name: &[u8], answer: &[u8]) {
     cli_output::write(rt, name);
     cli_output::newline(rt);
+    cli_output::write(rt, answer);
+}
+
+// The reduction of an input.
+fn reduced(rt: &(impl Print + Say), name: &[u8], numbers: &[i64], d: usize, m: usize) {
     let mut out = [0u8; cli_answers::MOST_BYTES];
-    let n = cli_answers::put_reduction(&mut out, 0, engine::reduce(numbers, d, m), d, m);
-    cli_output::write(rt, &out[..n]);
+    let n = cli_answers::put_reduction(&mut out, 0, &engine::reduce(numbers, d, m), d, m);
+    answered(rt, name, &out[..n]);
 }
 
 // P1 to P8: what reduction gives.
@@ -56,13 +61,11 @@ fn counts(rt: &(impl Print + Say)) {
     reduced(rt, b"three numbers for two by two", &[1, 0, 0], 2, 2);
 }
 
-// Writes the name of an input, then the answer to the search for the vector nearest to the target.
+// The vector nearest to the target.
 fn near(rt: &(impl Print + Say), name: &[u8], numbers: &[i64], d: usize, m: usize, target: &[i64]) {
-    cli_output::write(rt, name);
-    cli_output::newline(rt);
     let mut out = [0u8; cli_answers::MOST_BYTES];
-    let n = cli_answers::put_nearest(&mut out, 0, engine::nearest(numbers, d, m, target), d, m);
-    cli_output::write(rt, &out[..n]);
+    let n = cli_answers::put_nearest(&mut out, 0, &engine::nearest(numbers, d, m, target), d, m);
+    answered(rt, name, &out[..n]);
 }
 
 // P9 and P10, and cases where a hasty search ends elsewhere.
@@ -113,7 +116,7 @@ fn target_refusals(rt: &(impl Print + Say)) {
     );
 }
 
-// Writes the name of an input, then the answer to whether the target is in the lattice.
+// Whether the target is in the lattice.
 fn in_lattice(
     rt: &(impl Print + Say),
     name: &[u8],
@@ -122,11 +125,9 @@ fn in_lattice(
     m: usize,
     target: &[i64],
 ) {
-    cli_output::write(rt, name);
-    cli_output::newline(rt);
     let mut out = [0u8; cli_answers::MOST_BYTES];
     let n = cli_answers::put_membership(&mut out, 0, engine::membership(numbers, d, m, target));
-    cli_output::write(rt, &out[..n]);
+    answered(rt, name, &out[..n]);
 }
 
 // Targets in the lattice and outside, of it one that is in the span, and the refusals.
@@ -150,13 +151,11 @@ fn members(rt: &(impl Print + Say)) {
     in_lattice(rt, b"a target of another m", &[1, 0], 1, 2, &[1]);
 }
 
-// The numbers that a text lists, as far as there is room; how many there are. The last clause follows from the other.
+// The numbers that a text lists, as far as there is room; how many there are.
 fn listed(text: &[u8], numbers: &mut [i64]) -> usize
-    ensures upper_bound { result ≤ length numbers.new }
-    ensures value { result ≡ length (take result numbers.new) }
+    ensures { result ≤ length numbers.new }
 {
-    let p = text_parts::read_part(text, numbers);
-    p.count
+    text_parts::read_part(text, numbers).count
 }
 
 // The reduction of vectors whose numbers are listed in a text.

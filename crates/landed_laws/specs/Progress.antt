@@ -1,18 +1,19 @@
 -- Reading word by word: after i words the code's state shows a state of the definition, and a turn of the loop keeps it.
-use Rattle.std.specs.Prelude.{◌≡◌, refl, ◌≢◌, true, false, cond, List, [], ℕ, suc, ◌+◌, ◌≤◌, ◌<◌, ℤ, pos, length, get_or, set, take, drop}
+use Rattle.std.specs.Prelude.{◌≡◌, refl, true, false, cond, List, [], ℕ, suc, ◌+◌, ◌≤◌, ◌<◌, ℤ, pos, length, get_or, set, take, drop, Ok}
 use Rattle.std.proofs.Math.Path.{sym, ap}
 use Rattle.std.proofs.Common.{ap₂, ◌∙◌, subst, true≢false, add-one, arith, length-take, drop_of_length-le, drop-cons, lt-ltb, le-ltb}
 use Rattle.catalogue_rules.specs.Word.{Word, decode}
 use Rattle.catalogue_rules.proofs.Laws.Word.{InRange, decode_range}
-use Rattle.catalogue_rules.specs.Catalogue.{Outcome, refused, most_entries, most_numbers}
+use Rattle.catalogue_rules.specs.Catalogue as definition
+use Rattle.catalogue_rules.specs.Catalogue.{Outcome, refused, accepted, most_entries, most_numbers}
 use Rattle.catalogue_rules.specs.Read.{State, outside, numbered, inside, after, closed, Step, next, stop, step, at_last, read_words}
 use Rattle.catalogue_rules.proofs.Laws.Moves.{Moves, by-head, by_number, by_size, by-coordinate, by-draft, by-see, by_end, Going, moved}
 use Rattle.catalogue_rules.proofs.Laws.WellFormed.{Known, known-moves, nothing_read}
 use Rattle.catalogue_records.specs.declared.Entry.{Entry}
 use Rattle.catalogue_steps.specs.declared.reading.Reading.{Reading}
 use Rattle.integers.specs.Filled.{filled}
-use Rattle.catalogue_records.specs.Catalogues.{no_catalogue, stored, holding, catalogue_of}
-use Rattle.catalogue_steps.specs.Readings.{is_closed, stopped, step_read, ReadyFor}
+use Rattle.catalogue_records.specs.Catalogues.{stored, holding, catalogue_of}
+use Rattle.catalogue_steps.specs.Readings.{is_closed, Turn, first_reading, stopped, step_read, ReadyFor}
 use Rattle.catalogue_steps.specs.Parts.{whole_at}
 use Rattle.catalogue_steps.specs.States.{reading_of, step_of, numbers_of, Fine, step-shown}
 use Rattle.catalogue_steps.specs.Cells.{placed, Place, cells_of, Cells, cells-none, cells-moves}
@@ -34,7 +35,7 @@ pub record Reached (words : List ℕ) (i : ℕ) (entries : List Entry) (numbers 
   pub notes : numbers ≡ filled 0 most_entries (numbers_of state)
   pub cells : Cells state coordinates
 
-pub at-start : (words : List ℕ) (coordinates : List ℤ) → length coordinates ≡ most_numbers → Reached words 0 (stored []) (filled 0 most_entries []) coordinates (stopped 0)
+pub at-start : (words : List ℕ) (coordinates : List ℤ) → length coordinates ≡ most_numbers → Reached words 0 (stored []) (filled 0 most_entries []) coordinates first_reading
 at-start words coordinates long = record {
   state = outside [];
   onward = record { known = nothing_read; due = tt; rest = refl };
@@ -45,13 +46,6 @@ at-start words coordinates long = record {
 }
 
 -- ---- a turn
-
-goes_on : (s : State) → (reading_of s).refusal ≡ 0
-goes_on (outside es) = refl
-goes_on (numbered es n p) = refl
-goes_on (inside es h vs v) = refl
-goes_on (after es h vs marked) = refl
-goes_on (closed es) = refl
 
 whole-count : (s : State) → (reading_of s).count ≡ length (whole_in s)
 whole-count (outside es) = refl
@@ -116,37 +110,37 @@ module _ (words : List ℕ) (i : ℕ) {entries : List Entry} {numbers : List ℕ
   pub reached-ready : ReadyFor numbers s
   reached-ready = subst (λ l. ReadyFor l s) (sym r.notes) (subst (ReadyFor (filled 0 most_entries (numbers_of r.state))) (sym r.shown) (ready r.state r.onward.known r.onward.due))
 
-  module _ (here : i < length words) {t : Reading} {w : Word} (word : w ≡ decode (get_or words i 0)) (read : t ≡ step_read numbers s i w) where
-    turned : t ≡ step_of (step r.state i w)
+  module _ (here : i < length words) {x : Turn} {w : Word} (word : w ≡ decode (get_or words i 0)) (read : x ≡ step_read numbers s i w) where
+    turned : x ≡ step_of (step r.state i w)
     turned = read ∙ ap₂ (λ l x. step_read l x i w) r.notes r.shown ∙ step-shown r.state i w (fine r.state r.onward.known r.onward.due)
 
     outcome : after-step i (drop (suc i) words) (step r.state i w) ≡ read_words (outside []) 0 words
     unfolding read_words
     outcome = ap (λ x. after-step i (drop (suc i) words) (step r.state i x)) word ∙ sym (ap (read_words r.state i) (drop-cons words i 0 here)) ∙ r.onward.rest
 
-    pub refuses : t.refusal ≢ 0 → refused t.refusal i ≡ read_words (outside []) 0 words
-    refuses stops = go (step r.state i w) turned outcome
+    pub refuses : {n : ℕ} → x ≡ stopped n → refused n i ≡ read_words (outside []) 0 words
+    refuses {n} is = go (step r.state i w) (sym is ∙ turned) outcome
       where
-        go : (x : Step) → t ≡ step_of x → after-step i (drop (suc i) words) x ≡ read_words (outside []) 0 words → refused t.refusal i ≡ read_words (outside []) 0 words
-        go (next u) e o = absurd (stops (ap (λ t. t.refusal) e ∙ goes_on u))
-        go (stop n) e o = ap (λ t. refused t.refusal i) e ∙ o
+        go : (y : Step) → stopped n ≡ step_of y → after-step i (drop (suc i) words) y ≡ read_words (outside []) 0 words → refused n i ≡ read_words (outside []) 0 words
+        go (next u) e o = cc
+        go (stop m) e o = let same : n ≡ m = cc in ap (λ k. refused k i) same ∙ o
 
-    pub moves-on : t.refusal ≡ 0 → Moved words i r.state w t
-    moves-on goes = go (step r.state i w) turned outcome (moved r.state i w)
+    pub moves-on : {t : Reading} → x ≡ Ok t → Moved words i r.state w t
+    moves-on {t} is = go (step r.state i w) (sym is ∙ turned) outcome (moved r.state i w)
       where
-        go : (x : Step) → t ≡ step_of x → after-step i (drop (suc i) words) x ≡ read_words (outside []) 0 words → Going (Moves r.state i w) x → Moved words i r.state w t
+        go : (y : Step) → Ok t ≡ step_of y → after-step i (drop (suc i) words) y ≡ read_words (outside []) 0 words → Going (Moves r.state i w) y → Moved words i r.state w t
         go (next u) e o m = record {
           state = u;
           moves = m;
           onward = record { known = known-moves m (subst InRange (sym word) (decode_range _)) r.onward.known; due = due-moves m r.onward.known r.onward.due; rest = o };
-          shown = e;
+          shown = cc;
         }
-        go (stop n) e o m = absurd (m (sym (ap (λ t. t.refusal) e) ∙ goes))
+        go (stop n) e o m = cc
 
     -- what the turn has stored and noted
-    pub keeps : (goes : t.refusal ≡ 0) {l : List Entry} {ns : List ℕ} {cs : List ℤ} → l ≡ put entries s t coordinates i w → ns ≡ noted numbers t.count w → cs ≡ placed coordinates s.part.filled w
+    pub keeps : {t : Reading} (goes : x ≡ Ok t) {l : List Entry} {ns : List ℕ} {cs : List ℤ} → l ≡ put entries s t coordinates i w → ns ≡ noted numbers t.count w → cs ≡ placed coordinates s.part.filled w
         → Reached words (i + 1) l ns cs t
-    keeps goes {l} {ns} {cs} e f g =
+    keeps {t} goes {l} {ns} {cs} e f g =
         let m = moves-on goes in
         let k = fine r.state r.onward.known r.onward.due in
         subst (λ n. Reached words n l ns cs t) (sym (add-one i)) (record {
@@ -166,18 +160,18 @@ module _ (words : List ℕ) (i : ℕ) {entries : List Entry} {numbers : List ℕ
         })
 
     -- there is room for one entry more, and for a head's number
-    pub counted : t.refusal ≡ 0 → t.count ≤ most_entries
-    counted goes =
+    pub counted : {t : Reading} → x ≡ Ok t → t.count ≤ most_entries
+    counted {t} goes =
         let m = moves-on goes in
         omega (arith, ap (λ x. x.count) m.shown, whole-count m.state, few m.state m.onward.known)
 
-    pub counted_cell : t.refusal ≡ 0 → Place s.part.filled w
-    counted_cell goes =
+    pub counted_cell : {t : Reading} → x ≡ Ok t → Place s.part.filled w
+    counted_cell {t} goes =
         let m = moves-on goes in
         subst (λ n. Place n w) (sym cells_count) (cell_few m.moves (fine r.state r.onward.known r.onward.due))
 
-    pub counted-head : t.refusal ≡ 0 → Space t.count w
-    counted-head goes =
+    pub counted-head : {t : Reading} → x ≡ Ok t → Space t.count w
+    counted-head {t} goes =
         let m = moves-on goes in
         subst (λ n. Space n w) (sym (ap (λ x. x.count) m.shown ∙ whole-count m.state)) (head_few m.moves m.onward.known)
 
@@ -199,25 +193,24 @@ module _ (words : List ℕ) (i : ℕ) {entries : List Entry} {numbers : List ℕ
   unfolding read_words
   last = sym (ap (read_words r.state i) (drop_of_length-le words over)) ∙ r.onward.rest
 
-  pub missing : is_closed s.phase ≡ false → no_catalogue 10 i ≡ catalogue_of (read_words (outside []) 0 words)
-  missing e = go r.state (sym (ap (λ x. is_closed x.phase) r.shown) ∙ e) ∙ ap catalogue_of last
+  pub missing : is_closed s.phase ≡ false → refused 10 i ≡ read_words (outside []) 0 words
+  missing e = go r.state (sym (ap (λ x. is_closed x.phase) r.shown) ∙ e) ∙ last
     where
-      go : (x : State) → is_closed (reading_of x).phase ≡ false → no_catalogue 10 i ≡ catalogue_of (at_last x i)
+      go : (x : State) → is_closed (reading_of x).phase ≡ false → refused 10 i ≡ at_last x i
       go (outside es) h = refl
       go (numbered es n p) h = refl
       go (inside es h vs v) e = refl
       go (after es h vs marked) e = refl
       go (closed es) h = absurd (true≢false h)
 
-  pub complete : is_closed s.phase ≡ true → holding s.count entries ≡ catalogue_of (read_words (outside []) 0 words)
+  pub complete : is_closed s.phase ≡ true → (es : List definition.Entry) × (holding s.count entries ≡ catalogue_of es) × (accepted es ≡ read_words (outside []) 0 words)
   complete e =
-      ap₂ holding (ap (λ x. x.count) r.shown) r.stores
-      ∙ go r.state (sym (ap (λ x. is_closed x.phase) r.shown) ∙ e)
-      ∙ ap catalogue_of last
+      let all = go r.state (sym (ap (λ x. is_closed x.phase) r.shown) ∙ e) in
+      (whole_in r.state, ap₂ holding (ap (λ x. x.count) r.shown) r.stores ∙ all.0, all.1 ∙ last)
     where
-      go : (x : State) → is_closed (reading_of x).phase ≡ true → holding (reading_of x).count (stored (whole_in x)) ≡ catalogue_of (at_last x i)
+      go : (x : State) → is_closed (reading_of x).phase ≡ true → (holding (reading_of x).count (stored (whole_in x)) ≡ catalogue_of (whole_in x)) × (accepted (whole_in x) ≡ at_last x i)
       go (outside es) h = absurd (true≢false (sym h))
       go (numbered es n p) e = absurd (true≢false (sym e))
       go (inside es h vs v) e = absurd (true≢false (sym e))
       go (after es h vs marked) e = absurd (true≢false (sym e))
-      go (closed es) h = refl
+      go (closed es) h = (refl, refl)

@@ -6,7 +6,7 @@ use Rattle.std.proofs.lemmas.List.{length-map}
 use Rattle.lattices.specs.Vector.{Vec}
 use Rattle.catalogue_rules.specs.Word.{Word, head, coordinate, see, end, draft, head_number, head_size, other}
 use Rattle.catalogue_rules.specs.Catalogue as definition
-use Rattle.catalogue_rules.specs.Catalogue.{Head, See, coordinates, see_number, most_entries, most_numbers}
+use Rattle.catalogue_rules.specs.Catalogue.{Head, See, coordinates, most_entries, most_numbers}
 use Rattle.catalogue_rules.specs.Read.{State, outside, numbered, inside, after, closed, form_of, differs, coordinate_of, with_vector, with_coordinate}
 use Rattle.catalogue_rules.proofs.Laws.Moves.{Moves, by-head, by_number, by_size, by-coordinate, by-draft, by-see, by_end, Between, between, unreferred}
 use Rattle.catalogue_records.specs.declared.Form.{Form}
@@ -14,7 +14,7 @@ use Rattle.catalogue_records.specs.declared.Entry.{Entry}
 use Rattle.catalogue_steps.specs.declared.reading.Reading.{Reading}
 use Rattle.integers.specs.Filled.{filled}
 use Rattle.integers.specs.FilledLaws.{filled_next, map_snoc}
-use Rattle.catalogue_records.specs.Stored.{no_entry, stored_form, sees, see_place, entry_of}
+use Rattle.catalogue_records.specs.Stored.{no_entry, stored_form, stored_see, entry_of}
 use Rattle.catalogue_records.specs.Catalogues.{stored}
 use Rattle.catalogue_steps.specs.Forms.{form_held, held-entry, held-head}
 use Rattle.catalogue_steps.specs.Parts.{whole, whole_at}
@@ -43,7 +43,7 @@ module _ (es : List definition.Entry) (h : Head) (vs : List Vec) (marked : Bool)
   added = record { head = h; vectors = vs; draft = marked; see = s }
 
   abbrev made : Form → List ℤ → Entry
-  made f k = whole (part_of h vs [] marked) f (filled (pos 0) most_numbers k) (sees s) (see_number s) (see_place s)
+  made f k = whole (part_of h vs [] marked) f (filled (pos 0) most_numbers k) (stored_see s)
 
   entry-is : (f : Form) → f ≡ stored_form h.form → made f (take (length (coordinates vs ++ [])) l) ≡ entry_of added
   entry-is f e = ap₂ made e (c.first ∙ append-nil (coordinates vs)) ∙ whole-entry h vs marked s

@@ -11,8 +11,6 @@ use Rattle.exterior_algebra.specs.Minors.{marks}
 use Rattle.exterior_algebra.specs.Sizes.{Short}
 use Rattle.successive_minima.specs.Reduced.{Reduced}
 use Rattle.lattice_membership.specs.Nonzero.{nonzero}
-use Rattle.row_operations.specs.declared.VectorRow.{VectorRow}
-use Rattle.row_operations.specs.RowStructs.{table_row}
 use Rattle.lattice_membership.specs.declared.Lattice.{Lattice}
 use Rattle.input_checks.specs.Choice.{places, four_at}
 
@@ -29,7 +27,7 @@ pub record ReducedBasis (d : ℕ) (b : List Vec) : Type 0 where
 pub record Left : Type 0 where
   pub d : ℕ
   pub m : ℕ
-  pub vectors : List VectorRow
+  pub vectors : List Vec
   pub squares : List ℤ
   pub passes : ℕ
 
@@ -38,11 +36,11 @@ left_in l = record { d = l.d; m = l.m; vectors = l.vectors; squares = l.squares;
 
 -- its vectors
 abbrev pub vectors_in : Lattice → List Vec
-vectors_in l = take l.d (map (λ row. row.at) l.vectors)
+vectors_in l = take l.d l.vectors
 
 -- row j of its cofactors
 abbrev pub row_in : Lattice → ℕ → List ℤ
-row_in l j = (get_or l.cofactors j (table_row [])).at
+row_in l j = get_or l.cofactors j []
 
 -- with these the coordinates of v at the places of the choice give the minor there with v in the place of vector j
 pub record Cofactors (bs : List Vec) (at : List ℕ) (s : Index) (j : ℕ) (row : List ℤ) : Type 0 where
@@ -69,7 +67,7 @@ pub record KnownChoice (l : Lattice) : Type 0 where
 
 -- the quotients of the numerators by the minor, p being the chosen coordinates of a vector
 abbrev pub quotients_of : Lattice → List ℤ → List ℤ
-quotients_of l p = map (λ row. quot_z (dot row.at p) l.minor) l.cofactors
+quotients_of l p = map (λ row. quot_z (dot row p) l.minor) l.cofactors
 
 -- ---- the test of a coefficient
 

@@ -12,65 +12,60 @@ ghost use Rattle.lattices.specs.Refusal.{most_vectors, most_coordinates, vectors
 ghost use Rattle.integers.specs.All.{All};
 ghost use Rattle.lattice_membership.specs.Nonzero.{nonzero};
 ghost use Rattle.successive_minima.specs.Member.{is_member};
-ghost use Rattle.row_operations.specs.RowStructs.{vector_row};
 ghost use Rattle.input_checks.specs.Determinant.{Small, without, three_of, cofactors_of};
 ghost use Rattle.lattice_membership.specs.Cofactor.{cofactor_rows};
 ghost use Rattle.lattice_membership.specs.Known.{ReducedBasis, Known, KnownChoice, left_in, vectors_in, is_whole, same_size};
 
-use input_checks::minors::{first_minor, minor_of, pair, pick, square};
-use row_operations::{Basis, Vector, WIDTH};
+use input_checks::minors::{Minor, first_minor, minor_of, pair, pick, square};
+use row_operations::{Basis, Table, Vector, WIDTH, dot};
 
 // No coefficient of a vector within the length limit is larger, on a reduced basis.
 const MOST_TIMES: i64 = 1080000;
 
 // Row i of those that are left without row j.
-fn other(t: [[i64; 4]; 4], j: usize, i: usize) -> [i64; 4]
+fn other(t: &Table, j: usize, i: usize) -> [i64; 4]
     requires { i < 3 }
-    ensures { result ≡ get_or (without j t) i [] }
+    ensures { result ≡ get_or (without j t.now) i [] }
 {
-    if i < j {
-        return t[i];
-    }
-    t[i + 1]
+    if i < j { t[i] } else { t[i + 1] }
 }
 
 // The determinant of coordinates i, j and k of three rows.
-fn three(p: [i64; 4], q: [i64; 4], r: [i64; 4], i: usize, j: usize, k: usize) -> i64
+fn three(p: &[i64; 4], q: &[i64; 4], r: &[i64; 4], i: usize, j: usize, k: usize) -> i64
     requires i_bound { (i < 4) × ((j < 4) × (k < 4)) }
-    requires small { (Small p) × ((Small q) × (Small r)) }
-    ensures { (result ≡ three_of p q r i j k) × Within 48000000000000 result }
+    requires small { (Small p.now) × ((Small q.now) × (Small r.now)) }
+    ensures { (result ≡ three_of p.now q.now r.now i j k) × Within 48000000000000 result }
 {
     p[i] * pair(q, r, j, k) - p[j] * pair(q, r, i, k) + p[k] * pair(q, r, i, j)
 }
 
 // What the coordinates of another row count in the determinant with it in the place of row j: two rows change places where the sign does.
-fn cofactors(t: [[i64; 4]; 4], j: usize) -> [i64; 4]
+fn cofactors(t: &Table, j: usize) -> [i64; 4]
     requires j_bound { j < 4 }
-    requires by_index { (i : ℕ) (c : ℕ) → Within 20000 (nth (get_or t i []) c) }
-    ensures { result ≡ cofactors_of t j }
+    requires by_index { (i : ℕ) (c : ℕ) → Within 20000 (nth (get_or t.now i []) c) }
+    ensures { result ≡ cofactors_of t.now j }
 {
     let odd = j % 2;
     let p = other(t, j, odd);
     let q = other(t, j, 1 - odd);
     let r = other(t, j, 2);
     [
-        three(p, q, r, 1, 2, 3),
-        three(p, q, r, 0, 3, 2),
-        three(p, q, r, 0, 1, 3),
-        three(p, q, r, 0, 2, 1),
+        three(&p, &q, &r, 1, 2, 3),
+        three(&p, &q, &r, 0, 3, 2),
+        three(&p, &q, &r, 0, 1, 3),
+        three(&p, &q, &r, 0, 2, 1),
     ]
 }
 
 // The same for each of the first d rows.
-fn cofactor_rows(t: [[i64; 4]; 4], d: usize) -> [row_operations::TableRow; 4]
+fn cofactor_rows(t: &Table, d: usize) -> Table
     requires d_le_most_vectors { d ≤ most_vectors }
-    requires by_index { (i : ℕ) (c : ℕ) → Within 20000 (nth (get_or t i []) c) }
-    ensures { result ≡ cofactor_rows t d }
+    requires by_index { (i : ℕ) (c : ℕ) → Within 20000 (nth (get_or t.now i []) c) }
+    ensures { result ≡ cofactor_rows t.now d }
 {
-    let mut rows = [row_operations::TableRow { at: [0; 4] }; 4];
+    let mut rows = [[0; 4]; 4];
     for j in 0..d {
-        let row = cofactors(t, j);
-        rows[j] = row_operations::TableRow { at: row };
+        rows[j] = cofactors(t, j);
     }
     rows
 }
@@ -82,58 +77,32 @@ fn cofactor_rows(t: [[i64; 4]; 4], d: usize) -> [row_operations::TableRow; 4]
 pub struct Lattice {
     pub d: usize,
     pub m: usize,
-    pub vectors: [row_operations::VectorRow; 4],
+    pub vectors: Basis,
     pub squares: [i64; 4],
     pub passes: u64,
     pub choice: [usize; WIDTH],
     pub minor: i64,
-    pub cofactors: [row_operations::TableRow; 4],
-}
-
-// The vectors packed in row structs.
-fn vector_rows(b: [Vector; 4]) -> [row_operations::VectorRow; 4]
-    ensures { result ≡ map vector_row b }
-{
-    [
-        row_operations::VectorRow { at: b[0] },
-        row_operations::VectorRow { at: b[1] },
-        row_operations::VectorRow { at: b[2] },
-        row_operations::VectorRow { at: b[3] },
-    ]
+    pub cofactors: Table,
 }
 
 // The lattice of the first d vectors, which are reduced, with their m, their squared lengths and their passes.
-pub fn lattice_of(b: [Vector; 4], d: usize, m: usize, squares: [i64; 4], passes: u64) -> Lattice
-    requires { ReducedBasis d b }
+pub fn lattice_of(vectors: Basis, d: usize, m: usize, squares: [i64; 4], passes: u64) -> Lattice
+    requires { ReducedBasis d vectors }
     ensures known { Known result }
     ensures chosen { KnownChoice result }
-    ensures result_value { left_in result ≡ record { d = d; m = m; vectors = map vector_row b; squares = squares; passes = passes } }
+    ensures result_value { left_in result ≡ record { d = d; m = m; vectors = vectors; squares = squares; passes = passes } }
 {
-    let first = first_minor(&b, d);
-    let at = first.at;
+    let Minor { at, minor } = first_minor(&vectors, d).unwrap();
     Lattice {
         d,
         m,
-        vectors: vector_rows(b),
+        vectors,
         squares,
         passes,
         choice: at,
-        minor: first.minor,
-        cofactors: cofactor_rows(square(&b, at, d), d),
+        minor,
+        cofactors: cofactor_rows(&square(&vectors, &at, d), d),
     }
-}
-
-// The minor with a vector in the place of another: p are its chosen coordinates.
-fn numerator(row: [i64; 4], p: [i64; 4]) -> i64
-    requires by_index { (c : ℕ) → Within 48000000000000 (nth row c) }
-    requires by_index_2 { (c : ℕ) → Within 20000 (nth p c) }
-    ensures { (result ≡ dot row p) × Within 3840000000000000000 result }
-{
-    let mut sum = 0;
-    for c in 0..4 {
-        sum += row[c] * p[c];
-    }
-    sum
 }
 
 // Whether n is a whole multiple of m, and not by more than a coefficient can be.
@@ -150,11 +119,11 @@ fn whole(n: i64, m: i64) -> bool
 }
 
 // Whether every coordinate is zero.
-fn is_zero(v: Vector) -> bool
-    ensures { result ≡ not (any nonzero v) }
+fn is_zero(v: &Vector) -> bool
+    ensures { result ≡ not (any nonzero v.now) }
 {
-    for i in 0..WIDTH {
-        if v[i] != 0 {
+    for x in v {
+        if *x != 0 {
             return false;
         }
     }
@@ -162,40 +131,33 @@ fn is_zero(v: Vector) -> bool
 }
 
 // Whether v is in the lattice: left at the first coefficient that is not whole or too large, then compared in every coordinate.
-pub fn member(l: Lattice, v: Vector) -> bool
-    requires known { Known l }
-    requires v_bound { N v ≤ℤ pos 400000000 }
-    ensures { result ≡ is_member (vectors_in l) v }
+pub fn member(l: &Lattice, v: &Vector) -> bool
+    requires known { Known l.now }
+    requires v_bound { N v.now ≤ℤ pos 400000000 }
+    ensures { result ≡ is_member (vectors_in l.now) v.now }
 {
-    let at = l.choice;
-    let p = pick(v, at);
-    let mut rest = v;
+    let p = pick(v, &l.choice);
+    let mut rest = *v;
     for j in 0..l.d {
-        let cofactors = l.cofactors[j];
-        let row = cofactors.at;
-        let n = numerator(row, p);
+        // the minor with v in the place of vector j
+        let n = dot(&l.cofactors[j], &p);
         if !whole(n, l.minor) {
             return false;
         }
-        let vector = l.vectors[j];
-        let b = vector.at;
-        let next = row_operations::minus_multiple(rest, n / l.minor, b);
-        rest = next;
+        row_operations::lose(&mut rest, n / l.minor, &l.vectors[j]);
     }
-    is_zero(rest)
+    is_zero(&rest)
 }
 
 // Whether the first `count` vectors are all in the lattice. The last, mostly the longest, is tried first: other lattices often have the short ones in common.
-pub fn holds_all(l: Lattice, vectors: [Vector; 4], count: usize) -> bool
-    requires known { Known l }
+pub fn holds_all(l: &Lattice, vectors: &Basis, count: usize) -> bool
+    requires known { Known l.now }
     requires count_le_most_vectors { count ≤ most_vectors }
-    requires by_index { (i : ℕ) → i < count → N (get_or vectors i []) ≤ℤ pos 400000000 }
-    ensures { result ≡ every (is_member (vectors_in l)) (take count vectors) }
+    requires by_index { (i : ℕ) → i < count → N (get_or vectors.now i []) ≤ℤ pos 400000000 }
+    ensures { result ≡ every (is_member (vectors_in l.now)) (take count vectors.now) }
 {
-    let mut i = count;
-    while 0 < i {
-        i -= 1;
-        if !member(l, vectors[i]) {
+    for i in (0..count).rev() {
+        if !member(l, &vectors[i]) {
             return false;
         }
     }
@@ -203,24 +165,22 @@ pub fn holds_all(l: Lattice, vectors: [Vector; 4], count: usize) -> bool
 }
 
 // Whether a lattice holds another: its vectors are all in it.
-pub fn holds_lattice(l: Lattice, other: Lattice) -> bool
-    requires { (Known l) × (Known other) }
-    ensures { result ≡ every (is_member (vectors_in l)) (vectors_in other) }
+pub fn holds_lattice(l: &Lattice, other: &Lattice) -> bool
+    requires { (Known l.now) × (Known other.now) }
+    ensures { result ≡ every (is_member (vectors_in l.now)) (vectors_in other.now) }
 {
-    let vectors = other.vectors;
-    holds_all(l, row_operations::vectors_of(vectors), other.d)
+    holds_all(l, &other.vectors, other.d)
 }
 
 // Whether d vectors of m coordinates each, vector by vector, are all in the lattice.
-pub fn holds_numbers(l: Lattice, numbers: &[i64], d: usize, m: usize) -> bool
-    requires known { Known l }
+pub fn holds_numbers(l: &Lattice, numbers: &[i64], d: usize, m: usize) -> bool
+    requires known { Known l.now }
     requires shape { (d ≤ most_vectors) × (m ≤ most_coordinates) }
     requires numbers_len { length numbers.now ≡ d * m }
     requires short { All (λ v. N v ≤ℤ pos 400000000) (vectors_of d m numbers.now) }
-    ensures { result ≡ every (is_member (vectors_in l)) (map (padded most_coordinates) (vectors_of d m numbers.now)) }
+    ensures { result ≡ every (is_member (vectors_in l.now)) (map (padded most_coordinates) (vectors_of d m numbers.now)) }
 {
-    let b = input_checks::basis(numbers, d, m);
-    holds_all(l, b, d)
+    holds_all(l, &input_checks::basis(numbers, d, m), d)
 }
 
 // Whether two numbers have the same size.
@@ -232,12 +192,10 @@ fn same_size(a: i64, b: i64) -> bool
 }
 
 // Whether the minor of as many vectors at the lattice's choice of coordinates has the size of its own: where it holds them, they then generate it.
-pub fn same_minor(l: Lattice, b: &Basis) -> bool
-    requires chosen { KnownChoice l }
-    requires b_len { length b.now ≡ 4 }
-    requires by_index { (i : ℕ) → i < l.d → N (get_or b.now i []) ≤ℤ pos 400000000 }
-    ensures { (k : KnownChoice l) → result ≡ same_size (volume (take l.d b.now) k.known.index) l.minor }
+pub fn same_minor(l: &Lattice, b: &Basis) -> bool
+    requires chosen { KnownChoice l.now }
+    requires by_index { (i : ℕ) → i < l.now.d → N (get_or b.now i []) ≤ℤ pos 400000000 }
+    ensures { (k : KnownChoice l.now) → result ≡ same_size (volume (take l.now.d b.now) k.known.index) l.now.minor }
 {
-    let at = l.choice;
-    same_size(minor_of(b, at, l.d), l.minor)
+    same_size(minor_of(b, &l.choice, l.d), l.minor)
 }

@@ -1,5 +1,7 @@
 -- The numbers in an answer about a catalogue are small, so they fit signed numbers; and the output lent beside the answer.
-use Rattle.std.specs.Prelude.{◌≡◌, refl, Bool, true, false, cond, List, map, ℕ, ◌≤◌, ◌<◌, ltb, ℤ, length}
+use Rattle.std.specs.Prelude.{◌≡◌, refl, Bool, true, false, cond, List, map, ℕ, ◌≤◌, ◌<◌, ltb, ℤ, length, ◌^◌, Ok, Err, IfOk}
+use Rattle.std.specs.declared.result.Result.{Result}
+use Rattle.std.proofs.lemmas.List.Edits.{sets}
 use Rattle.std.proofs.Common.{sym, ap, ◌∙◌, arith, le-leb}
 use Rattle.std.proofs.Math.Option.{Option, none, some}
 use Rattle.std.proofs.lemmas.Bool.{lt-leb}
@@ -19,8 +21,12 @@ use Rattle.fold_rules.specs.Services.{Lookup, folded_outcome, fold_of, looked_up
 use Rattle.fold_rules.proofs.Laws.FoldedForm.{folded-size}
 use Rattle.fold_rules.proofs.Laws.ListingSize.{listing_size}
 use Rattle.separation_rules.specs.Separation.{same, different_m, different_d, first_outside, second_outside, Separated, refused_at, told, with_number, separated_by, separated_in, separate_of}
-use Rattle.lent_numbers.specs.Layout.{beside, layout_separation}
-use Rattle.lent_numbers.specs.Small.{Small}
+use Rattle.refusals.specs.declared.Refused.{Refused}
+use Rattle.catalogue_records.specs.EntriesIn.{output_in}
+use Rattle.catalogue.specs.Finding.{looked_by}
+use Rattle.lent_numbers.specs.Layout.{head_in, layout_output, layout_lookup, written, beside, layout_separation}
+use Rattle.lent_numbers.specs.Runs.{written-long}
+use Rattle.lent_numbers.specs.Small.{Small, SmallCount}
 use Rattle.lent_catalogue.specs.Places.{most_refusal, OutcomeLow, RefusedLow, moved-low, read_low, move-low}
 
 -- ---- writing
@@ -146,3 +152,49 @@ beside-short l before after h = sym (ap (λ b. cond b after before) (lt-leb 3 (l
 
 pub beside_long : (l : List ℤ) (before after : List ℕ) {x : List ℕ} → 3 ≤ length l → x ≡ after → x ≡ beside l 3 before after
 beside_long l before after h e = e ∙ sym (ap (λ b. cond b after before) (le-leb 3 (length l) h))
+
+-- ---- what the services hand out, as numbers
+
+head-output : (r : Result ℕ Refused) (lent : List ℕ) → head_in r ≡ layout_output (output_in r lent)
+head-output (Ok n) lent = refl
+head-output (Err r) lent = refl
+
+lent-output : (r : Result ℕ Refused) (lent : List ℕ) → lent ≡ (output_in r lent).lent
+lent-output (Ok n) lent = refl
+lent-output (Err r) lent = refl
+
+-- of a writing
+module _ (r : Result ℕ Refused) (lent : List ℕ) {o : Output} (is : output_in r lent ≡ o) where
+  pub writing_small : Few o → SmallCount r
+  writing_small few = go r is
+    where
+      go : (r : Result ℕ Refused) → output_in r lent ≡ o → SmallCount r
+      go (Ok n) e = omega (arith, ap (λ o. o.written) e, few.written)
+      go (Err r) e = omega (arith, ap (λ o. o.place) e, few.place)
+
+  -- stored where there is room for it
+  module _ (l : List ℤ) (room : 3 ≤ length l) where
+    pub writing-stored : {x : List ℤ} → x ≡ sets l 0 (head_in r) → x ≡ written l 3 (layout_output o)
+    writing-stored e = e ∙ ap (sets l 0) (head-output r lent ∙ ap layout_output is) ∙ written-long l 3 (layout_output o) refl room
+
+    pub writing-beside : (before : List ℕ) → lent ≡ beside l 3 before o.lent
+    writing-beside before = beside_long l before o.lent room (lent-output r lent ∙ ap (λ o. o.lent) is)
+
+-- of a lookup
+module _ (r : Result ℕ Refused) {o : Lookup} (is : looked_by r ≡ o) where
+  head-lookup : head_in r ≡ layout_lookup o
+  head-lookup = go r ∙ ap layout_lookup is
+    where
+      go : (r : Result ℕ Refused) → head_in r ≡ layout_lookup (looked_by r)
+      go (Ok n) = refl
+      go (Err r) = refl
+
+  pub lookup_small : o.place ≤ most_words new → IfOk r (λ n. n < 2 ^ 32) → SmallCount r
+  lookup_small place = go r is
+    where
+      go : (r : Result ℕ Refused) → looked_by r ≡ o → IfOk r (λ n. n < 2 ^ 32) → SmallCount r
+      go (Ok n) e small = omega (arith, small)
+      go (Err r) e small = omega (arith, ap (λ o. o.place) e)
+
+  pub lookup-stored : (l : List ℤ) → 3 ≤ length l → {x : List ℤ} → x ≡ sets l 0 (head_in r) → x ≡ written l 3 (layout_lookup o)
+  lookup-stored l room e = e ∙ ap (sets l 0) head-lookup ∙ written-long l 3 (layout_lookup o) refl room

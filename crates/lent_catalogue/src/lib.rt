@@ -1,12 +1,14 @@
 // The services on catalogues with their answers written to lent numbers; include/raghymtos.h gives their order.
 #![tactic(auto)]
 
-ghost use Rattle.std.specs.Prelude.{◌≡◌, leb, length};
+ghost use Rattle.std.specs.Prelude.{◌≡◌, ◌<◌, ◌^◌, leb, length, IfOk};
 ghost use Rattle.catalogue_rules.specs.Read.{read};
 ghost use Rattle.catalogue_rules.specs.Output.{output};
 ghost use Rattle.fold_rules.specs.Services.{fold_of, lookup_of, list_of};
 ghost use Rattle.separation_rules.specs.Separation.{separate_of};
 ghost use Rattle.lent_numbers.specs.Layout.{layout_output, layout_lookup, layout_separation, written, beside};
+
+use refusals::Refused;
 
 // How many numbers the answer of a writing takes.
 const WRITING: usize = 3;
@@ -28,7 +30,7 @@ pub fn write_out(bytes: &[u8], out: &mut [u8], answer: &mut [i64]) -> bool
         return false;
     }
     let w = catalogue::write_out(bytes, out);
-    lent_numbers::put_counts(answer, w.refusal, w.place, w.length);
+    lent_numbers::put_writing(answer, w);
     true
 }
 
@@ -43,7 +45,7 @@ pub fn fold(bytes: &[u8], out: &mut [u8], answer: &mut [i64]) -> bool
         return false;
     }
     let f = catalogue::fold(bytes, out);
-    lent_numbers::put_counts(answer, f.refusal, f.place, f.length);
+    lent_numbers::put_writing(answer, f);
     true
 }
 
@@ -58,8 +60,16 @@ pub fn list(bytes: &[u8], out: &mut [u8], answer: &mut [i64]) -> bool
         return false;
     }
     let l = catalogue_listing::list(bytes, out);
-    lent_numbers::put_counts(answer, l.refusal, l.place, l.length);
+    lent_numbers::put_writing(answer, l);
     true
+}
+
+// A standing number as a count.
+fn counted(standing: Result<u32, Refused>) -> Result<usize, Refused>
+    ensures value { result ≡ standing }
+    ensures small { IfOk result (λ n. n < 2 ^ 32) }
+{
+    Ok(standing? as usize)
 }
 
 // The standing number of the entry with this number. The answer is written to the first 3 numbers of `answer`; a shorter one stays as it
@@ -72,7 +82,7 @@ pub fn lookup(bytes: &[u8], number: u32, answer: &mut [i64]) -> bool
         return false;
     }
     let s = catalogue::lookup(bytes, number);
-    lent_numbers::put_counts(answer, s.refusal, s.place, s.standing as usize);
+    lent_numbers::put_writing(answer, counted(s));
     true
 }
 

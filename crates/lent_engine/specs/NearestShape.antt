@@ -1,5 +1,5 @@
 -- How long the parts of an answer with a nearest vector are, and that its refusal fits a signed number.
-use Rattle.std.specs.Prelude.{◌≡◌, false, cond, ℕ, zero, suc, ◌+◌, ◌*◌, ◌≤◌, ℤ, pos, length, take}
+use Rattle.std.specs.Prelude.{◌≡◌, false, cond, ℕ, zero, suc, ◌+◌, ◌*◌, ◌≤◌, ℤ, pos, length, take, ◌-◌, replicate}
 use Rattle.std.proofs.Math.Path.{refl, ap}
 use Rattle.std.proofs.Common.{◌∙◌, subst, arith, le-leb}
 use mathlib.Core.List.{List, [], ◌++◌, append_assoc}
@@ -12,10 +12,10 @@ use Rattle.lattices.specs.Vector.{comb}
 use Rattle.lattices.specs.Nearest.{nearest}
 use Rattle.lattices.specs.Greedy.{vectors, reduction}
 use Rattle.lattices.specs.Refusal.{Input, basis, first_of, vector_checks, target_checks, most_vectors, most_coordinates}
-use Rattle.lattices.specs.Answer.{Nearest, no_nearest, nearest_given, nearest_of, Membership, membership_of}
+use Rattle.lattices.specs.Answer.{Nearest, padded, no_nearest, nearest_given, nearest_of, Membership, membership_of}
 use Rattle.lattices.specs.Laws.Answer.{length-padded}
 use Rattle.lent_numbers.specs.Layout.{nearest_count, head, layout_nearest, tenths_in, written}
-use Rattle.lent_numbers.specs.Runs.{sets_then, written-long}
+use Rattle.lent_numbers.specs.Runs.{sets_then}
 use Rattle.lent_engine.specs.Shape.{first-most}
 
 checks_most : (i : Input) → first_of (vector_checks ++ target_checks) i ≤ 7
@@ -53,23 +53,21 @@ member-few i = go (first_of (vector_checks ++ target_checks) i) (checks_most i)
 
 -- an answer stored part by part
 module _ {a : Nearest} (s : NearestShape a) (tenths : List ℤ) (few : length tenths ≡ most_vectors) where
-  length-layout : length (layout_nearest a tenths) ≡ nearest_count
+  pub length-layout : length (layout_nearest a tenths) ≡ nearest_count
   unfolding layout_nearest
   length-layout =
       length-append (head a.refusal a.place a.square) (a.coefficients ++ (tenths ++ a.vector))
       ∙ omega (arith, length-append a.coefficients (tenths ++ a.vector), length-append tenths a.vector, s.coefficients, few, s.vector)
 
-  pub nearest-stored : (l : List ℤ) {p q r x : List ℤ} → nearest_count ≤ length l
-      → p ≡ sets l 0 (head a.refusal a.place a.square) → q ≡ sets p 3 a.coefficients → r ≡ sets q (3 + most_vectors) tenths
+  pub nearest-stored : (l : List ℤ) {p q r x : List ℤ} → p ≡ sets l 0 (head a.refusal a.place a.square) → q ≡ sets p 3 a.coefficients → r ≡ sets q (3 + most_vectors) tenths
       → x ≡ sets r (3 + 2 * most_vectors) a.vector
-      → x ≡ written l nearest_count (layout_nearest a tenths)
+      → x ≡ sets l 0 (layout_nearest a tenths)
   unfolding layout_nearest
-  nearest-stored l {p} {q} {r} {x} h e f g k =
+  nearest-stored l {p} {q} {r} {x} e f g k =
       k
       ∙ sets_then q (3 + most_vectors) (3 + 2 * most_vectors) tenths a.vector g (omega (arith, few))
       ∙ sets_then p 3 (3 + most_vectors) a.coefficients (tenths ++ a.vector) f (omega (arith, s.coefficients))
       ∙ sets_then l 0 3 (head a.refusal a.place a.square) (a.coefficients ++ (tenths ++ a.vector)) e refl
-      ∙ written-long l nearest_count (layout_nearest a tenths) length-layout h
 
   -- the tenths stand where they are looked for
   tenths-found : (rest : List ℤ) → tenths_in (layout_nearest a tenths ++ rest) ≡ tenths
@@ -85,3 +83,8 @@ module _ {a : Nearest} (s : NearestShape a) (tenths : List ℤ) (few : length te
   pub tenths-written : (l : List ℤ) {x : List ℤ} → nearest_count ≤ length l → x ≡ written l nearest_count (layout_nearest a tenths) → tenths_in x ≡ tenths
   tenths-written l h e =
       ap tenths_in (e ∙ ap (λ b. cond b (layout_nearest a tenths ++ drop nearest_count l) l) (le-leb nearest_count (length l) h)) ∙ tenths-found (drop nearest_count l)
+
+-- what is refused: its number, then zeros
+pub refused-layout : (n : ℕ) → layout_nearest (no_nearest n) (padded most_vectors []) ≡ head n 0 (pos 0) ++ replicate (nearest_count - 3) (pos 0)
+unfolding layout_nearest
+refused-layout n = refl

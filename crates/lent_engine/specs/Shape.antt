@@ -1,7 +1,7 @@
 -- How long the parts of an answer are, and that its counts fit a signed number.
-use Rattle.std.specs.Prelude.{◌≡◌, Bool, true, false, List, [], ◌∷◌, ◌++◌, map, ℕ, zero, suc, ◌+◌, ◌*◌, ◌≤◌, ℤ, pos, length}
+use Rattle.std.specs.Prelude.{◌≡◌, Bool, true, false, List, [], ◌∷◌, ◌++◌, map, ℕ, zero, suc, ◌+◌, ◌*◌, ◌≤◌, ℤ, pos, length, ◌-◌, replicate}
 use Rattle.std.proofs.Math.Path.{refl}
-use Rattle.std.proofs.Common.{ap₂, ◌∙◌, subst, arith}
+use Rattle.std.proofs.Common.{◌∙◌, subst, arith}
 use Rattle.std.proofs.Math.ListN.{length-append}
 use Rattle.std.proofs.lemmas.List.Edits.{sets}
 use Rattle.integers.specs.All.{All}
@@ -14,8 +14,8 @@ use Rattle.greedy_reduction.specs.Accepted.{accepted}
 use Rattle.engine.specs.Laws.Begin.{first_fine}
 use Rattle.engine.specs.Laws.Few.{few-passes}
 use Rattle.engine.specs.Laws.Finish.{last-passes}
-use Rattle.lent_numbers.specs.Layout.{reduction_count, flat, head, layout, written}
-use Rattle.lent_numbers.specs.Runs.{sets_then, written-long}
+use Rattle.lent_numbers.specs.Layout.{reduction_count, flat, head, layout}
+use Rattle.lent_numbers.specs.Runs.{sets_then}
 
 length-table : (h w : ℕ) (rows : List (List ℤ)) → length (flat (table h w rows)) ≡ h * w
 length-table zero w rows = omega arith
@@ -70,11 +70,6 @@ shape i = go (first_of vector_checks i) refl
       v = length-table most_vectors most_vectors [];
     }
 
--- rows packed in structs and unpacked
-pub unpacked : {A B : Type 0} (pack : A → B) (unpack : B → A) → ((x : A) → unpack (pack x) ≡ x) → (l : List A) → map unpack (map pack l) ≡ l
-unpacked pack unpack e [] = refl
-unpacked pack unpack e (x ∷ l) = ap₂ (λ a t. a ∷ t) (e x) (unpacked pack unpack e l)
-
 -- where the parts begin
 abbrev vectors_at : ℕ
 vectors_at = 3 + most_vectors
@@ -87,7 +82,7 @@ v_at = u_at + most_vectors * most_vectors
 
 -- an answer stored part by part
 module _ {a : Reduction} (s : Shape a) where
-  length-layout : length (layout a) ≡ reduction_count
+  pub length-layout : length (layout a) ≡ reduction_count
   unfolding layout
   length-layout =
       let uv = length-append (flat a.u) (flat a.v) in
@@ -96,12 +91,11 @@ module _ {a : Reduction} (s : Shape a) where
       length-append (head a.refusal a.place (pos a.passes)) (a.squares ++ (flat a.basis ++ (flat a.u ++ flat a.v)))
       ∙ omega (arith, uv, buv, sbuv, s.squares, s.vectors, s.u, s.v)
 
-  pub answer-stored : (l : List ℤ) {p q r t x : List ℤ} → reduction_count ≤ length l
-      → p ≡ sets l 0 (head a.refusal a.place (pos a.passes)) → q ≡ sets p 3 a.squares
+  pub answer-stored : (l : List ℤ) {p q r t x : List ℤ} → p ≡ sets l 0 (head a.refusal a.place (pos a.passes)) → q ≡ sets p 3 a.squares
       → r ≡ sets q vectors_at (flat a.basis) → t ≡ sets r u_at (flat a.u) → x ≡ sets t v_at (flat a.v)
-      → x ≡ written l reduction_count (layout a)
+      → x ≡ sets l 0 (layout a)
   unfolding layout
-  answer-stored l {p} {q} {r} {t} {x} h e f g k m =
+  answer-stored l {p} {q} {r} {t} {x} e f g k m =
       let b = flat a.basis in
       let u = flat a.u in
       let v = flat a.v in
@@ -110,4 +104,8 @@ module _ {a : Reduction} (s : Shape a) where
       ∙ sets_then q vectors_at u_at b (u ++ v) g (omega (arith, s.vectors))
       ∙ sets_then p 3 vectors_at a.squares (b ++ (u ++ v)) f (omega (arith, s.squares))
       ∙ sets_then l 0 3 (head a.refusal a.place (pos a.passes)) (a.squares ++ (b ++ (u ++ v))) e refl
-      ∙ written-long l reduction_count (layout a) length-layout h
+
+-- what is refused: its number, then zeros
+pub refused-layout : (n : ℕ) → layout (no_reduction n) ≡ head n 0 (pos 0) ++ replicate (reduction_count - 3) (pos 0)
+unfolding layout
+refused-layout n = refl

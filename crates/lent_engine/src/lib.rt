@@ -1,12 +1,20 @@
 // The engine's services with their answers written to lent numbers; include/raghymtos.h gives their order.
 #![tactic(auto)]
 
-ghost use Rattle.std.specs.Prelude.{◌≡◌, true, [], leb, length};
+ghost use Rattle.std.specs.Prelude.{◌≡◌, true, [], ◌++◌, ◌-◌, ◌≤◌, leb, length, pos, replicate, Ok};
+ghost use Rattle.std.proofs.lemmas.List.Edits.{sets};
 ghost use Rattle.lattices.specs.Answer.{reduction_of, nearest_of, membership_of};
 ghost use Rattle.solutions.specs.Solution.{TenthsFor};
-ghost use Rattle.lent_numbers.specs.Layout.{reduction_count, nearest_count, layout, layout_nearest, tenths_in, layout_membership, written};
+ghost use Rattle.refusals.specs.Number.{number_of};
+ghost use Rattle.engine.specs.Answers.{reduction_in, nearest_in};
+ghost use Rattle.lent_numbers.specs.Layout.{reduction_count, nearest_count, head, layout, layout_nearest, tenths_in, layout_membership, written};
+ghost use Rattle.lent_engine.specs.Shape.{Shape};
+ghost use Rattle.lent_engine.specs.NearestShape.{NearestShape};
 
-use row_operations::WIDTH;
+use engine::{NearestVector, Reduction};
+use lent_numbers::{put_head, put_rows, put_run};
+use refusals::Refusal;
+use row_operations::{WIDTH, unpacked};
 
 // Where the parts of a reduction's answer begin, and how many numbers it takes.
 const VECTORS_AT: usize = 7;
@@ -23,6 +31,28 @@ const NEAREST: usize = 11 + WIDTH;
 // How many numbers the answer of a membership takes.
 const MEMBER: usize = 3;
 
+// Writes an answer of `count` numbers to what was refused: the number of the refusal, then zeros.
+fn put_refusal(out: &mut [i64], count: usize, e: Refusal)
+    requires { (3 ≤ count) × (count ≤ length out.old) }
+    ensures { out.new ≡ sets out.old 0 (head (number_of e) 0 (pos 0) ++ replicate (count - 3) (pos 0)) }
+{
+    put_head(out, e.number(), 0, 0);
+    out[3..count].fill(0);
+}
+
+// Writes a reduction: the passes, the squared lengths, the vectors, U and V.
+fn put_reduction(out: &mut [i64], a: Reduction)
+    requires room { reduction_count ≤ length out.old }
+    requires shape { Shape (reduction_in (Ok a)) }
+    ensures { out.new ≡ sets out.old 0 (layout (reduction_in (Ok a))) }
+{
+    put_head(out, 0, 0, a.passes as i64);
+    put_run(out, 3, &a.squares);
+    put_rows(out, VECTORS_AT, &unpacked(a.vectors));
+    put_rows(out, U_AT, &unpacked(a.u));
+    put_rows(out, V_AT, &unpacked(a.v));
+}
+
 // Reduces d vectors of m coordinates each. The answer is written to the first numbers of `out`; one with too few stays as it is.
 pub fn reduce(numbers: &[i64], d: usize, m: usize, out: &mut [i64]) -> bool
     ensures value { result ≡ leb reduction_count (length out.old) }
@@ -31,17 +61,23 @@ pub fn reduce(numbers: &[i64], d: usize, m: usize, out: &mut [i64]) -> bool
     if out.len() < REDUCTION {
         return false;
     }
-    let a = engine::reduce(numbers, d, m);
-    let vectors = a.vectors;
-    let u = a.u;
-    let v = a.v;
-    let squares = a.squares;
-    lent_numbers::put_head(out, a.refusal, a.place, a.passes as i64);
-    lent_numbers::put_row(out, 3, squares);
-    lent_numbers::put_vectors(out, VECTORS_AT, row_operations::vectors_of(vectors));
-    lent_numbers::put_table(out, U_AT, row_operations::tables_of(u));
-    lent_numbers::put_table(out, V_AT, row_operations::tables_of(v));
+    match engine::reduce(numbers, d, m) {
+        Ok(a) => put_reduction(out, a),
+        Err(e) => put_refusal(out, REDUCTION, e),
+    }
     true
+}
+
+// Writes a nearest vector: the squared distance, the coefficients, the solution in tenths, the vector.
+fn put_nearest(out: &mut [i64], a: NearestVector)
+    requires room { nearest_count ≤ length out.old }
+    requires shape { NearestShape (nearest_in (Ok a)) }
+    ensures { out.new ≡ sets out.old 0 (layout_nearest (nearest_in (Ok a)) a.tenths) }
+{
+    put_head(out, 0, 0, a.square);
+    put_run(out, 3, &a.coefficients);
+    put_run(out, 7, &a.tenths);
+    put_run(out, 11, &a.vector);
 }
 
 // Finds the vector nearest to the target in the lattice of d vectors of m coordinates each. The answer is written to the first
@@ -54,14 +90,10 @@ pub fn nearest(numbers: &[i64], d: usize, m: usize, target: &[i64], out: &mut [i
     if out.len() < NEAREST {
         return false;
     }
-    let a = engine::nearest(numbers, d, m, target);
-    let coefficients = a.coefficients;
-    let tenths = a.tenths;
-    let vector = a.vector;
-    lent_numbers::put_head(out, a.refusal, a.place, a.square);
-    lent_numbers::put_row(out, 3, coefficients);
-    lent_numbers::put_row(out, 7, tenths);
-    lent_numbers::put_vector(out, 11, vector);
+    match engine::nearest(numbers, d, m, target) {
+        Ok(a) => put_nearest(out, a),
+        Err(e) => put_refusal(out, NEAREST, e),
+    }
     true
 }
 
@@ -74,7 +106,9 @@ pub fn member(numbers: &[i64], d: usize, m: usize, target: &[i64], out: &mut [i6
     if out.len() < MEMBER {
         return false;
     }
-    let a = engine::membership(numbers, d, m, target);
-    lent_numbers::put_head(out, a.refusal, a.place, lent_numbers::flag(a.member));
+    match engine::membership(numbers, d, m, target) {
+        Ok(yes) => put_head(out, 0, 0, lent_numbers::flag(yes)),
+        Err(e) => put_head(out, e.number(), 0, 0),
+    }
     true
 }

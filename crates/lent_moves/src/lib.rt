@@ -20,7 +20,7 @@ pub fn new_form(bytes: &[u8], out: &mut [u8], answer: &mut [i64]) -> bool
         return false;
     }
     let n = catalogue::new_form(bytes, out);
-    lent_numbers::put_counts(answer, n.refusal, n.place, n.length);
+    lent_numbers::put_writing(answer, n);
     true
 }
 
@@ -35,6 +35,6 @@ pub fn old_form(bytes: &[u8], out: &mut [u8], answer: &mut [i64]) -> bool
         return false;
     }
     let o = catalogue::old_form(bytes, out);
-    lent_numbers::put_counts(answer, o.refusal, o.place, o.length);
+    lent_numbers::put_writing(answer, o);
     true
 }

@@ -1,5 +1,8 @@
 -- The answers of the services as runs of numbers, in the order that the header gives.
-use Rattle.std.specs.Prelude.{Bool, cond, List, [], ◌∷◌, ◌++◌, ℕ, ◌+◌, ◌*◌, ℤ, pos, leb, length, take, drop}
+use Rattle.std.specs.Prelude.{Bool, cond, List, [], ◌∷◌, ◌++◌, ℕ, ◌+◌, ◌*◌, ℤ, pos, leb, length, take, drop, Ok, Err}
+use Rattle.std.specs.declared.result.Result.{Result}
+use Rattle.refusals.specs.declared.Refused.{Refused}
+use Rattle.refusals.specs.Number.{number_of}
 use Rattle.lattices.specs.Refusal.{most_vectors, most_coordinates}
 use Rattle.lattices.specs.Answer.{Reduction, Nearest, Membership}
 use Rattle.catalogue_rules.specs.Output.{Output}
@@ -22,6 +25,11 @@ flat (r ∷ rows) = r ++ flat rows
 -- R16.1: what stands before an answer's rows: refusal, place and one number
 abbrev pub head : ℕ → ℕ → ℤ → List ℤ
 head refusal place number = pos refusal ∷ pos place ∷ number ∷ []
+
+-- R16.4: the same of what a writing gave: refusal and place, or how many bytes it wrote
+abbrev pub head_in : Result ℕ Refused → List ℤ
+head_in (Ok count) = head 0 0 (pos count)
+head_in (Err r) = head (number_of r.refusal) r.place (pos 0)
 
 -- R16.2: a reduction's answer: head with the passes, squared lengths, vectors, U, V
 unfoldable pub layout : Reduction → List ℤ

@@ -1,6 +1,6 @@
 -- Numbers stored one run after another are stored as one run.
-use Rattle.std.specs.Prelude.{◌≡◌, refl, cond, List, [], ◌∷◌, ◌++◌, ℕ, ◌+◌, ◌≤◌, ◌<◌, ℤ, pos, length, set, drop, get_or, take}
-use Rattle.std.proofs.Common.{sym, ap, ◌∙◌, arith, add-one, le-leb, take-suc, length-take-le}
+use Rattle.std.specs.Prelude.{◌≡◌, refl, cond, List, [], ◌∷◌, ◌++◌, ℕ, ◌+◌, ◌≤◌, ◌<◌, ℤ, length, drop, get_or}
+use Rattle.std.proofs.Common.{sym, ap, ◌∙◌, arith, le-leb}
 use Rattle.std.proofs.lemmas.Bool.{lt-leb}
 use Rattle.std.proofs.lemmas.List.Edits.{sets, sets-eq}
 use Rattle.integers.specs.Runs.{sets-append}
@@ -24,12 +24,6 @@ written-long l n vs e h =
 -- an answer of three numbers
 pub head-stored : (l : List ℤ) (refusal place : ℕ) (number : ℤ) {x : List ℤ} → 3 ≤ length l → x ≡ sets l 0 (head refusal place number) → x ≡ written l 3 (head refusal place number)
 head-stored l refusal place number h e = e ∙ written-long l 3 (head refusal place number) refl h
-
--- one number more
-pub sets_more : (l : List ℤ) (at : ℕ) (run : List ℤ) (j : ℕ) → j < length run → set (sets l at (take j run)) (at + j) (get_or run j (pos 0)) ≡ sets l at (take (j + 1) run)
-sets_more l at run j h =
-    sets-append l at (at + j) (take j run) (get_or run j (pos 0) ∷ []) (omega (arith, length-take-le j run (omega arith)))
-    ∙ ap (sets l at) (sym (take-suc run j (pos 0) h) ∙ ap (λ k. take k run) (sym (add-one j)))
 
 -- four rows stored one after another
 pub rows-stored : (w : ℕ) (l : List ℤ) (i j k n : ℕ) (t : List (List ℤ)) {a b c d : List ℤ} → length t ≡ 4

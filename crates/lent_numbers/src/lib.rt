@@ -3,62 +3,30 @@
 
 ghost use Rattle.std.specs.Prelude.{◌≡◌, ◌+◌, ◌*◌, ◌≤◌, pos, length};
 ghost use Rattle.std.proofs.lemmas.List.Edits.{sets};
-ghost use Rattle.lattices.specs.Refusal.{most_vectors, most_coordinates};
 ghost use Rattle.separation_answers.specs.Said.{said_by};
-ghost use Rattle.lent_numbers.specs.Layout.{flat, head, flag, layout_separation};
-ghost use Rattle.lent_numbers.specs.Small.{Small};
+ghost use Rattle.lent_numbers.specs.Layout.{flat, head, head_in, flag, layout_separation};
+ghost use Rattle.lent_numbers.specs.Small.{Small, SmallCount};
 
-use row_operations::{Basis, Vector, WIDTH};
+use refusals::Refused;
 use separation_answers::Separation;
 
 // Writes a run of numbers from `at` on.
-fn put_run(out: &mut [i64], at: usize, run: &[i64])
+pub fn put_run(out: &mut [i64], at: usize, run: &[i64])
     requires { at + length run.now ≤ length out.old }
     ensures { out.new ≡ sets out.old at run.now }
 {
-    for i in 0..run.len() {
-        out[at + i] = run[i];
-    }
+    out[at..at + run.len()].copy_from_slice(run);
 }
 
-// Writes a vector from `at` on. How many numbers it has tells where the next one goes.
-pub fn put_vector(out: &mut [i64], at: usize, v: Vector)
-    requires { at + most_coordinates ≤ length out.old }
-    ensures out_after { out.new ≡ sets out.old at v }
-    ensures v_len { length v ≡ most_coordinates }
+// Writes the rows of a table one after another from `at` on.
+pub fn put_rows<const N: usize>(out: &mut [i64], at: usize, rows: &[[i64; N]; 4])
+    requires { at + 4 * N ≤ length out.old }
+    ensures { out.new ≡ sets out.old at (flat rows.now) }
 {
-    put_run(out, at, &v);
-}
-
-// Writes a number for each vector from `at` on.
-pub fn put_row(out: &mut [i64], at: usize, row: [i64; 4])
-    requires { at + most_vectors ≤ length out.old }
-    ensures out_after { out.new ≡ sets out.old at row }
-    ensures row_len { length row ≡ most_vectors }
-{
-    put_run(out, at, &row);
-}
-
-// Writes the vectors from `at` on.
-pub fn put_vectors(out: &mut [i64], at: usize, b: Basis)
-    requires { at + most_vectors * most_coordinates ≤ length out.old }
-    ensures { out.new ≡ sets out.old at (flat b) }
-{
-    put_vector(out, at, b[0]);
-    put_vector(out, at + WIDTH, b[1]);
-    put_vector(out, at + 2 * WIDTH, b[2]);
-    put_vector(out, at + 3 * WIDTH, b[3]);
-}
-
-// Writes the rows of a table from `at` on.
-pub fn put_table(out: &mut [i64], at: usize, t: [[i64; 4]; 4])
-    requires { at + most_vectors * most_vectors ≤ length out.old }
-    ensures { out.new ≡ sets out.old at (flat t) }
-{
-    put_row(out, at, t[0]);
-    put_row(out, at + 4, t[1]);
-    put_row(out, at + 8, t[2]);
-    put_row(out, at + 12, t[3]);
+    put_run(out, at, &rows[0]);
+    put_run(out, at + N, &rows[1]);
+    put_run(out, at + 2 * N, &rows[2]);
+    put_run(out, at + 3 * N, &rows[3]);
 }
 
 // Writes what stands before an answer's rows: refusal, place and one number.
@@ -81,37 +49,45 @@ pub fn put_counts(out: &mut [i64], refusal: u64, place: usize, count: usize)
     put_head(out, refusal, place as u64, count as i64);
 }
 
+// Writes what a writing gave: refusal and place, or how many bytes it wrote.
+pub fn put_writing(out: &mut [i64], written: Result<usize, Refused>)
+    requires in_bounds { 3 ≤ length out.old }
+    requires small { SmallCount written }
+    ensures { out.new ≡ sets out.old 0 (head_in written) }
+{
+    match written {
+        Ok(count) => put_counts(out, 0, 0, count),
+        Err(r) => put_counts(out, r.refusal.number(), r.place, 0),
+    }
+}
+
 // The numbers of an answer about two entries: refusal and place, which of the five, position and squared distance.
-fn numbers_of(s: Separation) -> [i64; 5]
+fn numbers_of(s: Result<Separation, Refused>) -> [i64; 5]
     requires { Small (said_by s) }
     ensures { result ≡ layout_separation (said_by s) }
 {
     match s {
-        Separation::Refused(n, p) => [n as i64, p as i64, 0, 0, 0],
-        Separation::Same => [0, 0, 1, 0, 0],
-        Separation::DifferentM => [0, 0, 2, 0, 0],
-        Separation::DifferentD => [0, 0, 3, 0, 0],
-        Separation::FirstOutside(k, z) => [0, 0, 4, k as i64, z],
-        Separation::SecondOutside(k, z) => [0, 0, 5, k as i64, z],
+        Err(r) => [r.refusal.number() as i64, r.place as i64, 0, 0, 0],
+        Ok(Separation::Same) => [0, 0, 1, 0, 0],
+        Ok(Separation::DifferentM) => [0, 0, 2, 0, 0],
+        Ok(Separation::DifferentD) => [0, 0, 3, 0, 0],
+        Ok(Separation::FirstOutside(k, z)) => [0, 0, 4, k as i64, z],
+        Ok(Separation::SecondOutside(k, z)) => [0, 0, 5, k as i64, z],
     }
 }
 
 // Writes an answer about two entries.
-pub fn put_separation(out: &mut [i64], s: Separation)
+pub fn put_separation(out: &mut [i64], s: Result<Separation, Refused>)
     requires in_bounds { 5 ≤ length out.old }
     requires small { Small (said_by s) }
     ensures { out.new ≡ sets out.old 0 (layout_separation (said_by s)) }
 {
-    let five = numbers_of(s);
-    put_run(out, 0, &five);
+    put_run(out, 0, &numbers_of(s));
 }
 
 // 1 for yes, 0 for no.
 pub fn flag(yes: bool) -> i64
     ensures { result ≡ flag yes }
 {
-    if yes {
-        return 1;
-    }
-    0
+    if yes { 1 } else { 0 }
 }

@@ -2,7 +2,7 @@
 // target with them. Nothing is said of how exact the solution is, and nothing depends on it: integers made from it are only bounded.
 #![tactic(auto)]
 
-ghost use Rattle.std.specs.Prelude.{◌≡◌, [], ℕ, ◌<◌, length, get_or};
+ghost use Rattle.std.specs.Prelude.{[], ℕ, ◌<◌, get_or};
 ghost use Rattle.integers.specs.Size.{Within};
 ghost use Rattle.lattices.specs.Vector.{nth};
 ghost use Rattle.successive_minima.specs.Laws.Digits.{Bounded};
@@ -87,8 +87,6 @@ fn inserted(y: [f64; 4], a: [f64; 4], i: usize, d: usize) -> [f64; 4]
 
 // The solution of G·y = c for the first d rows and columns of G; zeros behind.
 pub fn solution(g: &[[i64; 4]; 4], d: usize, c: &[i64; 4]) -> [f64; 4]
-    requires g_len { length g.now ≡ 4 }
-    requires c_len { length c.now ≡ 4 }
     requires by_index { (i j : ℕ) → Within 400000000 (nth (get_or g.now i []) j) }
     requires bounded { Bounded 2000000000 c.now }
 {

@@ -1,23 +1,23 @@
--- An addition as the code hands it out, and what is known of the entries before it.
-use Rattle.std.specs.Prelude.{◌≡◌, List, map, ℕ, length, get_or, take}
+-- What an addition gives, and what is known of the entries before it.
+use Rattle.std.specs.Prelude.{◌≡◌, List, [], ◌∷◌, ◌++◌, map, ℕ, length, take, Ok, Err, ⊤}
+use Rattle.std.specs.declared.result.Result.{Result}
 use Rattle.integers.specs.All.{All}
+use Rattle.refusals.specs.declared.Refused.{Refused}
 use Rattle.catalogue_rules.specs.Catalogue as definition
-use Rattle.catalogue_rules.specs.Catalogue.{new, Outcome, refused, accepted, most_entries}
+use Rattle.catalogue_rules.specs.Catalogue.{new, Outcome, accepted, most_entries}
 use Rattle.catalogue_rules.specs.Form.{Entered, EntryIndependent}
 use Rattle.catalogue_records.specs.declared.Entry.{Entry}
-use Rattle.catalogue_records.specs.Stored.{no_entry, entry_of}
-use Rattle.merge_additions.specs.declared.Addition.{Addition}
+use Rattle.catalogue_records.specs.Stored.{entry_of}
+use Rattle.catalogue_records.specs.EntriesIn.{entry_in, outcome_by}
 
-abbrev pub no_addition : ℕ → ℕ → Addition
-no_addition refusal place = record { refusal = refusal; place = place; entry = no_entry }
+-- a refusal, or the entries before with the new one
+abbrev pub addition_in : List definition.Entry → Result Entry Refused → Outcome
+addition_in es r = outcome_by (λ e. accepted (es ++ (entry_in e ∷ []))) r
 
-abbrev pub given : Entry → Addition
-given e = record { refusal = 0; place = 0; entry = e }
-
--- after n entries: the one behind them
-abbrev pub addition_of : ℕ → Outcome → Addition
-addition_of n (refused k p) = no_addition k p
-addition_of n (accepted es) = given (get_or (map entry_of es) n no_entry)
+-- if there is an entry: zeros stand after its coordinates
+abbrev pub EntryStored : Result Entry Refused → Type 0
+EntryStored (Ok e) = e ≡ entry_of (entry_in e)
+EntryStored (Err r) = ⊤
 
 -- entries with these numbers, as accepted additions leave them
 pub record Earlier (numbers : List ℕ) (count : ℕ) : Type 0 where

@@ -1,5 +1,5 @@
 -- How far an addition has come: what a word that may stand changes, and that it is read as the definition reads it.
-use Rattle.std.specs.Prelude.{◌≡◌, refl, ◌⊎◌, Bool, true, false, cond, List, [], ◌∷◌, ◌++◌, ℕ, ◌+◌, ◌≤◌, eqb, ℤ, length, take}
+use Rattle.std.specs.Prelude.{◌≡◌, refl, ◌⊎◌, Bool, true, false, cond, List, [], ◌∷◌, ◌++◌, ℕ, ◌+◌, ◌≤◌, eqb, ℤ, length, take, Option, Some, None}
 use Rattle.std.proofs.Common.{sym, ap, ◌∙◌, subst, inl, inr, true≢false, arith, length-append, eqb-true, lt-ltb}
 use Rattle.std.proofs.Math.Option.{some}
 use Rattle.integers.specs.Filled.{filled}
@@ -10,6 +10,7 @@ use Rattle.catalogue_rules.specs.Word.{Word, head, coordinate, see, end, draft, 
 use Rattle.catalogue_rules.specs.Catalogue as definition
 use Rattle.catalogue_rules.specs.Catalogue.{Head, See, coordinates, most_entries}
 use Rattle.catalogue_rules.specs.Read.{State, outside, numbered, inside, after, closed, stop, coordinate_of, with_entry, with_vector, with_coordinate, step}
+use Rattle.catalogue_rules.proofs.Laws.Word.{InRange}
 use Rattle.catalogue_rules.proofs.Laws.Moves.{Moves, by-head, by_number, by_size, by-coordinate, by-draft, by-see, by_end, between, unreferred}
 use Rattle.catalogue_records.specs.declared.Entry.{Entry}
 use Rattle.catalogue_records.specs.Stored.{entry_of}
@@ -21,30 +22,30 @@ use Rattle.catalogue_steps.specs.Cells.{Cells, made, made-entry}
 use Rattle.merge_additions.specs.Turns.{add_read, kept_read, stands-shown, outside-numbers}
 
 -- fs is es with one entry more, which e is as it is stored
-pub record OneMore (es : List definition.Entry) (e : Entry) (fs : List definition.Entry) : Type 0 where
+pub record OneMore (es : List definition.Entry) (e : Option Entry) (fs : List definition.Entry) : Type 0 where
   pub entry : definition.Entry
   pub is : fs ≡ es ++ (entry ∷ [])
-  pub kept : e ≡ entry_of entry
+  pub kept : e ≡ Some (entry_of entry)
 
--- a state of an addition after es, e being the entry kept
-abbrev pub Stage : List definition.Entry → Entry → State → Type 0
-Stage es e (outside fs) = (fs ≡ es) ⊎ OneMore es e fs
+-- a state of an addition after es, e being the entry kept, if there is one
+abbrev pub Stage : List definition.Entry → Option Entry → State → Type 0
+Stage es e (outside fs) = ((fs ≡ es) × (e ≡ None)) ⊎ OneMore es e fs
 Stage es e (numbered fs n p) = fs ≡ es
 Stage es e (inside fs h vs v) = fs ≡ es
 Stage es e (after fs h vs marked) = fs ≡ es
 Stage es e (closed fs) = Unit {0}
 
-pub more-long : {es fs : List definition.Entry} {e : Entry} → OneMore es e fs → length fs ≡ length es + 1
+pub more-long : {es fs : List definition.Entry} {e : Option Entry} → OneMore es e fs → length fs ≡ length es + 1
 more-long {es} m = ap length m.is ∙ length-append es (m.entry ∷ [])
 
 -- where a head may stand, no entry came since
-head-stage : (es fs : List definition.Entry) (e : Entry) → eqb (length fs) (length es) ≡ true → (fs ≡ es) ⊎ OneMore es e fs → fs ≡ es
-head-stage es fs e t (inl q) = q
+head-stage : (es fs : List definition.Entry) (e : Option Entry) → eqb (length fs) (length es) ≡ true → ((fs ≡ es) × (e ≡ None)) ⊎ OneMore es e fs → fs ≡ es
+head-stage es fs e t (inl q) = q.0
 head-stage es fs e t (inr m) = absurd (omega (arith, more-long m, eqb-true (length fs) (length es) t))
 
 -- ---- a word that may stand
 
-module _ (es : List definition.Entry) (e : Entry) where
+module _ (es : List definition.Entry) (e : Option Entry) where
   stage-vector : (fs : List definition.Entry) (h : Head) (vs : List Vec) → fs ≡ es → Stage es e (with_vector fs h vs)
   stage-vector fs h vs q = go (eqb (length vs) h.d)
     where
@@ -60,16 +61,16 @@ module _ (es : List definition.Entry) (e : Entry) where
       go false = q
 
 -- the entry that a see word makes whole
-see-kept : (e : Entry) (fs : List definition.Entry) (h : Head) (vs : List Vec) (marked : Bool) (s : See) (l : List ℤ) → Cells (after fs h vs marked) l → Fine (after fs h vs marked)
+see-kept : (e : Option Entry) (fs : List definition.Entry) (h : Head) (vs : List Vec) (marked : Bool) (s : See) (l : List ℤ) → Cells (after fs h vs marked) l → Fine (after fs h vs marked)
     → kept_read e (reading_of (after fs h vs marked)) (reading_of (outside (with_entry fs h vs marked (some s)))) l s.place (see s.number)
-    ≡ entry_of (record { head = h; vectors = vs; draft = marked; see = some s })
+    ≡ Some (entry_of (record { head = h; vectors = vs; draft = marked; see = some s }))
 see-kept e fs h vs marked s l c fine =
     let x : definition.Entry = record { head = h; vectors = vs; draft = marked; see = some s } in
     let f = form_held (fs ++ (x ∷ [])) in
-    ap (λ t. cond t (made fs h vs marked (some s) l c f (take (length (coordinates vs ++ [])) l)) e) (lt-ltb (length fs) (length (fs ++ (x ∷ []))) (omega (arith, length-append fs (x ∷ []))))
-    ∙ made-entry fs h vs marked (some s) l c f (held-entry fs x fine.1)
+    ap (λ t. cond t (Some (made fs h vs marked (some s) l c f (take (length (coordinates vs ++ [])) l))) e) (lt-ltb (length fs) (length (fs ++ (x ∷ []))) (omega (arith, length-append fs (x ∷ []))))
+    ∙ ap Some (made-entry fs h vs marked (some s) l c f (held-entry fs x fine.1))
 
-pub stage-moves : (es : List definition.Entry) (e : Entry) (l : List ℤ) {s t : State} {i : ℕ} {w : Word} → Moves s i w t → may_stand (length es) s w ≡ true → Fine s → Cells s l
+pub stage-moves : (es : List definition.Entry) (e : Option Entry) (l : List ℤ) {s t : State} {i : ℕ} {w : Word} → Moves s i w t → may_stand (length es) s w ≡ true → Fine s → Cells s l
     → Stage es e s → Stage es (kept_read e (reading_of s) (reading_of t) l i w) t
 stage-moves es e l (by-head n d m i (between fs) p) may fine c q = head-stage es fs e (both (eqb (length fs) (length es)) false may).0 q
 stage-moves es e l (by-head n d m i (unreferred fs h vs marked) p) may fine c q = absurd (true≢false (sym may))
@@ -95,7 +96,7 @@ module _ (es : List definition.Entry) (few : length es ≤ most_entries) (ns : L
       ∙ ap (λ n. take n (filled 0 most_entries (numbers es))) (length-numbers es)
 
   -- the numbers of the entries before are all that it looks at
-  step-numbers : (e : Entry) (s : State) (i : ℕ) (w : Word) → Stage es e s → may_stand (length es) s w ≡ true → step_read ns (reading_of s) i w ≡ step_read (filled 0 most_entries (numbers_of s)) (reading_of s) i w
+  step-numbers : (e : Option Entry) (s : State) (i : ℕ) (w : Word) → Stage es e s → may_stand (length es) s w ≡ true → step_read ns (reading_of s) i w ≡ step_read (filled 0 most_entries (numbers_of s)) (reading_of s) i w
   step-numbers e (outside fs) i w q may =
       let first = head-stage es fs e (both (eqb (length fs) (length es)) (eqb (kind_of w) 6) may).0 q in
       outside-numbers ns (filled 0 most_entries (numbers fs)) (reading_of (outside fs)) i w (subst (λ k. take (length k) ns ≡ take (length k) (filled 0 most_entries (numbers k))) (sym first) same_numbers)
@@ -111,8 +112,8 @@ module _ (es : List definition.Entry) (few : length es ≤ most_entries) (ns : L
   step-numbers e (after fs h vs marked) i (other k l) q may = refl
   step-numbers e (closed fs) i w q may = refl
 
-  pub add-shown : (e : Entry) (s : State) (i : ℕ) (w : Word) → Stage es e s → Fine s → add_read ns (length es) (reading_of s) i w ≡ step_of (add_step (length es) s i w)
-  add-shown e s i w q fine = ap (λ t. cond t (step_read ns (reading_of s) i w) (stopped 10)) (stands-shown (length es) s w) ∙ go (may_stand (length es) s w) refl
+  pub add-shown : (e : Option Entry) (s : State) (i : ℕ) (w : Word) → InRange w → Stage es e s → Fine s → add_read ns (length es) (reading_of s) i w ≡ step_of (add_step (length es) s i w)
+  add-shown e s i w r q fine = ap (λ t. cond t (step_read ns (reading_of s) i w) (stopped 10)) (stands-shown (length es) s w r) ∙ go (may_stand (length es) s w) refl
     where
       go : (t : Bool) → may_stand (length es) s w ≡ t → cond t (step_read ns (reading_of s) i w) (stopped 10) ≡ step_of (elim t [ true ↦ step s i w | false ↦ stop 10 ])
       go true may = step-numbers e s i w q may ∙ step-shown s i w fine

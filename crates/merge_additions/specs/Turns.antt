@@ -1,10 +1,12 @@
 -- What a word of an addition does to the stored state, and what is left at the end.
-use Rattle.std.specs.Prelude.{◌≡◌, refl, Bool, true, false, cond, ◌&&◌, ◌||◌, List, [], ◌∷◌, ◌++◌, ℕ, ltb, eqb, ℤ, pos, take}
-use Rattle.std.proofs.Common.{ap}
+use Rattle.std.specs.Prelude.{◌≡◌, refl, Bool, true, false, cond, ◌&&◌, ◌||◌, List, [], ◌∷◌, ◌++◌, ℕ, ltb, eqb, ℤ, pos, length, take, Option, Some, None}
+use Rattle.std.proofs.Common.{sym, ap, ap₂, ne_eqb}
 use Rattle.integers.specs.Every.{any}
 use Rattle.integers.specs.Filled.{filled}
 use Rattle.catalogue_rules.specs.Word.{Word, head, coordinate, see, end, draft, head_number, head_size, other, kind_of}
-use Rattle.catalogue_rules.specs.Catalogue.{most_numbers}
+use Rattle.catalogue_rules.specs.Catalogue.{new, most_numbers}
+use Rattle.catalogue_rules.proofs.Laws.Word.{InRange}
+use Rattle.catalogue_steps.specs.Words.{opens, opens_by-kind}
 use Rattle.catalogue_rules.specs.Read.{State, outside, numbered, inside, after, closed, checked, size_rows}
 use Rattle.catalogue_records.specs.declared.Form.{Form}
 use Rattle.catalogue_records.specs.declared.Form.TheVariants.{Old, New}
@@ -14,10 +16,8 @@ use Rattle.catalogue_steps.specs.declared.reading.Phase.{Phase}
 use Rattle.catalogue_steps.specs.declared.reading.Phase.TheVariants.{Outside, Numbered, Inside, After, Closed}
 use Rattle.catalogue_steps.specs.declared.reading.Reading.{Reading}
 use Rattle.catalogue_steps.specs.Parts.{no_part, started, whole, whole_at}
-use Rattle.catalogue_steps.specs.Readings.{is_number, going, stopped, form_read, outside_read, step_read}
+use Rattle.catalogue_steps.specs.Readings.{is_number, Turn, going, goes, stopped, form_read, outside_read, step_read}
 use Rattle.catalogue_steps.specs.States.{reading_of}
-use Rattle.merge_additions.specs.declared.Addition.{Addition}
-use Rattle.merge_additions.specs.Additions.{no_addition, given}
 
 -- ---- the start
 
@@ -29,51 +29,65 @@ start_read n = going Outside n (form_before n) no_part
 
 -- ---- a word
 
--- whether no entry came since, and the kind of the word
-abbrev pub stands_in : Phase → Bool → ℕ → Bool
-stands_in Outside first k = first && eqb k 6
-stands_in Numbered first k = true
-stands_in Inside first k = true
-stands_in After first k = eqb k 5 || eqb k 3
-stands_in Closed first k = false
+-- the mark of a draft or a see word
+abbrev pub is_late : Word → Bool
+is_late (see number) = true
+is_late (draft l) = true
+is_late _ = false
 
-abbrev pub add_read : List ℕ → ℕ → Reading → ℕ → Word → Reading
-add_read numbers n s i w = cond (stands_in s.phase (eqb s.count n) (kind_of w)) (step_read numbers s i w) (stopped 10)
+-- whether no entry came since, and the word
+abbrev pub stands_in : Phase → Bool → Word → Bool
+stands_in Outside first w = first && opens new w
+stands_in Numbered first w = true
+stands_in Inside first w = true
+stands_in After first w = is_late w
+stands_in Closed first w = false
+
+abbrev pub add_read : List ℕ → ℕ → Reading → ℕ → Word → Turn
+add_read numbers n s i w = cond (stands_in s.phase (eqb s.count n) w) (step_read numbers s i w) (stopped 10)
 
 -- the entry that it has made whole
-abbrev pub kept_read : Entry → Reading → Reading → List ℤ → ℕ → Word → Entry
-kept_read e s t l i w = cond (ltb s.count t.count) (whole_at s.part t.form (filled (pos 0) most_numbers (take s.part.filled l)) i w) e
+abbrev pub kept_read : Option Entry → Reading → Reading → List ℤ → ℕ → Word → Option Entry
+kept_read o s t l i w = cond (ltb s.count t.count) (Some (whole_at s.part t.form (filled (pos 0) most_numbers (take s.part.filled l)) i w)) o
 
--- ---- the end, after n entries and i words
+-- ---- the end
 
-abbrev pub last_in : Phase → Entry → Reading → List ℤ → ℕ → ℕ → Addition
-last_in Outside e s l n i = cond (eqb s.count n) (no_addition 10 i) (given e)
-last_in Numbered e s l n i = no_addition 10 i
-last_in Inside e s l n i = no_addition 10 i
-last_in After e s l n i = given (whole s.part s.form (filled (pos 0) most_numbers (take s.part.filled l)) false 0 0)
-last_in Closed e s l n i = no_addition 10 i
+abbrev pub last_in : Phase → Option Entry → Reading → List ℤ → Option Entry
+last_in Outside o s l = o
+last_in After o s l = Some (whole s.part s.form (filled (pos 0) most_numbers (take s.part.filled l)) None)
+last_in _ o s l = None
 
-abbrev pub last_read : Entry → Reading → List ℤ → ℕ → ℕ → Addition
-last_read e s l n i = last_in s.phase e s l n i
+abbrev pub last_read : Option Entry → Reading → List ℤ → Option Entry
+last_read o s l = last_in s.phase o s l
 
 -- ---- a word is judged as the definition judges it
 
-pub stands-shown : (n : ℕ) (s : State) (w : Word) → stands_in (reading_of s).phase (eqb (reading_of s).count n) (kind_of w) ≡ may_stand n s w
-stands-shown n (outside es) w = refl
-stands-shown n (numbered es k p) w = refl
-stands-shown n (inside es h vs v) w = refl
-stands-shown n (after es h vs marked) w = refl
-stands-shown n (closed es) w = refl
+late-shown : (w : Word) → InRange w → is_late w ≡ (eqb (kind_of w) 5 || eqb (kind_of w) 3)
+late-shown (head number d m) r = refl
+late-shown (coordinate l) r = refl
+late-shown (see number) r = refl
+late-shown (end count) r = refl
+late-shown (draft l) r = refl
+late-shown (head_number number) r = refl
+late-shown (head_size high d m) r = refl
+late-shown (other k l) r = sym (ap₂ (λ t u. t || u) (ne_eqb k 5 r.4) (ne_eqb k 3 r.2))
+
+pub stands-shown : (n : ℕ) (s : State) (w : Word) → InRange w → stands_in (reading_of s).phase (eqb (reading_of s).count n) w ≡ may_stand n s w
+stands-shown n (outside es) w r = ap (λ t. eqb (length es) n && t) (opens_by-kind new w r)
+stands-shown n (numbered es k p) w r = refl
+stands-shown n (inside es h vs v) w r = refl
+stands-shown n (after es h vs marked) w r = late-shown w r
+stands-shown n (closed es) w r = refl
 
 -- numbers are looked at where a head may stand, and only those of the entries before
 pub outside-numbers : (ns ms : List ℕ) (s : Reading) (i : ℕ) (w : Word) → take s.count ns ≡ take s.count ms → outside_read ns s i w ≡ outside_read ms s i w
 outside-numbers ns ms s i (head number d m) e =
-    ap (λ l. checked stopped (form_read s Old ++ (size_rows d m ++ ((eqb number 0 || any (is_number number) l, 11) ∷ []))) (going Inside s.count Old (started number d m i))) e
+    ap (λ l. checked stopped (form_read s Old ++ (size_rows d m ++ ((eqb number 0 || any (is_number number) l, 11) ∷ []))) (goes Inside s.count Old (started number d m i))) e
 outside-numbers ns ms s i (coordinate l) e = refl
 outside-numbers ns ms s i (see number) e = refl
 outside-numbers ns ms s i (end count) e = refl
 outside-numbers ns ms s i (draft l) e = refl
 outside-numbers ns ms s i (head_number number) e =
-    ap (λ l. checked stopped (form_read s New ++ ((eqb number 0 || any (is_number number) l, 11) ∷ [])) (going Numbered s.count New (started number 0 0 i))) e
+    ap (λ l. checked stopped (form_read s New ++ ((eqb number 0 || any (is_number number) l, 11) ∷ [])) (goes Numbered s.count New (started number 0 0 i))) e
 outside-numbers ns ms s i (head_size high d m) e = refl
 outside-numbers ns ms s i (other k l) e = refl

@@ -1,27 +1,31 @@
 -- Adding to a merge: what was read after its entries, and what is answered.
-use Rattle.std.specs.Prelude.{◌≡◌, refl, ◌≢◌, List, [], ◌∷◌, ◌++◌, map, ℕ, zero, suc, ◌≤◌, ◌<◌, length, get_or, take}
-use Rattle.std.proofs.Math.Path.{sym, ap, ap₂}
-use Rattle.std.proofs.Common.{◌∙◌, subst, arith, length-append, take-suc}
+use Rattle.std.specs.Prelude.{◌≡◌, refl, List, [], ◌∷◌, ◌++◌, map, ℕ, ◌<◌, length, get_or, take, Ok, Err}
+use Rattle.std.specs.declared.result.Result.{Result}
+use Rattle.std.proofs.Math.Path.{sym, ap}
+use Rattle.std.proofs.Common.{◌∙◌, subst, arith, length-append}
 use Rattle.std.proofs.Math.Bool.{true, false}
-use Rattle.std.proofs.lemmas.List.{map-append}
-use Rattle.integers.specs.All.{All}
+use Rattle.std.proofs.Math.Seq.{get_or-append_seam}
 use Rattle.integers.specs.AllLaws.{all_right}
-use Rattle.catalogue_rules.specs.Catalogue.{Entry, Outcome, refused, accepted, most_entries}
+use Rattle.integers.specs.Filled.{filled}
+use Rattle.integers.specs.FilledLaws.{length-filled}
+use Rattle.catalogue_rules.specs.Catalogue.{Entry, Outcome, most_entries}
 use Rattle.catalogue_rules.specs.Form.{EntryFits, EntryIndependent, placed, past_see, past_mark}
 use Rattle.catalogue_rules.proofs.Laws.Moves.{WhenAccepted}
-use Rattle.catalogue_records.specs.Stored.{no_entry, entry_of}
+use Rattle.refusals.specs.declared.Refused.{Refused}
+use Rattle.catalogue_records.specs.declared.Entry as code
+use Rattle.catalogue_records.specs.EntriesIn.{entry_in}
+use Rattle.catalogue_standing.specs.ReducedEntries.{filled-cut}
 use Rattle.merge_rules.specs.Addition.{addition}
 use Rattle.merge_rules.specs.Merge as rules
 use Rattle.merge_rules.specs.Merge.{said, refused_at, done, added, add_to, add}
-use Rattle.merge_rules.proofs.Laws.Adding.{OneMore, Adds, addition-gives}
+use Rattle.merge_rules.proofs.Laws.Adding.{Adds, addition-gives}
 use Rattle.merge_rules.proofs.Laws.Kept.{made-call}
-use Rattle.merge_additions.specs.declared.Addition.{Addition}
-use Rattle.merge_additions.specs.Additions.{addition_of, Earlier}
-use Rattle.merge_additions.specs.Progress.{behind}
+use Rattle.merge_additions.specs.Additions.{addition_in, EntryStored, Earlier}
+use Rattle.merges.specs.declared.Item.{Item}
 use Rattle.merges.specs.declared.Merge.{Merge}
-use Rattle.merges.specs.Stored.{item_at, items_to, merge_in}
+use Rattle.merges.specs.Stored.{item_in, items_in, merge_in, answer_in}
 use Rattle.merges.specs.IsMerge.{IsMerge}
-use Rattle.merges.specs.Entries.{kept, few, length_in}
+use Rattle.merges.specs.Entries.{room, length_taken, kept, length_in}
 use Rattle.merges.specs.Growing.{Readable, Grown}
 use Rattle.merges.specs.Grown.{grown-merge, grown-is}
 
@@ -31,24 +35,30 @@ numbers-placed : (i : ℕ) (es : List Entry) → map (λ e. e.head.number) (plac
 numbers-placed i [] = refl
 numbers-placed i (e ∷ es) = ap (λ l. e.head.number ∷ l) (numbers-placed (past_see (past_mark i e) e.see) es)
 
-numbers-to : (s : Merge) (n : ℕ) → n ≤ length s.numbers → take n s.numbers ≡ map (λ e. e.head.number) (items_to s n)
-numbers-to s zero h = refl
-numbers-to s (suc n) h =
-    take-suc s.numbers n 0 (omega arith)
-    ∙ ap (λ l. l ++ (get_or s.numbers n 0 ∷ [])) (numbers-to s n (omega arith))
-    ∙ sym (map-append (λ e. e.head.number) (items_to s n) (item_at s n ∷ []))
+-- what is kept of them has their numbers
+numbers-in : (l : List Item) → map (λ i. i.number) l ≡ map (λ e. e.head.number) (map item_in l)
+numbers-in [] = refl
+numbers-in (i ∷ l) = ap (λ ns. i.number ∷ ns) (numbers-in l)
 
-module _ (s : Merge) (p : IsMerge s) where
-  pub earlier : Earlier s.numbers s.count
+module _ (s : Merge) (p : IsMerge s) {numbers : List ℕ} (is : numbers ≡ filled 0 most_entries (map (λ i. i.number) (take s.count s.items))) where
+  pub earlier : Earlier numbers s.count
   earlier = record {
     entries = (merge_in s).entries;
     entered = (kept s p).entered;
     new = (kept s p).new;
     independent = (kept s p).independent;
     counted = sym (length_in s p);
-    long = p.long.numbers;
-    numbered = numbers-to s s.count (omega (arith, few s p, p.long.numbers)) ∙ sym (numbers-placed 0 (items_to s s.count));
+    long = ap length is ∙ length-filled 0 most_entries (map (λ i. i.number) (take s.count s.items));
+    numbered =
+        ap (λ n. take n numbers) (sym (length_taken s (room s p)))
+        ∙ filled-cut 0 (λ i. i.number) (take s.count s.items) (omega (arith, length_taken s (room s p), p.few)) is
+        ∙ numbers-in (take s.count s.items) ∙ sym (numbers-placed 0 (items_in s));
   }
+
+  -- so what was read is read after them
+  pub as_added : (bytes : List ℕ) (r : Result code.Entry Refused) → ((q : Earlier numbers s.count) → addition_in q.entries r ≡ addition q.entries bytes) → addition_in (merge_in s).entries r ≡ addition (merge_in s).entries bytes
+  unfolding earlier
+  as_added bytes r read = read earlier
 
 -- ---- what adding answers
 
@@ -63,68 +73,51 @@ module _ (M : rules.Merge) (bytes : List ℕ) where
 
 -- ---- what was read
 
-refused_as : {a : Addition} (n : ℕ) (o : Outcome) → a ≡ addition_of n o → a.refusal ≢ 0 → o ≡ refused a.refusal a.place
-refused_as n (refused k p) e h = ap₂ refused (sym (ap (λ a. a.refusal) e)) (sym (ap (λ a. a.place) e))
-refused_as n (accepted es) e h = absurd (h (ap (λ a. a.refusal) e))
-
-pub record Accepted (es : List Entry) (o : Outcome) : Type 0 where
-  pub all : List Entry
-  pub is : o ≡ accepted all
-  pub adds : Adds es all
-
-accepted_as : (es : List Entry) {a : Addition} (n : ℕ) (o : Outcome) → a ≡ addition_of n o → a.refusal ≡ 0 → WhenAccepted (Adds es) o → Accepted es o
-accepted_as es n (refused k p) e h w = absurd (w (sym (ap (λ a. a.refusal) e) ∙ h))
-accepted_as es n (accepted fs) e h w = record { all = fs; is = refl; adds = w }
-
-module _ (s : Merge) (p : IsMerge s) (bytes : List ℕ) {a : Addition} (read : (q : Earlier s.numbers s.count) → a ≡ addition_of s.count (addition q.entries bytes)) where
-  abbrev es : List Entry
-  es = (merge_in s).entries
-
-  is : a ≡ addition_of s.count (addition es bytes)
-  unfolding earlier
-  is = read (earlier s p)
-
-  pub refused-read : a.refusal ≢ 0 → addition es bytes ≡ refused a.refusal a.place
-  refused-read h = refused_as s.count (addition es bytes) is h
-
-module _ (s : Merge) (p : IsMerge s) (bytes : List ℕ) {a : Addition} (read : (q : Earlier s.numbers s.count) → a ≡ addition_of s.count (addition q.entries bytes)) (taken : a.refusal ≡ 0) where
+module _ (s : Merge) (p : IsMerge s) (bytes : List ℕ) where
   abbrev before : List Entry
   before = (merge_in s).entries
 
-  more : Accepted before (addition before bytes)
-  more = accepted_as before s.count (addition before bytes) (is s p bytes read) taken (addition-gives before (kept s p).entered bytes)
+  pub refused-said : (r : Refused) → addition_in before (Err r) ≡ addition before bytes → s.closed ≡ false → said (merge_in s) (answer_in (Err r)) ≡ add_to (merge_in s) bytes
+  refused-said r is still = added_as (merge_in s) bytes still (sym is)
 
-  abbrev one : OneMore before more.all
-  one = more.adds.one
+  module _ (e : code.Entry) (is : addition_in before (Ok e) ≡ addition before bytes) (filled : EntryStored (Ok e)) where
+    abbrev all : List Entry
+    all = before ++ (entry_in e ∷ [])
 
-  pub room : s.count < most_entries
-  room =
-      let l = ap length one.is ∙ length-append before (one.entry ∷ []) in
-      omega (arith, l, more.adds.entered.few, length_in s p)
+    adds : Adds before all
+    adds = subst (WhenAccepted (Adds before)) (sym is) (addition-gives before (kept s p).entered bytes)
 
-  pub readable : Readable a.entry
-  readable = record {
-    entry = one.entry;
-    is = ap (λ a. a.entry) (is s p bytes read ∙ ap (addition_of s.count) more.is) ∙ ap (λ n. get_or (map entry_of more.all) n no_entry) (sym (length_in s p)) ∙ sym (behind before more.all one.entry one.is);
-    sound = record {
-      fits = (all_right EntryFits before (one.entry ∷ []) (subst (All EntryFits) one.is more.adds.entered.fits)).0;
-      independent = (all_right EntryIndependent before (one.entry ∷ []) (subst (All EntryIndependent) one.is more.adds.independent)).0;
-    };
-    form = one.form;
-  }
+    pub more : s.count < most_entries
+    more = omega (arith, length-append before (entry_in e ∷ []), adds.entered.few, length_in s p)
 
-  module _ (still : s.closed ≡ false) {r : Merge} (g : Grown s a.entry r) where
-    merged : merge_in r ≡ record { closed = false; entries = placed 0 more.all }
-    unfolding readable
-    merged =
-        ap merge_in g.is
-        ∙ grown-merge s p a.entry readable room g.first g.found
-        ∙ ap₂ (λ b l. record { closed = b; entries = placed 0 l }) still (sym one.is)
+    -- the new entry is that of the definition
+    same : entry_in e ≡ adds.one.entry
+    same =
+        sym (get_or-append_seam before (entry_in e) [] (entry_in e))
+        ∙ ap (λ l. get_or l (length before) (entry_in e)) adds.one.is
+        ∙ get_or-append_seam before adds.one.entry [] (entry_in e)
 
-    pub added-said : said (merge_in r) done ≡ add_to (merge_in s) bytes
-    added-said = ap (λ M. said M done) merged ∙ added_as (merge_in s) bytes still more.is
+    pub readable : Readable e
+    readable = record {
+      is = filled;
+      sound = record {
+        fits = (all_right EntryFits before (entry_in e ∷ []) adds.entered.fits).0;
+        independent = (all_right EntryIndependent before (entry_in e ∷ []) adds.independent).0;
+      };
+      form = ap (λ x. x.head.form) same ∙ adds.one.form;
+    }
 
-    pub added_is : IsMerge r
-    added_is =
-        let made = subst rules.Made (ap (λ r. r.merge) (sym added-said)) (made-call p.made (add bytes)) in
-        subst IsMerge (sym g.is) (grown-is s p a.entry readable room g.first g.found (subst (λ r. rules.Made (merge_in r)) g.is made))
+    module _ (still : s.closed ≡ false) {r : Merge} (g : Grown s e r) where
+      merged : merge_in r ≡ record { closed = false; entries = placed 0 all }
+      merged =
+          ap merge_in g.is
+          ∙ grown-merge s p e readable more g.first g.found
+          ∙ ap (λ b. record { closed = b; entries = placed 0 all }) still
+
+      pub added-said : said (merge_in r) done ≡ add_to (merge_in s) bytes
+      added-said = ap (λ M. said M done) merged ∙ added_as (merge_in s) bytes still (sym is)
+
+      pub added_is : IsMerge r
+      added_is =
+          let made = subst rules.Made (ap (λ r. r.merge) (sym added-said)) (made-call p.made (add bytes)) in
+          subst IsMerge (sym g.is) (grown-is s p e readable more g.first g.found (subst (λ r. rules.Made (merge_in r)) g.is made))

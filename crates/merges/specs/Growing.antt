@@ -11,7 +11,6 @@ use Rattle.lattices.specs.Refusal.{most_size}
 use Rattle.catalogue_rules.specs.Catalogue as definition
 use Rattle.catalogue_rules.specs.Catalogue.{new, coordinates, most_numbers}
 use Rattle.catalogue_rules.proofs.Laws.EntriesAccepted.{all_near}
-use Rattle.catalogue_records.specs.Entries.{entry-back}
 use Rattle.catalogue_records.specs.declared.Entry.{Entry}
 use Rattle.catalogue_records.specs.Stored.{entry_of}
 use Rattle.catalogue_records.specs.EntriesIn.{entry_in}
@@ -20,68 +19,37 @@ use Rattle.fold_rules.proofs.Laws.SameLattice.{Sound}
 use Rattle.catalogue_standing.specs.ReducedEntry.{reduced_entry, same-is, Fair, other-squares}
 use Rattle.catalogue_standing.specs.Places.{First}
 use Rattle.merges.specs.declared.Merge.{Merge}
-use Rattle.merges.specs.Stored.{no_vectors, plain_item, item_at}
-use Rattle.merges.specs.IsMerge.{shortest_of, IsMerge}
+use Rattle.merges.specs.Stored.{item_in, item_of}
+use Rattle.merges.specs.IsMerge.{shortest_of, item_at, IsMerge}
 use Rattle.merges.specs.Entries.{sound-at}
 
 -- entry j is the first of its lattice, and that is the lattice of x
 abbrev pub is_first_of : Merge → definition.Entry → ℕ → Bool
-is_first_of s x j = eqb (get_or s.firsts j 0) j && same_lattice (item_at s j) x
+is_first_of s x j = eqb (item_at s j).first j && same_lattice (item_in (item_at s j)) x
 
 -- an entry as an accepted addition gives it
 pub record Readable (e : Entry) : Type 0 where
-  pub entry : definition.Entry
-  pub is : e ≡ entry_of entry
-  pub sound : Sound entry
-  pub form : entry.head.form ≡ new
+  pub is : e ≡ entry_of (entry_in e)
+  pub sound : Sound (entry_in e)
+  pub form : (entry_in e).head.form ≡ new
 
--- the merge with the row of one entry more
-abbrev pub with_row : Merge → Entry → ℤ → ℕ → Merge
-with_row s e square first = record {
-  closed = s.closed;
-  count = s.count + 1;
-  numbers = set s.numbers s.count e.number;
-  drafts = set s.drafts s.count e.draft;
-  sees = set s.sees s.count e.sees;
-  named = set s.named s.count e.see;
-  vectors = set s.vectors s.count (record { d = e.d; m = e.m; coordinates = e.coordinates });
-  shortest = set s.shortest s.count square;
-  firsts = set s.firsts s.count first;
-}
+-- the merge with one entry more
+abbrev pub with_item : Merge → Entry → ℤ → ℕ → Merge
+with_item s e square first = record { closed = s.closed; count = s.count + 1; items = set s.items s.count (item_of e square first) }
 
 pub record Grown (s : Merge) (e : Entry) (r : Merge) : Type 0 where
   pub first : ℕ
   pub found : First (is_first_of s (entry_in e)) s.count first
-  pub is : r ≡ with_row s e (shortest_of (reduced_entry (entry_in e))) first
-
--- ---- an entry's lattice asks for its vectors only
-
-module _ (s : Merge) (j : ℕ) where
-  abbrev plain : definition.Entry
-  plain = plain_item (get_or s.numbers j 0) (get_or s.vectors j no_vectors)
-
-  pub sound-plain : Sound (item_at s j) → Sound plain
-  sound-plain p = record {
-    fits = record { head = record { number = p.fits.head.number; d = p.fits.head.d; m = p.fits.head.m }; count = p.fits.count; vectors = p.fits.vectors };
-    independent = p.independent;
-  }
-
-  pub plain-same : (x : definition.Entry) → same_lattice (item_at s j) x ≡ same_lattice plain x
-  unfolding same_lattice
-  plain-same x = refl
+  pub is : r ≡ with_item s e (shortest_of (reduced_entry (entry_in e))) first
 
 -- an entry whose lattice has no vector as short is of another lattice
-pub other-square : (s : Merge) → IsMerge s → (j : ℕ) → j < s.count → (x : definition.Entry) → Sound x → (get_or s.shortest j (pos 0) ≢ shortest_of (reduced_entry x)) → same_lattice (item_at s j) x ≡ false
+pub other-square : (s : Merge) → IsMerge s → (j : ℕ) → j < s.count → (x : definition.Entry) → Sound x → (item_at s j).shortest ≢ shortest_of (reduced_entry x) → same_lattice (item_in (item_at s j)) x ≡ false
 other-square s p j h x t differ =
+    let y = item_in (item_at s j) in
     let f = sound-at s p j h in
-    let a : Fair (reduced_entry (item_at s j)) = record { entry = item_at s j; sound = f; is = refl } in
+    let a : Fair (reduced_entry y) = record { entry = y; sound = f; is = refl } in
     let b : Fair (reduced_entry x) = record { entry = x; sound = t; is = refl } in
-    sym (same-is (item_at s j) x f t) ∙ sym (other-squares a b (λ e. differ (p.shortest j h ∙ ap (λ l. get_or l 0 (pos 0)) e)))
-
--- ---- an entry that was read
-
-pub readable-sound : {e : Entry} → Readable e → Sound (entry_in e)
-readable-sound {e} q = subst Sound (sym (ap entry_in q.is ∙ entry-back q.entry q.sound.fits)) q.sound
+    sym (same-is y x f t) ∙ sym (other-squares a b (λ e. differ (p.shortest j h ∙ ap (λ l. get_or l 0 (pos 0)) e)))
 
 -- no coordinate is over 20,000, and zeros follow them
 near-filled : (n : ℕ) (l : List ℤ) → any (λ x. ltb most_size (nat_abs x)) l ≡ false → (i : ℕ) → Within 20000 (nth (filled (pos 0) n l) i)
@@ -94,4 +62,4 @@ near-filled (suc n) (x ∷ l) e (suc i) = near-filled n l (neither (ltb most_siz
 pub coordinates-small : {e : Entry} → Readable e → (i : ℕ) → Within 20000 (nth e.coordinates i)
 coordinates-small {e} q i =
     subst (λ (e : Entry). Within 20000 (nth e.coordinates i)) (sym q.is)
-    (near-filled most_numbers (coordinates q.entry.vectors) (all_near q.entry.head.m q.entry.vectors q.sound.fits.vectors) i)
+    (near-filled most_numbers (coordinates (entry_in e).vectors) (all_near (entry_in e).head.m (entry_in e).vectors q.sound.fits.vectors) i)

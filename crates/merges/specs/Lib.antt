@@ -6,7 +6,6 @@ pub mod Entries
 pub mod Filed
 pub mod Looking
 pub mod Growing
-pub mod Copied
 pub mod Starting
 pub mod Found
 pub mod Grown

@@ -1,39 +1,26 @@
 -- The empty merge.
-use Rattle.std.specs.Prelude.{false, ℕ, pos, replicate}
-use Rattle.std.proofs.Common.{arith}
-use Rattle.std.proofs.lemmas.List.{length-replicate}
+use Rattle.std.specs.Prelude.{false, pos, replicate, None}
+use Rattle.std.proofs.Common.{arith, ◌∙◌}
+use Rattle.std.proofs.lemmas.List.{length-map, length-replicate}
 use Rattle.catalogue_rules.specs.Catalogue.{most_entries, most_numbers}
 use Rattle.catalogue_standing.specs.Places.{firsts-none}
 use Rattle.merge_rules.proofs.Laws.Kept.{made-start}
-use Rattle.merges.specs.declared.Vectors.{Vectors}
+use Rattle.merges.specs.declared.Item.{Item}
 use Rattle.merges.specs.declared.Merge.{Merge}
 use Rattle.merges.specs.IsMerge.{IsMerge}
 
+abbrev pub empty_item : Item
+empty_item = record { number = 0; draft = false; see = None; vectors = record { d = 0; m = 0; coordinates = replicate most_numbers (pos 0) }; shortest = pos 0; first = 0 }
+
 abbrev pub empty_merge : Merge
-empty_merge = record {
-  closed = false;
-  count = 0;
-  numbers = replicate most_entries 0;
-  drafts = replicate most_entries false;
-  sees = replicate most_entries false;
-  named = replicate most_entries 0;
-  vectors = replicate most_entries (record { d = 0; m = 0; coordinates = replicate most_numbers (pos 0) });
-  shortest = replicate most_entries (pos 0);
-  firsts = replicate most_entries 0;
-}
+empty_merge = record { closed = false; count = 0; items = replicate most_entries empty_item }
 
 pub starts : IsMerge empty_merge
 starts = record {
   made = made-start;
-  long = record {
-    numbers = length-replicate {A = ℕ} most_entries 0;
-    drafts = length-replicate most_entries false;
-    sees = length-replicate most_entries false;
-    named = length-replicate {A = ℕ} most_entries 0;
-    vectors = length-replicate {A = Vectors} most_entries (record { d = 0; m = 0; coordinates = replicate most_numbers (pos 0) });
-    shortest = length-replicate most_entries (pos 0);
-  };
-  rows = λ k h. absurd (omega arith);
+  few = omega arith;
+  long = length-replicate {A = Item} most_entries empty_item;
+  zeros = λ k h. absurd (omega arith);
   shortest = λ k h. absurd (omega arith);
-  firsts = firsts-none _ _ (length-replicate {A = ℕ} most_entries 0);
+  firsts = firsts-none _ _ (length-map (replicate most_entries empty_item) (λ i. i.first) ∙ length-replicate {A = Item} most_entries empty_item);
 }

@@ -7,9 +7,9 @@ ghost use Rattle.merge_rules.specs.Merge.{start, add_to, look_in, close_of, file
 ghost use Rattle.fold_rules.specs.Services.{fold_of, list_of};
 ghost use Rattle.separation_rules.specs.Separation.{separate_of};
 ghost use Rattle.separation_answers.specs.Said.{said_by};
-ghost use Rattle.catalogue_records.specs.Catalogues.{catalogue_of, written_of};
-ghost use Rattle.catalogue_rules.specs.Catalogue.{accepted, most_entries};
-ghost use Rattle.catalogue_records.specs.EntriesIn.{entry_in};
+ghost use Rattle.catalogue_records.specs.Catalogues.{catalogue_of};
+ghost use Rattle.catalogue_rules.specs.Catalogue.{most_entries};
+ghost use Rattle.catalogue_records.specs.EntriesIn.{entry_in, output_in};
 ghost use Rattle.fold_rules.proofs.Laws.SameLattice.{Sound};
 ghost use Rattle.lattice_membership.specs.Known.{KnownChoice};
 ghost use Rattle.catalogue_standing.specs.ReducedEntry.{reduced_entry};
@@ -19,10 +19,10 @@ ghost use Rattle.merges.specs.Stored.{merge_in, said_in, answer_in, shut_of};
 ghost use Rattle.merges.specs.IsMerge.{shortest_of, IsMerge};
 ghost use Rattle.merges.specs.Growing.{is_first_of, Readable, Grown};
 
-use catalogue_records::{Catalogue, Entry, Written};
+use catalogue_records::{Catalogue, Entry};
 use catalogue_standing::entry_lattices::lattice_of;
-use catalogue_standing::standing_places::{place_of, stander};
 use lattice_membership::Lattice;
+use refusals::{Refusal, Refused};
 use separation_answers::Separation;
 
 mod looking;
@@ -36,27 +36,30 @@ pub struct Vectors {
     pub coordinates: [i16; catalogue_records::NUMBERS],
 }
 
-// Whether it is closed and how many entries were added; of each its number, whether it is a draft, whether it has a see word and which number that
-// names, its vectors; the squared length of a shortest vector of its lattice, and the place of the first entry of its lattice.
+// What is kept of an entry: its number, whether it is a draft, the number that its see word names, its vectors; the squared length of a shortest
+// vector of its lattice, and the place of the first entry of its lattice.
+#[derive(Clone, Copy)]
+pub struct Item {
+    pub number: u32,
+    pub draft: bool,
+    pub see: Option<u32>,
+    pub vectors: Vectors,
+    pub shortest: i64,
+    pub first: usize,
+}
+
+// Whether it is closed, and the entries that were added: the first count items.
 #[derive(Clone, Copy)]
 pub struct Merge {
     pub closed: bool,
     pub count: usize,
-    pub numbers: [u32; Catalogue::MOST_ENTRIES],
-    pub drafts: [bool; Catalogue::MOST_ENTRIES],
-    pub sees: [bool; Catalogue::MOST_ENTRIES],
-    pub named: [u32; Catalogue::MOST_ENTRIES],
-    pub vectors: [Vectors; Catalogue::MOST_ENTRIES],
-    pub shortest: [i64; Catalogue::MOST_ENTRIES],
-    pub firsts: [usize; Catalogue::MOST_ENTRIES],
+    pub items: [Item; Catalogue::MOST_ENTRIES],
 }
 
-// What a call answers: it was done, a refusal and its place, a standing number that is provisional or final, or that the number is named but was not
-// added yet.
-#[derive(Clone, Copy)]
+// What a call answers: it was done, a standing number that is provisional or final, or that the number is named but was not added yet.
+#[derive(Clone, Copy, PartialEq, Eq)]
 pub enum Answer {
     Done,
-    Refused(u64, usize),
     Provisional(u32),
     Final(u32),
     NotYet,
@@ -66,7 +69,7 @@ pub enum Answer {
 #[derive(Clone, Copy)]
 pub struct Said {
     pub merge: Merge,
-    pub answer: Answer,
+    pub answer: Result<Answer, Refused>,
 }
 
 impl Merge {
@@ -75,21 +78,22 @@ impl Merge {
         ensures merge { IsMerge result }
         ensures result_value { merge_in result ≡ start }
     {
-        let none = Vectors {
-            d: 0,
-            m: 0,
-            coordinates: [0; catalogue_records::NUMBERS],
+        let none = Item {
+            number: 0,
+            draft: false,
+            see: None,
+            vectors: Vectors {
+                d: 0,
+                m: 0,
+                coordinates: [0; catalogue_records::NUMBERS],
+            },
+            shortest: 0,
+            first: 0,
         };
         Merge {
             closed: false,
             count: 0,
-            numbers: [0; Catalogue::MOST_ENTRIES],
-            drafts: [false; Catalogue::MOST_ENTRIES],
-            sees: [false; Catalogue::MOST_ENTRIES],
-            named: [0; Catalogue::MOST_ENTRIES],
-            vectors: [none; Catalogue::MOST_ENTRIES],
-            shortest: [0; Catalogue::MOST_ENTRIES],
-            firsts: [0; Catalogue::MOST_ENTRIES],
+            items: [none; Catalogue::MOST_ENTRIES],
         }
     }
 
@@ -102,41 +106,35 @@ impl Merge {
         if self.closed {
             return Said {
                 merge: self,
-                answer: Answer::Refused(21, 0),
+                answer: Err(looking::CLOSED),
             };
         }
-        let numbers = self.numbers;
-        let a = merge_additions::read_addition(bytes, &numbers, self.count);
-        if a.refusal != 0 {
-            return Said {
+        let numbers = rows::numbers(&self.items[..self.count]);
+        match merge_additions::read_addition(bytes, &numbers, self.count) {
+            Ok(e) => Said {
+                merge: self.with_entry(&e),
+                answer: Ok(Answer::Done),
+            },
+            Err(refused) => Said {
                 merge: self,
-                answer: Answer::Refused(a.refusal, a.place),
-            };
-        }
-        let e = a.entry;
-        Said {
-            merge: self.with_entry(e),
-            answer: Answer::Done,
+                answer: Err(refused),
+            },
         }
     }
 
     // The answer to a lookup, without handing the merge back.
-    pub fn looked(self, number: u32) -> Answer
+    pub fn looked(self, number: u32) -> Result<Answer, Refused>
         requires { IsMerge self }
         ensures { answer_in result ≡ look_in (merge_in self) number }
     {
-        let numbers = self.numbers;
-        let k = place_of(&numbers, self.count, number);
-        if k == self.count {
-            let sees = self.sees;
-            let named = self.named;
-            return looking::missing(self.closed, &sees, &named, self.count, number);
+        let items = &self.items[..self.count];
+        match looking::place_of(items, number) {
+            Some(k) => {
+                let s = looking::stander(items, items[k].first);
+                Ok(looking::found(self.closed, items[s].number))
+            }
+            None => looking::missing(self.closed, items, number),
         }
-        let firsts = self.firsts;
-        let drafts = self.drafts;
-        let f = firsts[k];
-        let s = stander(&firsts, &drafts, self.count, f);
-        looking::found(self.closed, numbers[s])
     }
 
     // The standing number of the entry with this number: provisional while the merge is open. The merge is handed back as it was.
@@ -145,10 +143,9 @@ impl Merge {
         ensures merge { IsMerge result.merge }
         ensures result_value { said_in result ≡ said (merge_in self) (look_in (merge_in self) number) }
     {
-        let answer = self.looked(number);
         Said {
             merge: self,
-            answer: answer,
+            answer: self.looked(number),
         }
     }
 
@@ -161,102 +158,93 @@ impl Merge {
         if self.closed {
             return Said {
                 merge: self,
-                answer: Answer::Refused(21, 0),
+                answer: Err(looking::CLOSED),
             };
         }
-        let lost = catalogue_reader::first_lost(self.catalogue());
-        if lost.found {
+        let c = self.catalogue();
+        if let Some(place) = catalogue_reader::first_lost(c.list()) {
             return Said {
                 merge: self,
-                answer: Answer::Refused(12, lost.at),
+                answer: Err(Refused {
+                    refusal: Refusal::SeesNoEntry,
+                    place,
+                }),
             };
         }
         Said {
             merge: self.shut(),
-            answer: Answer::Done,
+            answer: Ok(Answer::Done),
         }
     }
 
     // The fold of a closed merge, in the new form, written to the lent output.
-    pub fn fold(self, out: &mut [u8]) -> Written
+    pub fn fold(self, out: &mut [u8]) -> Result<usize, Refused>
         requires merge { IsMerge self }
         requires closed_value { self.closed ≡ true }
-        ensures value { result ≡ written_of (fold_of (file_of (merge_in self)) out.old) }
-        ensures out_after { out.new ≡ (fold_of (file_of (merge_in self)) out.old).lent }
+        ensures { output_in result out.new ≡ fold_of (file_of (merge_in self)) out.old }
     {
-        catalogue::fold_read(self.catalogue(), out)
+        let c = self.catalogue();
+        catalogue::fold_read(c.list(), out)
     }
 
     // The listing of a closed merge, written to the lent output.
-    pub fn list(self, out: &mut [u8]) -> Written
+    pub fn list(self, out: &mut [u8]) -> Result<usize, Refused>
         requires merge { IsMerge self }
         requires closed_value { self.closed ≡ true }
-        ensures value { result ≡ written_of (list_of (file_of (merge_in self)) out.old) }
-        ensures out_after { out.new ≡ (list_of (file_of (merge_in self)) out.old).lent }
+        ensures { output_in result out.new ≡ list_of (file_of (merge_in self)) out.old }
     {
-        catalogue_listing::list_read(self.catalogue(), out)
+        let c = self.catalogue();
+        catalogue_listing::list_read(c.list(), out)
     }
 
     // What separates two entries of a closed merge.
-    pub fn separate(self, first: u32, second: u32) -> Separation
+    pub fn separate(self, first: u32, second: u32) -> Result<Separation, Refused>
         requires merge { IsMerge self }
         requires closed_value { self.closed ≡ true }
         ensures { said_by result ≡ separate_of (file_of (merge_in self)) first second }
     {
-        catalogue::separate_read(self.catalogue(), first, second)
+        let c = self.catalogue();
+        catalogue::separate_read(c.list(), first, second)
     }
 
     // Closed, with the same entries.
     fn shut(self) -> Merge
         ensures { result ≡ shut_of self }
     {
-        let mut m = self;
-        m.closed = true;
-        m
+        Merge {
+            closed: true,
+            ..self
+        }
     }
 
     // The catalogue of the entries in the order added, in the new form.
-    fn catalogue(self) -> Catalogue
-        requires { IsMerge self }
-        ensures { result ≡ catalogue_of (accepted (merge_in self).entries) }
+    fn catalogue(&self) -> Catalogue
+        requires { IsMerge self.now }
+        ensures { result ≡ catalogue_of (merge_in self.now).entries }
     {
-        let none = Catalogue::empty();
-        let mut entries = none.entries;
+        let mut c = Catalogue::empty();
         let mut place = 0;
-        for k in 0..self.count {
-            let v = self.vectors[k];
-            let draft = self.drafts[k];
-            let sees = self.sees[k];
-            let past = rows::see_place(place, v.d, v.m, draft);
-            let at = rows::where_seen(sees, past);
-            let e = rows::entry(self.numbers[k], place, v, draft, sees, self.named[k], at);
-            entries[k] = e;
-            place = rows::after(past, sees);
+        for (k, i) in self.items[..self.count].iter().enumerate() {
+            let past = rows::see_place(place, i.vectors.d, i.vectors.m, i.draft);
+            c.entries[k] = rows::entry(i, place, past);
+            place = rows::after(past, i.see);
         }
-        Catalogue {
-            refusal: 0,
-            place: 0,
-            count: self.count,
-            entries: entries,
-        }
+        c.count = self.count;
+        c
     }
 
     // The place of the first entry of the lattice of e, which is l, else the count. Only first entries are compared, and of these only such with a
     // vector as short.
-    fn first_place(self, e: Entry, l: Lattice, square: i64) -> usize
-        requires merge { IsMerge self }
-        requires sound { Sound (entry_in e) }
-        requires lattice_of { LatticeOf (reduced_entry (entry_in e)) l }
-        requires chosen { KnownChoice l }
-        requires square_value { square ≡ shortest_of (reduced_entry (entry_in e)) }
-        ensures { First (is_first_of self (entry_in e)) self.count result }
+    fn first_place(&self, e: &Entry, l: &Lattice, square: i64) -> usize
+        requires merge { IsMerge self.now }
+        requires sound { Sound (entry_in e.now) }
+        requires lattice_of { LatticeOf (reduced_entry (entry_in e.now)) l.now }
+        requires chosen { KnownChoice l.now }
+        requires square_value { square ≡ shortest_of (reduced_entry (entry_in e.now)) }
+        ensures { First (is_first_of self.now (entry_in e.now)) self.now.count result }
     {
-        for j in 0..self.count {
-            let v = self.vectors[j];
-            if self.firsts[j] == j
-                && self.shortest[j] == square
-                && rows::same(self.numbers[j], v, e, l)
-            {
+        for (j, i) in self.items[..self.count].iter().enumerate() {
+            if i.first == j && i.shortest == square && rows::same(i, e, l) {
                 return j;
             }
         }
@@ -264,31 +252,18 @@ impl Merge {
     }
 
     // One entry more, as it was read.
-    fn with_entry(self, e: Entry) -> Merge
+    fn with_entry(self, e: &Entry) -> Merge
         requires merge { IsMerge self }
         requires count_lt_most_entries { self.count < most_entries }
-        requires readable { Readable e }
-        ensures { Grown self e result }
+        requires readable { Readable e.now }
+        ensures { Grown self e.now result }
     {
         let l = lattice_of(e);
-        let squares = l.squares;
-        let square = squares[0];
-        let first = self.first_place(e, l, square);
-        let coordinates = e.coordinates;
-        let k = self.count;
+        let square = l.squares[0];
+        let first = self.first_place(e, &l, square);
         let mut m = self;
-        m.numbers[k] = e.number;
-        m.drafts[k] = e.draft;
-        m.sees[k] = e.sees;
-        m.named[k] = e.see;
-        m.vectors[k] = Vectors {
-            d: e.d,
-            m: e.m,
-            coordinates: rows::narrowed(coordinates),
-        };
-        m.shortest[k] = square;
-        m.firsts[k] = first;
-        m.count = k + 1;
+        m.items[self.count] = rows::item(e, square, first);
+        m.count += 1;
         m
     }
 }

@@ -1,36 +1,62 @@
 // What a lookup answers.
-ghost use Rattle.std.specs.Prelude.{◌≡◌, ◌≤◌, length};
-ghost use Rattle.catalogue_standing.specs.Places.{First};
-ghost use Rattle.merges.specs.Looking.{is_named, Missing, found_as};
+ghost use Rattle.std.specs.Prelude.{◌≡◌, ◌==◌, map, position, ℕ, ◌≤◌, ◌<◌, length, get_or};
+ghost use Rattle.integers.specs.Every.{any};
+ghost use Rattle.catalogue_standing.specs.Standers.{Stander};
+ghost use Rattle.merges.specs.Looking.{names, missing_as, found_as};
 
-use super::Answer;
+use super::{Answer, Item};
+use refusals::{Refusal, Refused};
 
-// The place of the first of count see words that names n, else count.
-fn place_named(sees: &[bool], named: &[u32], count: usize, n: u32) -> usize
-    requires { (count ≤ length sees.now) × (count ≤ length named.now) }
-    ensures { First (is_named sees.now named.now n) count result }
+pub(crate) const CLOSED: Refused = Refused {
+    refusal: Refusal::MergeClosed,
+    place: 0,
+};
+
+// The place of the entry with this number.
+pub(crate) fn place_of(items: &[Item], number: u32) -> Option<usize>
+    ensures { result ≡ position (λ i. i.number == number) items.now }
 {
-    for k in 0..count {
-        if sees[k] && named[k] == n {
-            return k;
+    items.iter().position(|i| i.number == number)
+}
+
+// The place of the standing entry of the lattice whose first entry is at place f: the first of it that is no draft, else the first of all.
+pub(crate) fn stander(items: &[Item], f: usize) -> usize
+    requires by_index { (k : ℕ) → k < length items.now → get_or (map (λ i. i.first) items.now) k 0 ≤ k }
+    requires f_lt_len { f < length items.now }
+    requires f_value { get_or (map (λ i. i.first) items.now) f 0 ≡ f }
+    ensures { Stander (map (λ i. i.first) items.now) (map (λ i. i.draft) items.now) (length items.now) f result }
+{
+    for j in f..items.len() {
+        if items[j].first == f && !items[j].draft {
+            return j;
         }
     }
-    count
+    f
+}
+
+// Whether a see word names n.
+fn is_named(items: &[Item], n: u32) -> bool
+    ensures { result ≡ any (λ i. names n i.see) items.now }
+{
+    for i in items {
+        if i.see == Some(n) {
+            return true;
+        }
+    }
+    false
 }
 
 // A number that no entry has: 'not yet' where a see word of an open merge names it.
-pub(crate) fn missing(closed: bool, sees: &[bool], named: &[u32], count: usize, n: u32) -> Answer
-    requires { (count ≤ length sees.now) × (count ≤ length named.now) }
-    ensures { Missing closed sees.now named.now count n result }
+pub(crate) fn missing(closed: bool, items: &[Item], n: u32) -> Result<Answer, Refused>
+    ensures { result ≡ missing_as closed (any (λ i. names n i.see) items.now) }
 {
-    let k = place_named(sees, named, count, n);
-    if closed {
-        return Answer::Refused(17, 0);
+    if !closed && is_named(items, n) {
+        return Ok(Answer::NotYet);
     }
-    if k == count {
-        return Answer::Refused(17, 0);
-    }
-    Answer::NotYet
+    Err(Refused {
+        refusal: Refusal::NoSuchEntry,
+        place: 0,
+    })
 }
 
 // A standing number: final once the merge is closed.

@@ -1,18 +1,20 @@
-// The vectors of an entry in 16 bits and back, and the places of its words.
-ghost use Rattle.std.specs.Prelude.{◌≡◌, ℕ, ◌≤◌, ◌<◌, length};
+// What is kept of an entry and what it was read as: its vectors in 16 bits and back, and the places of its words.
+ghost use Rattle.std.specs.Prelude.{◌≡◌, map, ℕ, ◌≤◌, length};
+ghost use Rattle.integers.specs.Filled.{filled};
 ghost use Rattle.integers.specs.Size.{Within};
 ghost use Rattle.lattices.specs.Vector.{nth};
-ghost use Rattle.merges.specs.Rows.{see_place_at, where_seen, after_word};
+ghost use Rattle.catalogue_rules.specs.Catalogue.{most_entries};
+ghost use Rattle.merges.specs.Rows.{see_place_at, after_word};
 ghost use Rattle.catalogue_records.specs.EntriesIn.{entry_in};
 ghost use Rattle.fold_rules.specs.Fold.{same_lattice};
 ghost use Rattle.fold_rules.proofs.Laws.SameLattice.{Sound};
 ghost use Rattle.lattice_membership.specs.Known.{KnownChoice};
 ghost use Rattle.catalogue_standing.specs.ReducedEntry.{reduced_entry};
 ghost use Rattle.catalogue_standing.specs.SameLattice.{LatticeOf};
-ghost use Rattle.merges.specs.Stored.{plain_item, entry_from};
+ghost use Rattle.merges.specs.Stored.{named_in, stored_word, item_in, entry_from, item_of};
 
-use super::Vectors;
-use catalogue_records::{Entry, Form, NUMBERS};
+use super::{Item, Vectors};
+use catalogue_records::{Catalogue, Entry, Form, NUMBERS, See};
 use catalogue_standing::standing_entry::same_entry;
 use lattice_membership::Lattice;
 
@@ -24,12 +26,7 @@ fn narrow(x: i64) -> i16
     x as i16
 }
 
-fn wide(x: i16) -> i64
-    ensures { result ≡ x }
-{
-    x as i64
-}
-
+// Number by number, as the library's `map` would hand the array over.
 pub(crate) fn narrowed(numbers: [i64; NUMBERS]) -> [i16; NUMBERS]
     requires { (i : ℕ) → Within 20000 (nth numbers i) }
     ensures { result ≡ numbers }
@@ -46,7 +43,7 @@ pub(crate) fn widened(numbers: [i16; NUMBERS]) -> [i64; NUMBERS]
 {
     let mut out = [0i64; NUMBERS];
     for i in 0..NUMBERS {
-        out[i] = wide(numbers[i]);
+        out[i] = i64::from(numbers[i]);
     }
     out
 }
@@ -59,57 +56,84 @@ pub(crate) fn see_place(place: usize, d: usize, m: usize, draft: bool) -> usize
     place + 2 + d * m + draft as usize
 }
 
-// The place that is stored of a see word, 0 for none.
-pub(crate) fn where_seen(sees: bool, at: usize) -> usize
-    ensures { result ≡ where_seen sees at }
-{
-    if sees {
-        return at;
-    }
-    0
-}
-
 // The index after an entry.
-pub(crate) fn after(at: usize, sees: bool) -> usize
+pub(crate) fn after(at: usize, see: Option<u32>) -> usize
     requires { at ≤ 9600 }
-    ensures { result ≡ after_word at sees }
+    ensures { result ≡ after_word at see }
 {
-    at + sees as usize
+    at + see.is_some() as usize
 }
 
-// An entry of these vectors.
-pub(crate) fn entry(
-    number: u32,
-    place: usize,
-    v: Vectors,
-    draft: bool,
-    sees: bool,
-    see: u32,
-    at: usize,
-) -> Entry
-    ensures { result ≡ entry_from number place v draft sees see at }
+// The number that a see word names.
+fn named(see: Option<See>) -> Option<u32>
+    ensures { result ≡ named_in see }
 {
-    let coordinates = v.coordinates;
+    Some(see?.number)
+}
+
+// The see word that names a number, at this place.
+fn word(see: Option<u32>, place: usize) -> Option<See>
+    ensures { result ≡ stored_word place see }
+{
+    Some(See {
+        number: see?,
+        place,
+    })
+}
+
+// The entry that was kept, its head and its see word being at these places.
+pub(crate) fn entry(i: &Item, place: usize, past: usize) -> Entry
+    ensures { result ≡ entry_from i.now place past }
+{
     Entry {
         form: Form::New,
-        number,
-        d: v.d,
-        m: v.m,
+        number: i.number,
+        d: i.vectors.d,
+        m: i.vectors.m,
         place,
-        draft,
-        sees,
-        see,
-        at,
-        coordinates: widened(coordinates),
+        draft: i.draft,
+        see: word(i.see, past),
+        coordinates: widened(i.vectors.coordinates),
     }
 }
 
-// Whether an entry of these vectors is of the lattice of e, which is given.
-pub(crate) fn same(number: u32, v: Vectors, e: Entry, l: Lattice) -> bool
-    requires sound { (Sound (plain_item number v)) × (Sound (entry_in e)) }
-    requires lattice_of { LatticeOf (reduced_entry (entry_in e)) l }
-    requires chosen { KnownChoice l }
-    ensures { result ≡ same_lattice (plain_item number v) (entry_in e) }
+// What is kept of an entry that was read.
+pub(crate) fn item(e: &Entry, shortest: i64, first: usize) -> Item
+    requires { (i : ℕ) → Within 20000 (nth e.now.coordinates i) }
+    ensures { result ≡ item_of e.now shortest first }
 {
-    same_entry(entry(number, 0, v, false, false, 0, 0), e, l)
+    Item {
+        number: e.number,
+        draft: e.draft,
+        see: named(e.see),
+        vectors: Vectors {
+            d: e.d,
+            m: e.m,
+            coordinates: narrowed(e.coordinates),
+        },
+        shortest,
+        first,
+    }
+}
+
+// The numbers of the entries, then zeros.
+pub(crate) fn numbers(items: &[Item]) -> [u32; Catalogue::MOST_ENTRIES]
+    requires { length items.now ≤ most_entries }
+    ensures { result ≡ filled 0 most_entries (map (λ i. i.number) items.now) }
+{
+    let mut numbers = [0; Catalogue::MOST_ENTRIES];
+    for (k, i) in items.iter().enumerate() {
+        numbers[k] = i.number;
+    }
+    numbers
+}
+
+// Whether an entry that was kept is of the lattice of e, which is given.
+pub(crate) fn same(i: &Item, e: &Entry, l: &Lattice) -> bool
+    requires sound { (Sound (item_in i.now)) × (Sound (entry_in e.now)) }
+    requires lattice_of { LatticeOf (reduced_entry (entry_in e.now)) l.now }
+    requires chosen { KnownChoice l.now }
+    ensures { result ≡ same_lattice (item_in i.now) (entry_in e.now) }
+{
+    same_entry(&entry(i, 0, 0), e, l)
 }

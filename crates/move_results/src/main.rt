@@ -2,6 +2,7 @@
 #![tactic(auto)]
 
 use cli_output::Say;
+use refusals::Refused;
 
 // Writes a blank and n.
 fn field(rt: &(impl Print + Say), n: u64) {
@@ -16,24 +17,33 @@ fn byte(rt: &(impl Print + Say), b: u8) {
 
 // Writes bytes as numbers.
 fn show(rt: &(impl Print + Say), bytes: &[u8]) {
-    for i in 0..bytes.len() {
-        byte(rt, bytes[i]);
+    for b in bytes {
+        byte(rt, *b);
     }
     cli_output::newline(rt);
 }
 
-// Writes which move it was, its refusal and place, and how many bytes it wrote.
-fn said(rt: &(impl Print + Say), name: &[u8], w: catalogue_records::Written) {
-    let _ = rt.write_all(name);
-    field(rt, w.refusal);
-    field(rt, w.place as u64);
-    field(rt, w.length as u64);
+// Writes the refusal and its place, 0 where nothing is refused, and how much came, and ends the line.
+fn outcome(rt: &(impl Print + Say), r: Result<usize, Refused>) {
+    let (number, place, n) = match r {
+        Ok(n) => (0, 0, n),
+        Err(r) => (r.refusal.number(), r.place, 0),
+    };
+    field(rt, number);
+    field(rt, place as u64);
+    field(rt, n as u64);
     cli_output::newline(rt);
+}
+
+// Writes which move it was, its refusal and place, and how many bytes it wrote.
+fn said(rt: &(impl Print + Say), name: &[u8], w: Result<usize, Refused>) {
+    let _ = rt.write_all(name);
+    outcome(rt, w);
 }
 
 // Writes a name, what the move of these words to the new form says, and the output afterwards.
 fn to_new(rt: &(impl Print + Say), name: &[u8], words: &[u32], room: &mut [u8]) {
-    let mut bytes = [0u8; 96];
+    let mut bytes = [0; 96];
     let n = sample_catalogues::store(words, &mut bytes);
     let _ = rt.write_all(name);
     cli_output::newline(rt);
@@ -44,7 +54,7 @@ fn to_new(rt: &(impl Print + Say), name: &[u8], words: &[u32], room: &mut [u8]) 
 
 // The same with the move to the old form.
 fn to_old(rt: &(impl Print + Say), name: &[u8], words: &[u32], room: &mut [u8]) {
-    let mut bytes = [0u8; 96];
+    let mut bytes = [0; 96];
     let n = sample_catalogues::store(words, &mut bytes);
     let _ = rt.write_all(name);
     cli_output::newline(rt);
@@ -510,13 +520,11 @@ fn long_numbers(rt: &(impl Print + Say)) {
 // Writes a name, and whether the first n bytes of an output are these.
 fn compared(rt: &(impl Print + Say), name: &[u8], bytes: &[u8], out: &[u8], n: usize) {
     let _ = rt.write_all(name);
-    if n <= out.len() {
-        if bytes == &out[..n] {
-            let _ = rt.write_all(b": the same\n");
-            return;
-        }
-    }
-    let _ = rt.write_all(b": others\n");
+    let word = match out.get(..n) {
+        Some(first) if first == bytes => b": the same\n".as_slice(),
+        _ => b": others\n",
+    };
+    let _ = rt.write_all(word);
 }
 
 // Moves a catalogue of the old form, and that of the new form with the same words; whether each gives the other's bytes.
@@ -526,11 +534,11 @@ fn both_ways(rt: &(impl Print + Say), name: &[u8], old: &[u8], new: &[u8]) {
     let mut there = [170u8; catalogue_records::Catalogue::MOST_BYTES];
     let w = catalogue::new_form(old, &mut there);
     said(rt, b"new form", w);
-    compared(rt, b"there", new, &there, w.length);
+    compared(rt, b"there", new, &there, w.unwrap_or(0));
     let mut back = [170u8; catalogue_records::Catalogue::MOST_BYTES];
     let v = catalogue::old_form(new, &mut back);
     said(rt, b"old form", v);
-    compared(rt, b"back", old, &back, v.length);
+    compared(rt, b"back", old, &back, v.unwrap_or(0));
 }
 
 // The words of a catalogue of the old form as bytes of both forms.

@@ -1,5 +1,5 @@
 -- The best list of a layer as the search gives it, and what a step by it does.
-use Rattle.std.specs.Prelude.{◌≡◌, refl, true, false, List, [], ◌∷◌, ◌++◌, zero, suc, ◌*◌, ◌≤◌, ℤ, pos, neg_ℤ, nat_abs, ◌+ℤ◌, ◌*ℤ◌, length, get_or, take, replicate}
+use Rattle.std.specs.Prelude.{Some, None, ◌≡◌, refl, true, false, List, [], ◌∷◌, ◌++◌, zero, suc, ◌*◌, ◌≤◌, ℤ, pos, neg_ℤ, nat_abs, ◌+ℤ◌, ◌*ℤ◌, length, get_or, take, replicate}
 use Rattle.std.proofs.Math.Path.{sym, ap, subst}
 use Rattle.std.proofs.Common.{ap₂, ◌∙◌, arith, le_refl, SFits}
 use Rattle.std.proofs.Math.IntN.{+ℤ_idl, +ℤ_idr}
@@ -99,12 +99,12 @@ module _ {g : List (List ℤ)} {r : List ℤ} {j : ℤ} {e s : List ℤ} (b : Be
   pub best_gain : {v : ℤ} → v ≡ neg_ℤ (dot e r +ℤ dot e s) → v ≡ gain_of g r e
   best_gain h = h ∙ sym (gain-by-left g r e b.left)
 
-  pub best_better : (x : List ℤ) → length r ≡ 4 → {v : ℤ} {x' : List ℤ} → v ≡ gain_of g r e → negative (v ∷ e) ≡ true → x' ≡ x ⊕ e → Turned (LayerPassed g r j) g r x s x' v
+  pub best_better : (x : List ℤ) → length r ≡ 4 → {v : ℤ} {x' : List ℤ} → v ≡ gain_of g r e → negative (v ∷ e) ≡ true → x' ≡ x ⊕ e → Turned (LayerPassed g r j) g r x s x' (Some v)
   unfolding improves_of moved-better
-  best_better x l {v} {x'} h n q = subst (λ y. Turned (LayerPassed g r j) g r x s y v) (sym q) (turned-better
+  best_better x l {v} {x'} h n q = subst (λ y. Turned (LayerPassed g r j) g r x s y (Some v)) (sym q) (turned-better
       (moved-better 4 4 g r x e b.long (λ i k. get_or-eq_default e (pos 0) (omega (arith, b.long))) (λ i. within-le (omega arith) (b.small i)) (ap (λ z. negative (z ∷ e)) (sym h) ∙ n) b.left (b.width ∙ sym l)) h)
 
-  pub best_none : (x : List ℤ) {v : ℤ} → v ≡ gain_of g r e → negative (v ∷ e) ≡ false → Turned (LayerPassed g r j) g r x r x (pos 1)
+  pub best_none : (x : List ℤ) {v : ℤ} → v ≡ gain_of g r e → negative (v ∷ e) ≡ false → Turned (LayerPassed g r j) g r x r x None
   unfolding improves_of
   best_none x {v} h n = turned_none g r x (λ F vs t m. layer-none m j (ap (improves_of g r) (sym (b.is F vs t m)) ∙ ap (λ z. negative (z ∷ e)) (sym h) ∙ n))
 

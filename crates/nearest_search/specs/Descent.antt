@@ -1,5 +1,5 @@
 -- The descent through the layers on its way: the steps so far, and the squared length m of what they leave.
-use Rattle.std.specs.Prelude.{◌≡◌, refl, true, false, List, [], ◌∷◌, ℕ, ◌≤◌, ◌<◌, ℤ, pos, ◌+ℤ◌, length, replicate, ◌≤ℤ◌, ◌<ℤ◌}
+use Rattle.std.specs.Prelude.{◌≡◌, refl, true, false, List, [], ◌∷◌, ℕ, ◌≤◌, ◌<◌, ℤ, pos, ◌+ℤ◌, replicate, Option, Some, IsNone}
 use Rattle.std.proofs.Common.{sym, ap, ap₂, ◌∙◌, subst, inl, arith}
 use Rattle.std.proofs.Math.IntN.{+ℤ_assoc, +ℤ_idr}
 use Rattle.integers.specs.Identity.{by_ring, reads}
@@ -10,7 +10,7 @@ use Rattle.lattices.specs.Laws.Vector.{◌≈◌}
 use Rattle.successive_minima.specs.Laws.Digits.{Bounded}
 use Rattle.nearest_steps.specs.Numbers.{moved, gain_of}
 use Rattle.nearest_steps.specs.Link.{gain-residual}
-use Rattle.nearest_steps.specs.Moves.{Moved, moved_none, moved_then, moved-from, moved_length, gains, still-nothing}
+use Rattle.nearest_steps.specs.Moves.{Moved, moved_none, moved_then, moved-from, gains, still-nothing}
 use Rattle.nearest_steps.specs.Stepped.{Descends}
 use Rattle.nearest_steps.specs.State.{measure, small, descends, from-zeros}
 use Rattle.nearest_search.specs.MeantNear.{KnownNear}
@@ -38,11 +38,8 @@ module _ {n : ℤ} {g : List (List ℤ)} {r₀ : List ℤ} (w : KnownNear 4 n g 
     pub descending-within : Within 400000000 m
     descending-within = let k = descending-known in square-within k.near m k.square
 
-    pub descending-long : length x ≡ 4
-    descending-long = moved_length refl s.moves
-
-    pub descending-next : {P : Type 0} {r' x' : List ℤ} {v : ℤ} → Turned P g r x r' x' v → v ≤ℤ pos 0 → Descending n g r₀ r' x' (m +ℤ v)
-    descending-next {P} {r'} {x'} {v} t h = record {
+    pub descending-next : {P : Type 0} {r' x' : List ℤ} {o : Option ℤ} {v : ℤ} → Turned P g r x r' x' o → o ≡ Some v → Descending n g r₀ r' x' (m +ℤ v)
+    descending-next {P} {r'} {x'} {o} {v} t h = record {
       moves = moved_then 4 g r₀ (known w) false (λ e. inl e) refl s.moves p;
       square = ap₂ ◌+ℤ◌ s.square (sym (t.gained h)) ∙ +ℤ_assoc n (gain_of g r₀ x) (gain_of g r p.step) ∙ ap (λ z. n +ℤ z) (sym total);
     }
@@ -54,10 +51,10 @@ module _ {n : ℤ} {g : List (List ℤ)} {r₀ : List ℤ} (w : KnownNear 4 n g 
         total = ap (gain_of g r₀) p.coefficients ∙ gains 4 g r₀ (known w) x p.step
             ∙ ap (λ z. gain_of g r₀ x +ℤ z) (sym (gain-residual g p.step (subst (λ z. r ≈ moved g r₀ z) (from-zeros s.moves) s.moves.left)))
 
-    pub descending-less : {P : Type 0} {r' x' : List ℤ} {v : ℤ} → Turned P g r x r' x' v → v ≤ℤ pos 0 → measure g r₀ x' < measure g r₀ x
+    pub descending-less : {P : Type 0} {r' x' : List ℤ} {o : Option ℤ} {v : ℤ} → Turned P g r x r' x' o → o ≡ Some v → measure g r₀ x' < measure g r₀ x
     descending-less t h = descends (omega arith) (omega arith) (known w) s.moves (t.better h)
 
-    pub descending-end : {r' x' : List ℤ} {v : ℤ} → Turned (AllPassed m g r) g r x r' x' v → pos 0 <ℤ v → Descended n g r₀ r' x'
+    pub descending-end : {r' x' : List ℤ} {o : Option ℤ} → Turned (AllPassed m g r) g r x r' x' o → IsNone o → Descended n g r₀ r' x'
     descending-end {r'} {x'} t h = subst (λ y. Descended n g r₀ y x') (sym (t.same h).0) (subst (λ y. Descended n g r₀ r y) (sym (t.same h).1) (record {
       moves = s.moves;
       none = subst (λ z. AllPassed z g r) s.square (t.none h);

@@ -1,64 +1,42 @@
 -- The rounded solution: rows of the Gram matrix taken away one after the other, what fits on the way, and what the squared length changes by.
-use Rattle.std.specs.Prelude.{◌≡◌, List, [], ◌∷◌, ℕ, zero, suc, ◌+◌, ◌*◌, ◌≤◌, ◌<◌, ℤ, pos, negsuc, nat_abs, ◌+ℤ◌, ◌*ℤ◌, length, get_or, take}
-use Rattle.std.proofs.Common.{sym, ap, ◌∙◌, subst, add-one, arith, length-take, get_or-take}
-use Rattle.std.proofs.Math.Decide.{dec_lt}
-use Rattle.std.proofs.Math.ListN.{get_or-eq_default}
+use Rattle.std.specs.Prelude.{replicate, set, ◌≡◌, List, [], ◌∷◌, ℕ, ◌+◌, ◌*◌, ◌≤◌, ◌<◌, ℤ, pos, negsuc, nat_abs, ◌+ℤ◌, ◌*ℤ◌, length, get_or, take}
+use Rattle.std.proofs.Common.{sym, ap, ◌∙◌, subst, arith}
+use Rattle.std.proofs.Math.Decide.{ℕ_discrete}
+use Rattle.std.proofs.Common.{get_or-set_same, get_or-set_other}
 use Rattle.integers.specs.Identity.{by_ring, reads}
-use Rattle.integers.specs.Size.{Within, within-le, within-add, within-mul, size-sub, size-mul}
-use Rattle.integers.specs.ListLaws.{same, entries, length-⊙}
-use Rattle.lattices.specs.Vector.{nth, dot, comb, ◌⊕◌, ◌⊖◌, ◌⊙◌}
-use Rattle.lattices.specs.Laws.Vector.{◌≈◌, ≈_refl, ≈_trans, ≈_of_≡, ≈_sym, ≈-dot, ≈-⊕, ≈-⊙, nth-≈, comb-nil, comb-dot, ⊖-zero}
-use Rattle.row_operations.specs.Dot.{dot-suc}
-use Rattle.row_operations.specs.Minus.{nth-minus, room}
+use Rattle.integers.specs.Size.{Within, load, within-le, within-add, within-mul, size-mul}
+use Rattle.integers.specs.ListLaws.{same, entries, length-⊙, nth-replicate}
+use Rattle.lattices.specs.Vector.{nth, comb, ◌⊕◌, ◌⊖◌, ◌⊙◌}
+use Rattle.lattices.specs.Laws.Vector.{◌≈◌, ≈_refl, ≈_trans, ≈_of_≡, ≈_sym, ≈-⊕, ≈-⊙}
+use Rattle.row_operations.specs.Loss.{left-size, load-most}
+use Rattle.row_operations.specs.Minus.{room}
 use Rattle.successive_minima.specs.Laws.Digits.{Bounded}
 use Rattle.nearest_steps.specs.Numbers.{moved}
-use Rattle.nearest_steps.specs.Stepped.{left-more}
+use Rattle.nearest_steps.specs.State.{comb-front}
 
--- j rows of t are taken from s₀
-pub record RowsTaken (j : ℕ) (t : List (List ℤ)) (e s₀ s : List ℤ) : Type 0 where
-  pub left : s ≈ moved t s₀ (take j e)
-  pub width : length s ≡ 4
-  pub sizes : (i : ℕ) → nat_abs (nth s i) ≤ nat_abs (nth s₀ i) + j * 13107200000000
+-- what a combination of d rows takes from a place
+pub combination-room : (d : ℕ) (e : List ℤ) (t : List (List ℤ)) (i : ℕ) → d ≤ 4 → Bounded 32768 e → ((i j : ℕ) → Within 400000000 (nth (get_or t i []) j)) → load (take d e) (take d t) i ≤ 52428800000000
+combination-room d e t i h b g = omega (arith, load-most {A = 32768} {B = 400000000} d e t i b (λ k. g k i))
 
-pub rows_none : (t : List (List ℤ)) (e s : List ℤ) → length s ≡ 4 → RowsTaken 0 t e s s
-rows_none t e s l = record { left = ≈_sym (⊖-zero s (comb-nil t)); width = l; sizes = λ i. omega arith }
-
-pub rows_next : {j : ℕ} {t : List (List ℤ)} {e s₀ s s' : List ℤ} → ((i : ℕ) → Within 13107200000000 (nth e j *ℤ nth (get_or t j []) i))
-    → RowsTaken j t e s₀ s → s' ≡ s ⊖ nth e j ⊙ get_or t j [] → length s' ≡ 4 → RowsTaken (j + 1) t e s₀ s'
-rows_next {j} {t} {e} {s₀} {s} {s'} b h p l = subst (λ n. RowsTaken n t e s₀ s') (sym (add-one j)) (record {
-  left = ≈_trans (≈_of_≡ p) (left-more t s₀ e j h.left);
-  width = l;
-  sizes = λ i. subst (λ y. nat_abs (nth y i) ≤ nat_abs (nth s₀ i) + suc j * 13107200000000) (sym p)
-      (subst (λ z. nat_abs z ≤ nat_abs (nth s₀ i) + suc j * 13107200000000) (sym (nth-minus s (nth e j) (get_or t j []) i))
-      (omega (arith, size-sub (nth s i) (nth e j *ℤ nth (get_or t j []) i), h.sizes i, (b i).within)));
-})
-
--- all of them, where the coefficients from j on are 0
-pub rows_all : {j : ℕ} {t : List (List ℤ)} {e s₀ s : List ℤ} → j ≤ 4 → ((i : ℕ) → j ≤ i → nth e i ≡ pos 0) → Bounded 2000000000 s₀ → RowsTaken j t e s₀ s → (s ≈ moved t s₀ e) × ((length s ≡ 4) × Bounded 60000000000000 s)
-rows_all {j} {t} {e} {s₀} {s} h z b r = (
-  ≈_trans r.left (≈-⊕ ≈_refl (≈-⊙ (negsuc 0) (comb-same t (nth-≈ (take j e) e front)))),
-  (r.width, λ i. record { within = omega (arith, r.sizes i, (b i).within) }),
+-- a combination of the first d rows is taken away: what is left, where the coefficients from d on are 0, and its size
+pub combination-left : (d : ℕ) (t : List (List ℤ)) (e r : List ℤ) {s : List ℤ} → d ≤ 4 → ((j : ℕ) → d ≤ j → nth e j ≡ pos 0) → Bounded 32768 e → ((i j : ℕ) → Within 400000000 (nth (get_or t i []) j)) → Bounded 2000000000 r
+    → s ≡ r ⊖ comb (take d e) (take d t) → (s ≈ moved t r e) × Bounded 60000000000000 s
+combination-left d t e r {s} h z b g f p = (
+  ≈_trans (≈_of_≡ p) (≈-⊕ ≈_refl (≈-⊙ (negsuc 0) (≈_sym (comb-front d e t z)))),
+  λ i. subst (Within 60000000000000) (ap (λ l. nth l i) (sym p)) (record { within = omega (arith, left-size e t r d i, combination-room d e t i h b g, (f i).within) }),
 )
+
+-- ---- the rounded solution, number by number
+
+pub rounded-none : (d : ℕ) → Bounded 32768 (replicate 4 (pos 0)) × ((j : ℕ) → d ≤ j → nth (replicate 4 (pos 0)) j ≡ pos 0)
+rounded-none d = (λ i. subst (Within 32768) (sym (nth-replicate 4 i)) (record { within = omega arith }), λ j h. nth-replicate 4 j)
+
+pub rounded-next : (e : List ℤ) (i : ℕ) (v : ℤ) → i < length e → Bounded 32768 e → ((j : ℕ) → i ≤ j → nth e j ≡ pos 0) → Within 32768 v → Bounded 32768 (set e i v) × ((j : ℕ) → i + 1 ≤ j → nth (set e i v) j ≡ pos 0)
+rounded-next e i v h b z w = (λ j. at j (ℕ_discrete j i), λ j l. get_or-set_other e i j v (pos 0) (λ q. omega arith) ∙ z j (omega arith))
   where
-    front : (i : ℕ) → nth (take j e) i ≡ nth e i
-    front i = pick (dec_lt i j)
-      where
-        pick : Dec (i < j) → nth (take j e) i ≡ nth e i
-        pick (yes l) = get_or-take j e i (pos 0) l
-        pick (no l) = get_or-eq_default (take j e) (pos 0) (omega (arith, length-take j e, l)) ∙ sym (z i (omega (arith, l)))
-
-    comb-same : (g : List (List ℤ)) {u v : List ℤ} → u ≈ v → comb u g ≈ comb v g
-    comb-same g {u} {v} p = record { on = λ w. comb-dot u g w ∙ ≈-dot p ≈_refl ∙ sym (comb-dot v g w) }
-
--- ---- an inner product of coefficients with inner products
-
-pub weighed_within : (i : ℕ) (e w : List ℤ) → ((k : ℕ) → Within 2000000000000000000 (nth e k *ℤ nth w k)) → Within (i * 2000000000000000000) (dot (take i e) (take i w))
-unfolding dot
-weighed_within zero e w f = record { within = omega arith }
-weighed_within (suc i) e w f = rw dot-suc (within-le (omega arith) (within-add (weighed_within i e w f) (f i)))
-
-pub weighed_fits : (i : ℕ) (e w : List ℤ) → i ≤ 4 → ((k : ℕ) → Within 2000000000000000000 (nth e k *ℤ nth w k)) → Within 8000000000000000000 (dot (take i e) (take i w))
-weighed_fits i e w h f = within-le (omega arith) (weighed_within i e w f)
+    at : (j : ℕ) → Dec (j ≡ i) → Within 32768 (nth (set e i v) j)
+    at j (yes q) = rw q (subst (Within 32768) (sym (get_or-set_same e i v (pos 0) h)) w)
+    at j (no q) = subst (Within 32768) (sym (get_or-set_other e i j v (pos 0) q)) (b j)
 
 -- ---- the sum of two lists, as what `lose` leaves of one when the other is taken −1 times
 

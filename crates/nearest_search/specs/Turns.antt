@@ -1,10 +1,9 @@
--- What the functions of the walk do: a step to a smaller value, by which the squared length changes by v ≤ 0, or, where v > 0, nothing, and P holds.
-use Rattle.std.specs.Prelude.{◌≡◌, refl, Bool, true, false, ℕ, zero, suc, ◌≤◌, ◌<◌, ℤ, pos, negsuc, nat_abs, ◌+ℤ◌, ◌*ℤ◌, get_or, take, replicate, ◌≤ℤ◌, ◌<ℤ◌}
+-- What the functions of the walk do: a step to a smaller value, by which the squared length changes by v, or nothing, and P holds.
+use Rattle.std.specs.Prelude.{◌≡◌, refl, Bool, true, false, ℕ, zero, suc, ◌≤◌, ◌<◌, ℤ, pos, negsuc, nat_abs, ◌+ℤ◌, ◌*ℤ◌, get_or, take, replicate, Option, Some, None, IsNone}
 use Rattle.std.proofs.Math.Path.{sym, ap, subst}
 use Rattle.std.proofs.Common.{ap₂, ◌∙◌, arith, take_all}
 use mathlib.Core.List.{List, [], ◌∷◌, ◌++◌}
 use Rattle.std.proofs.Math.ListN.{length, length-append, get_or-eq_default}
-use Rattle.std.specs.Int.Signed.{clash_ℤ}
 use Rattle.integers.specs.Lex.{Nonneg}
 use Rattle.lattices.specs.Vector.{Vec, N, nth, comb, ◌⊖◌}
 use Rattle.lattices.specs.Laws.Vector.{◌≈◌, ≈_refl, ≈_trans, ≈_of_≡, ≈-⊕, ≈-⊙}
@@ -23,25 +22,25 @@ use Rattle.nearest_steps.specs.End.{gain-shifted}
 use Rattle.nearest_search.specs.MeantNear.{MeantNear}
 use Rattle.nearest_search.specs.LayerLaws.{Passed, near-moved, square-moved, four_is, last, three}
 
-pub record Turned (P : Type 0) (g : List (List ℤ)) (r x r' x' : List ℤ) (v : ℤ) : Type 0 where
-  pub better : v ≤ℤ pos 0 → Moved 4 4 g r x r' x' true
-  pub gained : (h : v ≤ℤ pos 0) → gain_of g r (better h).step ≡ v
-  pub same : pos 0 <ℤ v → (r' ≡ r) × (x' ≡ x)
-  pub none : pos 0 <ℤ v → P
+pub record Turned (P : Type 0) (g : List (List ℤ)) (r x r' x' : List ℤ) (o : Option ℤ) : Type 0 where
+  pub better : {v : ℤ} → o ≡ Some v → Moved 4 4 g r x r' x' true
+  pub gained : {v : ℤ} (e : o ≡ Some v) → gain_of g r (better e).step ≡ v
+  pub same : IsNone o → (r' ≡ r) × (x' ≡ x)
+  pub none : IsNone o → P
 
-pub turned_none : {P : Type 0} (g : List (List ℤ)) (r x : List ℤ) → P → Turned P g r x r x (pos 1)
-turned_none g r x p = record { better = λ h. absurd h.le; gained = λ h. absurd h.le; same = λ h. (refl, refl); none = λ h. p }
+pub turned_none : {P : Type 0} (g : List (List ℤ)) (r x : List ℤ) → P → Turned P g r x r x None
+turned_none g r x p = record { better = λ e. absurd cc; gained = λ e. absurd cc; same = λ h. (refl, refl); none = λ h. p }
 
-pub turned-better : {P : Type 0} {g : List (List ℤ)} {r x r' x' : List ℤ} {v : ℤ} (m : Moved 4 4 g r x r' x' true) → v ≡ gain_of g r m.step → Turned P g r x r' x' v
+pub turned-better : {P : Type 0} {g : List (List ℤ)} {r x r' x' : List ℤ} {v : ℤ} (m : Moved 4 4 g r x r' x' true) → v ≡ gain_of g r m.step → Turned P g r x r' x' (Some v)
 turned-better {v} m e = record {
-  better = λ h. m;
-  gained = λ h. sym e;
-  same = λ h. clash_ℤ h (subst (λ n. n ≤ℤ pos 0) (sym e) m.shorter);
-  none = λ h. clash_ℤ h (subst (λ n. n ≤ℤ pos 0) (sym e) m.shorter);
+  better = λ q. m;
+  gained = λ q. cc;
+  same = λ h. absurd cc;
+  none = λ h. absurd cc;
 }
 
 -- the same said with another word for what holds where nothing is found
-pub turned-other : {P Q : Type 0} {g : List (List ℤ)} {r x r' x' : List ℤ} {v : ℤ} → (P → Q) → Turned P g r x r' x' v → Turned Q g r x r' x' v
+pub turned-other : {P Q : Type 0} {g : List (List ℤ)} {r x r' x' : List ℤ} {o : Option ℤ} → (P → Q) → Turned P g r x r' x' o → Turned Q g r x r' x' o
 turned-other f t = record { better = t.better; gained = t.gained; same = t.same; none = λ h. f (t.none h) }
 
 -- ---- the start: a step, or none

@@ -1,5 +1,5 @@
 -- A step to a smaller value, or word that no list of the table improves.
-use Rattle.std.specs.Prelude.{◌≡◌, refl, Bool, true, false, List, [], ◌∷◌, T, ℤ, negsuc, nat_abs, ◌+ℤ◌, ◌-ℤ◌, ◌*ℤ◌, length, get_or, set, take}
+use Rattle.std.specs.Prelude.{Option, Some, ◌≡◌, refl, Bool, true, false, List, [], ◌∷◌, T, ℤ, negsuc, nat_abs, ◌+ℤ◌, ◌-ℤ◌, ◌*ℤ◌, length, get_or, set, take}
 use Rattle.std.proofs.Common.{sym, ap, ◌∙◌, subst, arith, add-one, length-take, length-set, get_or-take, get_or-set_same, get_or-set_other}
 use Rattle.std.proofs.Math.Path.{ap₂}
 use Prim.Native.Nat.{ℕ, zero, suc, ◌+◌, ◌*◌, ◌≤◌, ◌<◌}
@@ -57,13 +57,13 @@ module _ (e : List ℤ) (l : length e ≡ 3) where
   added-padded : (x : List ℤ) → length x ≡ 4 → x ⊕ e ≡ x ⊕ padded 4 e
   added-padded x h = same (length-⊕ x e ∙ sym (length-⊕ x (padded 4 e) ∙ omega (arith, h, l, length-padded 4 e))) (λ i. nth-⊕ x e i ∙ ap (λ z. nth x i +ℤ z) (sym (padded-nth i)) ∙ sym (nth-⊕ x (padded 4 e) i))
 
-pub stepped_at : (k : ℕ) → k ≤ 3 → (g : List (List ℤ)) (r x : List ℤ) (p : ℕ) {r' : List ℤ} → length x ≡ 4 → p < 26 → Placed k g r p
+pub stepped_at : (k : ℕ) → k ≤ 3 → (g : List (List ℤ)) (r x : List ℤ) (p : ℕ) {o : Option ℕ} {r' : List ℤ} → length x ≡ 4 → p < 26 → o ≡ Some p → Placed k g r o
     → r' ≈ moved g r (get_or steps p []) → length r' ≡ length r → Stepped k g r x r' (x ⊕ get_or steps p []) true
-stepped_at k few g r x p {r'} m h s q v = record {
+stepped_at k few g r x p {o} {r'} m h z s q v = record {
   moves = subst (λ y. Moved 4 k g r x r' y true) (sym (added-padded e l x m))
-      (moved-better 4 k g r x (padded 4 e) (length-padded 4 e) (λ j n. padded-nth e l j ∙ steps-behind k few p (s.hit h).0 j n)
+      (moved-better 4 k g r x (padded 4 e) (length-padded 4 e) (λ j n. padded-nth e l j ∙ steps-behind k few p (s.hit z).0 j n)
       (λ j. within-le {B = 5000000000} (omega arith) (subst (Within 1) (sym (padded-nth e l j)) (steps-bounded p j)))
-      (improves-padded e l g r ∙ (s.hit h).1) (≈_trans q (≈-⊕ ≈_refl (≈-⊙ (negsuc 0) (≈_sym (padded-comb e l g))))) v);
+      (improves-padded e l g r ∙ (s.hit z).1) (≈_trans q (≈-⊕ ≈_refl (≈-⊙ (negsuc 0) (≈_sym (padded-comb e l g))))) v);
   none = λ e. absurd (subst T e tt);
 }
   where

@@ -3,7 +3,7 @@
 // is left of the target, and x the coefficients taken so far.
 #![tactic(auto)]
 
-ghost use Rattle.std.specs.Prelude.{◌≡◌, [], ℕ, ◌+◌, ◌≤◌, ◌<◌, pos, nat_abs, ◌+ℤ◌, ◌-ℤ◌, ◌*ℤ◌, length, get_or, set, ◌<ℤ◌};
+ghost use Rattle.std.specs.Prelude.{◌≡◌, [], ℕ, ◌+◌, ◌≤◌, ◌<◌, pos, nat_abs, ◌+ℤ◌, ◌-ℤ◌, ◌*ℤ◌, get_or, set, ◌<ℤ◌};
 ghost use Rattle.integers.specs.Size.{Within};
 ghost use Rattle.lattices.specs.Vector.{nth, ◌⊕◌, ◌⊖◌, ◌⊙◌};
 ghost use Rattle.lattices.specs.Laws.Vector.{◌≈◌};
@@ -15,6 +15,8 @@ ghost use Rattle.nearest_steps.specs.Multiples.{Still};
 ghost use Rattle.nearest_steps.specs.Stepped.{Stepped, Descends};
 
 mod table;
+
+use row_operations::{Table, lose};
 
 // The multiple of a vector nearest to what is left, of two equally near the smaller: n is the vector's squared length, p its inner product with
 // what is left.
@@ -35,63 +37,37 @@ fn multiple(n: i64, p: i64) -> i64
     0
 }
 
-// r loses q times a row.
-pub fn lose(r: &mut [i64; 4], q: i64, row: [i64; 4])
-    requires r_len { length r.old ≡ 4 }
-    requires by_index { (i : ℕ) → nat_abs (nth r.old i) + nat_abs (q *ℤ nth row i) ≤ room }
-    ensures r_after { r.new ≡ r.old ⊖ q ⊙ row }
-    ensures r_len_2 { length r.new ≡ 4 }
-{
-    for i in 0..4 {
-        r[i] -= q * row[i];
-    }
-}
-
 // q times vector i is taken away.
-fn take_multiple(g: &[[i64; 4]; 4], i: usize, q: i64, r: &mut [i64; 4], x: &mut [i64; 4])
+fn take_multiple(g: &Table, i: usize, q: i64, r: &mut [i64; 4], x: &mut [i64; 4])
     requires i_bound { i < 3 }
-    requires g_len { length g.now ≡ 4 }
-    requires r_len { length r.old ≡ 4 }
-    requires x_len { length x.old ≡ 4 }
     requires q_bound { nat_abs (nth x.old i) + nat_abs q ≤ room }
     requires by_index { (j : ℕ) → nat_abs (nth r.old j) + nat_abs (q *ℤ nth (get_or g.now i []) j) ≤ room }
     ensures r_after { r.new ≡ r.old ⊖ q ⊙ get_or g.now i [] }
-    ensures r_len_2 { length r.new ≡ 4 }
     ensures x_after { x.new ≡ set x.old i (nth x.old i +ℤ q) }
 {
     x[i] += q;
-    lose(r, q, g[i]);
+    lose(r, q, &g[i]);
 }
 
 // One vector, where the text calls its step trivial: the nearest multiple is taken away.
-pub fn along(g: &[[i64; 4]; 4], r: &mut [i64; 4], x: &mut [i64; 4])
-    requires g_len { length g.now ≡ 4 }
-    requires r_len { length r.old ≡ 4 }
-    requires x_len { length x.old ≡ 4 }
+pub fn along(g: &Table, r: &mut [i64; 4], x: &mut [i64; 4])
     requires known { Known 1 g.now r.old }
     requires bounded { Bounded 30000000 x.old }
     ensures { Descends 1 g.now r.old x.old r.new x.new }
 {
-    let row = g[0];
-    let q = multiple(row[0], r[0]);
-    if q == 0 {
-        return;
+    let q = multiple(g[0][0], r[0]);
+    if q != 0 {
+        take_multiple(g, 0, q, r, x);
     }
-    x[0] += q;
-    lose(r, q, row);
 }
 
 // The combination e of the first three vectors is taken away: what is left of the inner products, by the formula of section 5.
-fn take_list(g: &[[i64; 4]; 4], e: [i64; 3], r: &mut [i64; 4], x: &mut [i64; 4])
-    requires g_len { length g.now ≡ 4 }
-    requires r_len { length r.old ≡ 4 }
-    requires x_len { length x.old ≡ 4 }
+fn take_list(g: &Table, e: &[i64; 3], r: &mut [i64; 4], x: &mut [i64; 4])
     requires sized { Sized g.now r.old }
     requires bounded { Bounded 20000000000 x.old }
-    requires bounded_2 { Bounded 1 e }
-    ensures x_after { x.new ≡ x.old ⊕ e }
-    ensures new { r.new ≈ moved g.now r.old e }
-    ensures r_len_2 { length r.new ≡ 4 }
+    requires bounded_2 { Bounded 1 e.now }
+    ensures x_after { x.new ≡ x.old ⊕ e.now }
+    ensures new { r.new ≈ moved g.now r.old e.now }
 {
     for j in 0..3 {
         take_multiple(g, j, e[j], r, x);
@@ -99,38 +75,26 @@ fn take_list(g: &[[i64; 4]; 4], e: [i64; 3], r: &mut [i64; 4], x: &mut [i64; 4])
 }
 
 // A step of the table to a smaller value. Whether there was one.
-fn step(g: &[[i64; 4]; 4], k: usize, r: &mut [i64; 4], x: &mut [i64; 4]) -> bool
+fn step(g: &Table, k: usize, r: &mut [i64; 4], x: &mut [i64; 4]) -> bool
     requires k_bound { k ≤ 3 }
-    requires g_len { length g.now ≡ 4 }
-    requires r_len { length r.old ≡ 4 }
-    requires x_len { length x.old ≡ 4 }
     requires known { Known k g.now r.old }
     requires bounded { Bounded 20000000000 x.old }
     ensures { Stepped k g.now r.old x.old r.new x.new result }
 {
-    let at = table::place(g, k, r);
-    if at == 26 {
+    let Some(at) = table::place(g, k, r) else {
         return false;
-    }
-    let lists = table::LISTS;
-    take_list(g, lists[at], r, x);
+    };
+    take_list(g, &table::LISTS[at], r, x);
     true
 }
 
 // The exhaustive search around x among the first k of four vectors, from numbers alone: g is the Gram matrix of the four, r holds their inner products
 // with what x leaves of the target. Steps of the table to a smaller value, until there is none: then x is nearest.
-pub fn descend(g: &[[i64; 4]; 4], k: usize, r: &mut [i64; 4], x: &mut [i64; 4])
+pub fn descend(g: &Table, k: usize, r: &mut [i64; 4], x: &mut [i64; 4])
     requires k_bound { k ≤ 3 }
-    requires g_len { length g.now ≡ 4 }
-    requires r_len { length r.old ≡ 4 }
-    requires x_len { length x.old ≡ 4 }
     requires known { Known k g.now r.old }
     requires bounded { Bounded 30000000 x.old }
     ensures { Descends k g.now r.old x.old r.new x.new }
 {
-    loop {
-        if !step(g, k, r, x) {
-            return;
-        }
-    }
+    while step(g, k, r, x) {}
 }

@@ -1,11 +1,13 @@
 // The walk over the table of the lists with entries −1, 0, 1. A list and its opposite are tested by two numbers: the square of the list, what its
 // vector's squared length is, and its sum, twice its vector's inner product with what is left. Both are had by additions.
-ghost use Rattle.std.specs.Prelude.{◌≡◌, ◌≤◌, length};
+ghost use Rattle.std.specs.Prelude.{◌≡◌, ◌≤◌};
 ghost use Rattle.integers.specs.Size.{Within};
 ghost use Rattle.successive_minima.specs.Laws.Digits.{Bounded};
 ghost use Rattle.nearest_steps.specs.Meant.{Known};
 ghost use Rattle.nearest_steps.specs.Pairs.{squares_of, sums_of};
 ghost use Rattle.nearest_steps.specs.Places.{Walked, Placed};
+
+use row_operations::Table;
 
 // The lists with entries −1, 0, 1, not all 0, each before its opposite: the first 1, 4 and 13 pairs are those of 1, 2 and 3 vectors.
 pub const LISTS: [[i64; 3]; 26] = [
@@ -98,8 +100,8 @@ fn squares(a: i64, b: i64, c: i64, d: i64, e: i64, f: i64) -> [i64; 13]
     ]
 }
 
-// The place of the first list that improves, by the squares q and the sums l of the first n pairs, 26 for none.
-fn walk(q: [i64; 13], l: [i64; 13], n: usize) -> usize
+// The place of the first list that improves, by the squares q and the sums l of the first n pairs.
+fn walk(q: [i64; 13], l: [i64; 13], n: usize) -> Option<usize>
     requires n_bound { n ≤ 13 }
     requires bounded { Bounded 20000000000 q }
     ensures { Walked n q l result }
@@ -108,37 +110,29 @@ fn walk(q: [i64; 13], l: [i64; 13], n: usize) -> usize
         let a = q[i];
         let b = l[i];
         if a < b {
-            return 2 * i;
+            return Some(2 * i);
         }
         if b <= -a {
-            return 2 * i + 1;
+            return Some(2 * i + 1);
         }
     }
-    26
+    None
 }
 
-// The place of the first list of the table that improves, 26 for none.
-pub fn place(g: &[[i64; 4]; 4], k: usize, r: &[i64; 4]) -> usize
+// The place of the first list of the table that improves.
+pub fn place(g: &Table, k: usize, r: &[i64; 4]) -> Option<usize>
     requires k_bound { k ≤ 3 }
-    requires g_len { length g.now ≡ 4 }
-    requires r_len { length r.now ≡ 4 }
     requires known { Known k g.now r.now }
     ensures { Placed k g.now r.now result }
 {
     let l = sums(2 * r[0], 2 * r[1], 2 * r[2]);
-    let u = g[0];
-    let v = g[1];
-    let w = g[2];
+    let [u, v, w, _] = g;
     let q = squares(u[0], 2 * u[1], 2 * u[2], v[1], 2 * v[2], w[2]);
     // a number of pairs that the compiler sees
-    if k == 3 {
-        return walk(q, l, 13);
+    match k {
+        3 => walk(q, l, 13),
+        2 => walk(q, l, 4),
+        1 => walk(q, l, 1),
+        _ => None,
     }
-    if k == 2 {
-        return walk(q, l, 4);
-    }
-    if k == 1 {
-        return walk(q, l, 1);
-    }
-    26
 }

@@ -9,8 +9,9 @@ ghost use Rattle.successive_minima.specs.Member.{squared_to};
 ghost use Rattle.lattice_membership.specs.Known.{Known, KnownChoice, left_in, vectors_in};
 ghost use Rattle.reduced_lattices.specs.Left.{left_of};
 
+use gram_matrix::Work;
 use lattice_membership::Lattice;
-use row_operations::Vector;
+use row_operations::{Vector, dot};
 
 // The lattice of numbers that no refusal applies to: reduced, once, and made ready for membership.
 pub fn lattice(numbers: &[i64], d: usize, m: usize) -> Lattice
@@ -19,34 +20,30 @@ pub fn lattice(numbers: &[i64], d: usize, m: usize) -> Lattice
     ensures chosen { KnownChoice result }
     ensures result_value { left_in result ≡ left_of (record { numbers = numbers.entry.now; d = d; m = m; target = [] }) }
 {
-    let b = input_checks::basis(numbers, d, m);
-    let mut g = [[0; 4]; 4];
-    gram_matrix::formed(&b, d, &mut g);
+    let vectors = input_checks::basis(numbers, d, m);
+    let mut g = gram_matrix::formed(&vectors, d);
     let e = row_operations::unit_table(d);
-    let w = greedy_steps::reduce_first(&mut g, b, e, e, d, 0);
-    let vectors = w.vectors;
-    lattice_membership::lattice_of(
-        row_operations::vectors_of(vectors),
+    let w = greedy_steps::reduce_first(
+        &mut g,
+        Work {
+            vectors,
+            u: e,
+            v: e,
+            passes: 0,
+        },
         d,
-        m,
-        gram_matrix::diagonal(&g),
-        w.passes,
-    )
+    );
+    lattice_membership::lattice_of(w.vectors, d, m, gram_matrix::diagonal(&g), w.passes)
 }
 
 // The squared distance from t to the lattice, by the search for the nearest vector on the Gram matrix of its vectors.
-pub fn squared_to(l: Lattice, t: Vector) -> i64
-    requires known { Known l }
-    requires t_bound { N t ≤ℤ pos 400000000 }
-    ensures { result ≡ squared_to (vectors_in l) t }
+pub fn squared_to(l: &Lattice, t: &Vector) -> i64
+    requires known { Known l.now }
+    requires t_bound { N t.now ≤ℤ pos 400000000 }
+    ensures { result ≡ squared_to (vectors_in l.now) t.now }
 {
-    let vectors = l.vectors;
-    let b = row_operations::vectors_of(vectors);
-    let mut g = [[0; 4]; 4];
-    gram_matrix::formed(&b, l.d, &mut g);
-    let mut rest = t;
-    let mut tenths = [0; 4];
-    let n = row_operations::dot(t, t);
-    nearest_vectors::lose_nearest(&g, &b, l.d, n, &mut rest, &mut tenths);
-    row_operations::dot(rest, rest)
+    let g = gram_matrix::formed(&l.vectors, l.d);
+    let mut rest = *t;
+    nearest_vectors::lose_nearest(&g, &l.vectors, l.d, dot(t, t), &mut rest);
+    dot(&rest, &rest)
 }

@@ -3,6 +3,5 @@ pub mod RowStructs
 pub mod Rows
 pub mod Dot
 pub mod Front
-pub mod Packing
 pub mod Minus
 pub mod Loss

@@ -1,9 +1,9 @@
 -- A row that loses a combination of other rows, one multiple after the other.
-use Rattle.std.specs.Prelude.{◌≡◌, refl, List, [], ◌∷◌, ℕ, zero, suc, ◌+◌, ◌≤◌, ◌<◌, ℤ, pos, negsuc, nat_abs, ◌*ℤ◌, length, get_or, take}
+use Rattle.std.specs.Prelude.{◌≡◌, refl, List, [], ◌∷◌, ℕ, zero, suc, ◌+◌, ◌*◌, ◌≤◌, ◌<◌, ℤ, pos, negsuc, nat_abs, ◌*ℤ◌, length, get_or, take}
 use Rattle.std.proofs.Common.{sym, ap, ap₂, ◌∙◌, arith}
 use Rattle.std.proofs.Math.IntN.{+ℤ_assoc, *ℤ-zero, zero-*ℤ}
 use Rattle.integers.specs.Ring.{*ℤ-+ℤ, negsuc-zero-*ℤ}
-use Rattle.integers.specs.Size.{load, size-add, size-sub}
+use Rattle.integers.specs.Size.{Within, within-mul, load, size-add, size-sub}
 use Rattle.integers.specs.ListLaws.{entries}
 use Rattle.integers.specs.Identity.{by_ring, reads}
 use Rattle.lattices.specs.Vector.{nth, comb, ◌⊕◌, ◌⊙◌, ◌⊖◌}
@@ -50,7 +50,7 @@ comb-suc (suc j) (y ∷ x) (r ∷ t) h k =
 
 -- ---- sizes
 
-size-comb : (x : List ℤ) (t : List (List ℤ)) (i : ℕ) → nat_abs (nth (comb x t) i) ≤ load x t i
+pub size-comb : (x : List ℤ) (t : List (List ℤ)) (i : ℕ) → nat_abs (nth (comb x t) i) ≤ load x t i
 unfolding comb load
 size-comb [] t i = omega arith
 size-comb (y ∷ x) [] i = omega arith
@@ -82,3 +82,14 @@ module _ (x : List ℤ) (t : List (List ℤ)) (a : List ℤ) where
   pub left-room : (k j i : ℕ) → j < k → nat_abs (nth (left j) i) + nat_abs (nth x j *ℤ nth (get_or t j []) i) ≤ nat_abs (nth a i) + load (take k x) (take k t) i
   left-room k j i h =
       simp (entries, negsuc-zero-*ℤ) (omega (arith, size-sub (nth a i) (nth (comb (take j x) (take j t)) i), size-comb (take j x) (take j t) i, load_below j k x t i h))
+
+  pub left-size : (j i : ℕ) → nat_abs (nth (left j) i) ≤ nat_abs (nth a i) + load (take j x) (take j t) i
+  left-size j i = simp (entries, negsuc-zero-*ℤ) (omega (arith, size-sub (nth a i) (nth (comb (take j x) (take j t)) i), size-comb (take j x) (take j t) i))
+
+-- d products of bounded size
+pub load-most : {A B : ℕ} (d : ℕ) (x : List ℤ) (t : List (List ℤ)) (i : ℕ) → ((k : ℕ) → Within A (nth x k)) → ((k : ℕ) → Within B (nth (get_or t k []) i)) → load (take d x) (take d t) i ≤ d * (A * B)
+unfolding load
+load-most zero x t i f g = omega arith
+load-most (suc d) [] t i f g = omega arith
+load-most (suc d) (y ∷ x) [] i f g = omega arith
+load-most (suc d) (y ∷ x) (r ∷ t) i f g = omega (arith, (within-mul (f 0) (g 0)).within, load-most d x t i (λ k. f (suc k)) (λ k. g (suc k)))

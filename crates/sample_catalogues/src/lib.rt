@@ -12,10 +12,7 @@ fn put(bytes: &mut [u8], n: usize, w: u32) -> usize
     if bytes.len() - n < 4 {
         return n;
     }
-    bytes[n] = (w % 256) as u8;
-    bytes[n + 1] = (w / 256 % 256) as u8;
-    bytes[n + 2] = (w / 65536 % 256) as u8;
-    bytes[n + 3] = (w / 16777216) as u8;
+    bytes[n..n + 4].copy_from_slice(&w.to_le_bytes());
     n + 4
 }
 
@@ -24,8 +21,8 @@ pub fn store(words: &[u32], bytes: &mut [u8]) -> usize
     ensures { IsPrefixLen result bytes.new }
 {
     let mut n = 0;
-    for i in 0..words.len() {
-        n = put(bytes, n, words[i]);
+    for w in words {
+        n = put(bytes, n, *w);
     }
     n
 }
@@ -48,8 +45,8 @@ fn entry(words: &mut [u32], at: usize, number: u32, shape: u32, rest: &[u32]) ->
     ensures { result ≤ length words.old }
 {
     let mut n = push(words, at, 268435456 + number % 1048576 * 256 + shape % 256);
-    for k in 0..rest.len() {
-        n = push(words, n, rest[k]);
+    for w in rest {
+        n = push(words, n, *w);
     }
     n
 }
@@ -102,8 +99,8 @@ pub fn in_new_form(old: &[u32], words: &mut [u32]) -> usize
     ensures { IsPrefixLen result words.new }
 {
     let mut n = 0;
-    for i in 0..old.len() {
-        n = push_new(words, n, old[i]);
+    for w in old {
+        n = push_new(words, n, *w);
     }
     n
 }

@@ -10,9 +10,11 @@ fn told(rt: &(impl Print + Say), bytes: &[u8], first: u32, second: u32) {
     let _ = rt.write_all(b" ");
     cli_output::number(rt, second as u64);
     let _ = rt.write_all(b": ");
-    let mut text = [0u8; 64];
-    let s = catalogue::separate(bytes, first, second);
-    let n = cli_answers::separations::put_separation(&mut text, 0, s);
+    let mut text = [0; 64];
+    let n = match catalogue::separate(bytes, first, second) {
+        Ok(s) => cli_answers::separations::put_separation(&mut text, 0, s),
+        Err(r) => cli_answers::put_refused(&mut text, 0, r),
+    };
     let _ = rt.write_all(&text[..n]);
 }
 

@@ -1,15 +1,15 @@
 -- The division that rounds parts to tenths, and lists of four numbers.
-use Rattle.std.specs.Prelude.{◌≡◌, refl, List, [], ◌∷◌, ℕ, zero, suc, ◌-◌, ◌/◌, ◌%◌, ◌^◌, ◌≤◌, ◌<◌, T, ltb, ℤ, pos, negsuc, nat_abs, ◌+ℤ◌, ◌-ℤ◌, ◌*ℤ◌, length, get_or, take, ◌≤ℤ◌}
+use Rattle.std.specs.Prelude.{◌≡◌, refl, List, [], ◌∷◌, ℕ, zero, suc, ◌-◌, ◌/◌, ◌%◌, ◌^◌, ◌≤◌, ◌<◌, T, ltb, ℤ, pos, negsuc, nat_abs, ◌+ℤ◌, ◌-ℤ◌, ◌*ℤ◌, length, get_or, ◌≤ℤ◌}
 use Rattle.std.proofs.Common.{sym, ap, ap₂, ◌∙◌, subst, div-add-mod', mod-lt, le_refl, arith, SFits, to_z, of_z, to_z-of_z}
 use Rattle.std.proofs.Math.ListN.{get_or-eq_default}
 use Rattle.std.specs.Int.{w64}
 use Rattle.integers.specs.Identity.{by_ring, reads}
 use Rattle.integers.specs.Certificate.{NN, ◌⊞◌, ◌⊠◌, nn-pos, nn_ring, le, eq}
 use Rattle.integers.specs.Order.{≤ℤ_of_gap}
-use Rattle.integers.specs.Size.{Within, within-le, within-add, within-mul, within-lower, fits-within}
+use Rattle.integers.specs.Size.{Within, within-add, within-mul, within-lower, fits-within}
 use Rattle.lattices.specs.Vector.{nth, dot}
 use Rattle.lattices.specs.Laws.Vector.{dot-nil, dot_comm, zero-dot}
-use Rattle.row_operations.specs.Dot.{dot-within, DotTurn}
+use Rattle.row_operations.specs.Dot.{weight, weight-entries, dot-weight}
 use Rattle.successive_minima.specs.Laws.Digits.{Bounded}
 use Rattle.solutions.specs.Laws.Settled.{Between, between-≡}
 
@@ -77,17 +77,12 @@ four P p q r s f (suc (suc (suc (suc i)))) = f (suc (suc (suc (suc i)))) (omega 
 
 -- ---- the inner product of parts with a row
 
-pub weighed_within : (i : ℕ) (z row : List ℤ) → i ≤ 4 → Bounded 1048576 z → Bounded 400000000 row → Within 2000000000000000 (dot (take i z) (take i row))
-weighed_within i z row h f g = within-le (omega arith) (dot-within i z row f g)
+-- the parts are light against a row of G
+pub parts_light : (z row : List ℤ) → length z ≤ 4 → Bounded 1048576 z → Bounded 400000000 row → weight z row ≤ 2000000000000000
+parts_light z row l f g = omega (arith, weight-entries {A = 1048576} {B = 400000000} 4 z row l f g)
 
-pub weighed_turn : (z row : List ℤ) → Bounded 1048576 z → Bounded 400000000 row → (i : ℕ) → i ≤ 4 → DotTurn z row i
-weighed_turn z row f g i h = record {
-  left = fits-within (f i) tt;
-  right = fits-within (g i) tt;
-  product = fits-within (within-mul (f i) (g i)) tt;
-  sum = fits-within (weighed_within i z row h f g) tt;
-  next = fits-within (within-add (weighed_within i z row h f g) (within-mul (f i) (g i))) tt;
-}
+pub parts_within : (z row : List ℤ) → length z ≤ 4 → Bounded 1048576 z → Bounded 400000000 row → {n : ℤ} → n ≡ dot z row → Within 2000000000000000 n
+parts_within z row l f g e = rw e (record { within = omega (arith, dot-weight z row, parts_light z row l f g) })
 
 pub product-behind : (g : List (List ℤ)) (r z : List ℤ) → length g ≡ 4 → length r ≡ 4 → (i : ℕ) → 4 ≤ i → pos 0 ≡ pos 8192 *ℤ nth r i -ℤ dot z (get_or g i [])
 product-behind g r z e f i h = sym (ap₂ (λ a b. pos 8192 *ℤ a -ℤ b) (get_or-eq_default r (pos 0) (omega arith)) (ap (dot z) (get_or-eq_default g [] (omega arith)) ∙ dot-nil z))

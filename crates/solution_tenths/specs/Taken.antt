@@ -1,6 +1,6 @@
 -- Parts z of reduced vectors bs are taken from a vector u; h holds the inner products of the vectors with what they leave. Sizes, steps to a
 -- shorter rest with a measure, and what the end of the steps means.
-use Rattle.std.specs.Prelude.{◌≡◌, refl, List, [], ◌∷◌, ℕ, zero, suc, ◌+◌, ◌*◌, ◌≤◌, ◌<◌, ℤ, pos, negsuc, neg_ℤ, nat_abs, ◌+ℤ◌, ◌-ℤ◌, ◌*ℤ◌, ◌≤ℤ◌, ◌<ℤ◌, length, get_or, take, set}
+use Rattle.std.specs.Prelude.{Option, IsNone, ◌≡◌, refl, List, [], ◌∷◌, ℕ, zero, suc, ◌+◌, ◌*◌, ◌≤◌, ◌<◌, ℤ, pos, negsuc, neg_ℤ, nat_abs, ◌+ℤ◌, ◌-ℤ◌, ◌*ℤ◌, ◌≤ℤ◌, ◌<ℤ◌, length, get_or, take, set}
 use Rattle.std.proofs.Common.{sym, ap, ap₂, ◌∙◌, subst, subst₂, ⊎_elim, le_of_suc-le-suc, not-suc-le-zero, arith, ltb→lt, length-set, length-take, get_or-take, get_or-set_other, SFits}
 use Rattle.std.proofs.Math.Decide.{dec_lt}
 use Rattle.std.specs.Int.Signed.{lt_z_yes, le_z_yes}
@@ -296,10 +296,10 @@ module _ {bs : List Vec} {u : Vec} {g : List (List ℤ)} {h z : List ℤ} (m : T
           back a b v = simp bilinear (by_ring (q ∷ dot a v ∷ dot a b ∷ []) (search reads depth 20) (search reads depth 20) tt)
 
   -- the end of the steps
-  pub taken-settled : Steep g h 4 → Settled bs u z
-  taken-settled t = record {
+  pub taken-settled : {o : Option ℕ} → Steep g h o → IsNone o → Settled bs u z
+  taken-settled t n = record {
     slight = all-places (λ b. Between (pos 3 *ℤ N b) (pos 2 *ℤ dot rest b)) bs []
-        (λ j l. between-≡ (ap (λ y. pos 3 *ℤ y) (m.gram j j)) (ap (λ y. pos 2 *ℤ y) (m.products j ∙ dot_comm (get_or bs j []) rest)) (t.flat j (omega (arith, m.few))));
+        (λ j l. between-≡ (ap (λ y. pos 3 *ℤ y) (m.gram j j)) (ap (λ y. pos 2 *ℤ y) (m.products j ∙ dot_comm (get_or bs j []) rest)) (t.flat n j (omega (arith, m.few))));
     long = m.long;
     behind = m.behind;
     small = parts-bounded;

@@ -1,5 +1,5 @@
 -- The tests of a step, on numbers: n is the squared length of a vector, p its inner product with what is left.
-use Rattle.std.specs.Prelude.{◌≡◌, refl, ◌⊎◌, Bool, true, false, List, [], ◌∷◌, ℕ, ◌+◌, ◌≤◌, ◌<◌, ℤ, pos, negsuc, ◌-ℤ◌, ◌*ℤ◌, ◌≤ℤ◌, ◌<ℤ◌, get_or}
+use Rattle.std.specs.Prelude.{Option, Some, None, IsNone, ◌≡◌, refl, ◌⊎◌, Bool, true, false, List, [], ◌∷◌, ℕ, ◌+◌, ◌≤◌, ◌<◌, ℤ, pos, negsuc, ◌-ℤ◌, ◌*ℤ◌, ◌≤ℤ◌, ◌<ℤ◌, get_or}
 use Rattle.std.proofs.Common.{sym, subst, ⊎_elim, le_refl, arith, SFits, to_z, of_z, to_z-of_z}
 use Rattle.std.proofs.lemmas.Bool.{false≢true}
 use Rattle.std.proofs.Math.Decide.{dec_lt}
@@ -60,15 +60,15 @@ tested f g = record {
     literal : (n : ℕ) → Within n (pos n)
     literal n = record { within = le_refl n }
 
--- ---- the first place that is not level
-
-pub record Steep (g : List (List ℤ)) (h : List ℤ) (p : ℕ) : Type 0 where
-  pub within : p ≤ 4
-  pub flat : (j : ℕ) → j < p → Flat (nth (get_or g j []) j) (nth h j)
-  pub steep : p < 4 → ¬ (Flat (nth (get_or g p []) p) (nth h p))
+-- ---- a place that is not level
 
 abbrev pub AllFlat : List (List ℤ) → List ℤ → ℕ → Type 0
 AllFlat g h i = (j : ℕ) → j < i → Flat (nth (get_or g j []) j) (nth h j)
+
+-- a place where more is left, or none
+pub record Steep (g : List (List ℤ)) (h : List ℤ) (o : Option ℕ) : Type 0 where
+  pub flat : IsNone o → AllFlat g h 4
+  pub steep : {p : ℕ} → o ≡ Some p → (p < 4) × (¬ (Flat (nth (get_or g p []) p) (nth h p)))
 
 module _ (g : List (List ℤ)) (h : List ℤ) (i : ℕ) where
   pub flat-next : AllFlat g h i → Level (nth (get_or g i []) i) (nth h i) true → AllFlat g h (i + 1)
@@ -80,11 +80,11 @@ module _ (g : List (List ℤ)) (h : List ℤ) (i : ℕ) where
           let same : i ≡ j = omega (arith, e) in
           subst (λ k. Flat (nth (get_or g k []) k) (nth h k)) same (l.yes refl)
 
-  pub steep-at : i < 4 → AllFlat g h i → Level (nth (get_or g i []) i) (nth h i) false → Steep g h i
-  steep-at k f l = record { within = omega arith; flat = f; steep = λ _. l.no refl }
+  pub steep-at : i < 4 → Level (nth (get_or g i []) i) (nth h i) false → Steep g h (Some i)
+  steep-at k l = record { flat = λ e. absurd cc; steep = λ {p} e. let same : i ≡ p = cc in subst (λ (p : ℕ). (p < 4) × (¬ (Flat (nth (get_or g p []) p) (nth h p)))) same (k, l.no refl) }
 
-  pub steep-none : i ≤ 4 → 4 ≤ i → AllFlat g h i → Steep g h 4
-  steep-none k m f = record { within = omega arith; flat = λ j l. f j (omega arith); steep = λ l. absurd (omega arith) }
+  pub steep-none : 4 ≤ i → AllFlat g h i → Steep g h None
+  steep-none m f = record { flat = λ e j l. f j (omega arith); steep = λ e. absurd cc }
 
 -- ---- the side
 

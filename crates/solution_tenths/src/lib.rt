@@ -3,16 +3,17 @@
 // small part may be left. Floats that were wrong are set right by steps.
 #![tactic(auto)]
 
-ghost use Rattle.std.specs.Prelude.{◌≡◌, List, [], ℕ, ◌+◌, ◌≤◌, ◌<◌, pos, nat_abs, ◌-ℤ◌, ◌*ℤ◌, length, get_or};
+ghost use Rattle.std.specs.Prelude.{◌≡◌, List, [], ℕ, ◌≤◌, pos, ◌-ℤ◌, ◌*ℤ◌, get_or};
 ghost use Rattle.integers.specs.Size.{Within};
-ghost use Rattle.lattices.specs.Vector.{Vec, nth, dot, ◌⊖◌, ◌⊙◌};
+ghost use Rattle.lattices.specs.Vector.{Vec, nth, dot};
 ghost use Rattle.successive_minima.specs.Laws.Digits.{Bounded};
-ghost use Rattle.row_operations.specs.Minus.{room};
 ghost use Rattle.solutions.specs.Solution.{PaddedTenths};
 ghost use Rattle.solutions.specs.Laws.Settled.{Between};
 ghost use Rattle.solution_tenths.specs.Rest.{Rest, Rests};
 ghost use Rattle.solution_tenths.specs.Tests.{Level, Steep, Toward};
 ghost use Rattle.solution_tenths.specs.Taken.{Taken, Known, Settled};
+
+use row_operations::{Table, dot, lose};
 
 // What unknown i is away from its coefficient, in parts; 0 behind d.
 fn part(i: usize, d: usize, y: f64, x: i64) -> i64
@@ -26,11 +27,10 @@ fn part(i: usize, d: usize, y: f64, x: i64) -> i64
     0
 }
 
-fn parts(d: usize, y: [f64; 4], x: [i64; 4]) -> [i64; 4]
-    requires { Bounded 30000000 x }
+fn parts(d: usize, y: &[f64; 4], x: &[i64; 4]) -> [i64; 4]
+    requires { Bounded 30000000 x.now }
     ensures bounded { Bounded 1048576 result }
     ensures by_index { (i : ℕ) → d ≤ i → nth result i ≡ pos 0 }
-    ensures result_len { length result ≡ 4 }
 {
     [
         part(0, d, y[0], x[0]),
@@ -40,51 +40,35 @@ fn parts(d: usize, y: [f64; 4], x: [i64; 4]) -> [i64; 4]
     ]
 }
 
-// The inner product of parts with a row of G.
-fn weighed(z: [i64; 4], row: [i64; 4]) -> i64
-    requires bounded { Bounded 1048576 z }
-    requires bounded_2 { Bounded 400000000 row }
-    ensures value { result ≡ dot z row }
-    ensures within { Within 2000000000000000 result }
-{
-    let mut sum = 0;
-    for i in 0..4 {
-        sum += z[i] * row[i];
-    }
-    sum
-}
-
 // The inner product of vector i with what the parts z leave: row is its row of G, r its inner product with what is left of the target. Behind d
 // all that is 0.
-fn product(i: usize, d: usize, row: [i64; 4], r: i64, z: [i64; 4]) -> i64
-    requires bounded { Bounded 400000000 row }
+fn product(i: usize, d: usize, row: &[i64; 4], r: i64, z: &[i64; 4]) -> i64
+    requires bounded { Bounded 400000000 row.now }
     requires within { Within 400000000 r }
-    requires bounded_2 { Bounded 1048576 z }
+    requires bounded_2 { Bounded 1048576 z.now }
     requires r_value { d ≤ i → r ≡ pos 0 }
-    requires j_value { d ≤ i → (j : ℕ) → nth row j ≡ pos 0 }
-    ensures { result ≡ pos 8192 *ℤ r -ℤ dot z row }
+    requires j_value { d ≤ i → (j : ℕ) → nth row.now j ≡ pos 0 }
+    ensures { result ≡ pos 8192 *ℤ r -ℤ dot z.now row.now }
 {
     if d <= i {
         return 0;
     }
-    8192 * r - weighed(z, row)
+    8192 * r - dot(z, row)
 }
 
-fn products(g: &[[i64; 4]; 4], d: usize, r: &[i64; 4], z: [i64; 4]) -> [i64; 4]
-    requires g_len { length g.now ≡ 4 }
-    requires r_len { length r.now ≡ 4 }
+fn products(g: &Table, d: usize, r: &[i64; 4], z: &[i64; 4]) -> [i64; 4]
     requires by_index { (i : ℕ) → Bounded 400000000 (get_or g.now i []) }
     requires bounded { Bounded 400000000 r.now }
-    requires bounded_2 { Bounded 1048576 z }
+    requires bounded_2 { Bounded 1048576 z.now }
     requires by_index_2 { (i : ℕ) → d ≤ i → nth r.now i ≡ pos 0 }
     requires by_index_3 { (i : ℕ) → d ≤ i → (j : ℕ) → nth (get_or g.now i []) j ≡ pos 0 }
-    ensures { (i : ℕ) → nth result i ≡ pos 8192 *ℤ nth r.now i -ℤ dot z (get_or g.now i []) }
+    ensures { (i : ℕ) → nth result i ≡ pos 8192 *ℤ nth r.now i -ℤ dot z.now (get_or g.now i []) }
 {
     [
-        product(0, d, g[0], r[0], z),
-        product(1, d, g[1], r[1], z),
-        product(2, d, g[2], r[2], z),
-        product(3, d, g[3], r[3], z),
+        product(0, d, &g[0], r[0], z),
+        product(1, d, &g[1], r[1], z),
+        product(2, d, &g[2], r[2], z),
+        product(3, d, &g[3], r[3], z),
     ]
 }
 
@@ -96,29 +80,21 @@ fn level(n: i64, p: i64) -> bool
 {
     let most = 3 * n;
     let twice = 2 * p;
-    if most < twice {
-        return false;
-    }
-    if twice < -most {
-        return false;
-    }
-    true
+    -most <= twice && twice <= most
 }
 
-// The first vector along which more is left; 4 if there is none.
-fn steep(g: &[[i64; 4]; 4], h: [i64; 4]) -> usize
-    requires g_len { length g.now ≡ 4 }
+// The first vector along which more is left.
+fn steep(g: &Table, h: &[i64; 4]) -> Option<usize>
     requires by_index { (i : ℕ) → Bounded 400000000 (get_or g.now i []) }
-    requires bounded { Bounded 4000000000000000 h }
-    ensures { Steep g.now h result }
+    requires bounded { Bounded 4000000000000000 h.now }
+    ensures { Steep g.now h.now result }
 {
     for i in 0..4 {
-        let row = g[i];
-        if !level(row[i], h[i]) {
-            return i;
+        if !level(g[i][i], h[i]) {
+            return Some(i);
         }
     }
-    4
+    None
 }
 
 // 1 or −1, by the side on which p is.
@@ -131,49 +107,19 @@ fn toward(p: i64) -> i64
     -1
 }
 
-// What is left of h when q times a row is taken away.
-fn minus(h: [i64; 4], q: i64, row: [i64; 4]) -> [i64; 4]
-    requires { (i : ℕ) → nat_abs (nth h i) + nat_abs (q *ℤ nth row i) ≤ room }
-    ensures { result ≡ h ⊖ q ⊙ row }
-{
-    let mut l = h;
-    for i in 0..4 {
-        l[i] -= q * row[i];
-    }
-    l
-}
-
-// The parts z, changed by steps until little is left along each vector; h holds the inner products with what z leaves.
-fn stepped(g: &[[i64; 4]; 4], h: [i64; 4], z: [i64; 4]) -> [i64; 4]
-    requires g_len { length g.now ≡ 4 }
-    requires known { Known g.now h z }
+// The parts z, changed by steps until little is left along each vector; h holds the inner products with what z leaves. Mostly no step is needed.
+fn settled(g: &Table, h: [i64; 4], z: [i64; 4]) -> [i64; 4]
+    requires { Known g.now h z }
     ensures { (bs : List Vec) (u : Vec) → Taken bs u g.now h z → Settled bs u result }
 {
     let mut w = z;
     let mut l = h;
-    loop {
-        let p = steep(g, l);
-        if p == 4 {
-            return w;
-        }
-        let row = g[p];
+    while let Some(p) = steep(g, &l) {
         let q = toward(l[p]);
-        let k = minus(l, q, row);
-        w[p] = w[p] + q;
-        l = k;
+        lose(&mut l, q, &g[p]);
+        w[p] += q;
     }
-}
-
-// The same, where mostly no step is needed.
-fn settled(g: &[[i64; 4]; 4], h: [i64; 4], z: [i64; 4]) -> [i64; 4]
-    requires g_len { length g.now ≡ 4 }
-    requires known { Known g.now h z }
-    ensures { (bs : List Vec) (u : Vec) → Taken bs u g.now h z → Settled bs u result }
-{
-    if steep(g, h) == 4 {
-        return z;
-    }
-    stepped(g, h, z)
+    w
 }
 
 // The whole number of tenths nearest to z parts. It is moved up by 100000000000, so that a number without a sign is divided.
@@ -201,15 +147,13 @@ fn tenth(i: usize, d: usize, x: i64, z: i64) -> i64
 }
 
 // The solution in tenths, zeros behind d.
-pub fn tenths(g: &[[i64; 4]; 4], d: usize, y: [f64; 4], x: [i64; 4], r: &[i64; 4]) -> [i64; 4]
+pub fn tenths(g: &Table, d: usize, y: &[f64; 4], x: &[i64; 4], r: &[i64; 4]) -> [i64; 4]
     requires d_bound { d ≤ 4 }
-    requires g_len { length g.now ≡ 4 }
-    requires r_len { length r.now ≡ 4 }
-    requires rests { Rests d g.now x r.now }
-    ensures { (bs : List Vec) (t : Vec) → Rest d bs t g.now x r.now → PaddedTenths bs t result }
+    requires rests { Rests d g.now x.now r.now }
+    ensures { (bs : List Vec) (t : Vec) → Rest d bs t g.now x.now r.now → PaddedTenths bs t result }
 {
     let z = parts(d, y, x);
-    let w = settled(g, products(g, d, r, z), z);
+    let w = settled(g, products(g, d, r, &z), z);
     [
         tenth(0, d, x[0], w[0]),
         tenth(1, d, x[1], w[1]),

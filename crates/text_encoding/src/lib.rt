@@ -2,7 +2,7 @@
 // others.
 #![tactic(auto)]
 
-ghost use Rattle.std.specs.Prelude.{◌≡◌, [], ◌∷◌, ◌*◌, ◌≤◌, length};
+ghost use Rattle.std.specs.Prelude.{◌≡◌, [], ◌∷◌, ◌*◌, ◌≤◌, length, unwrap_or, IfSome};
 ghost use Rattle.catalogue_records.specs.EntriesIn.{form_in};
 ghost use Rattle.text_rules.specs.Encoding.{lines_of, line_words, line_holding, told_holding};
 ghost use Rattle.text_lines.specs.Told.{word_told, draft_told, words_in};
@@ -43,8 +43,8 @@ fn put_words(out: &mut [u8], k: usize, words: &[u32]) -> usize
     ensures { Stores words.now out.old k out.new result }
 {
     let mut n = k;
-    for i in 0..words.len() {
-        n = put(out, n, words[i]);
+    for w in words {
+        n = put(out, n, *w);
     }
     n
 }
@@ -54,35 +54,32 @@ fn put_draft(out: &mut [u8], k: usize, draft: bool) -> usize
     requires { Room out.old k }
     ensures { Stores (draft_told draft) out.old k out.new result }
 {
-    if !draft {
-        return k;
+    if draft {
+        return put(out, k, catalogue_writer::draft_word());
     }
-    let w = catalogue_writer::draft_word();
-    put(out, k, w)
+    k
 }
 
-// A word, 0 for none.
-fn put_told(out: &mut [u8], k: usize, w: u32) -> usize
+// A word, or none.
+fn put_told(out: &mut [u8], k: usize, w: Option<u32>) -> usize
     requires { Room out.old k }
     ensures { Stores (word_told w) out.old k out.new result }
 {
-    if w == 0 {
-        return k;
+    match w {
+        Some(w) => put(out, k, w),
+        None => k,
     }
-    put(out, k, w)
 }
 
 // The words of a line.
-pub fn put_line(out: &mut [u8], k: usize, l: Line) -> usize
+pub fn put_line(out: &mut [u8], k: usize, l: &Line) -> usize
     requires room { Room out.old k }
-    requires count_bound { l.count ≤ 225 }
-    ensures { Stores (words_in l) out.old k out.new result }
+    requires count_bound { l.now.count ≤ 225 }
+    ensures { Stores (words_in l.now) out.old k out.new result }
 {
     let first = put(out, k, l.head);
     let second = put_told(out, first, l.size);
-    let words = l.coordinates;
-    let n = l.count;
-    let third = put_words(out, second, &words[..n]);
+    let third = put_words(out, second, &l.coordinates[..l.count]);
     let fourth = put_draft(out, third, l.draft);
     put_told(out, fourth, l.see)
 }
@@ -93,26 +90,18 @@ fn with_line(form: Form, s: &[u8], out: &mut [u8], e: Told) -> Told
     requires entries_bound { e.entries ≤ 131072 }
     ensures { Adds (form_in form) s.now out.old e out.new result }
 {
-    let l = text_lines::read_line(form, s);
-    if l.blank {
-        return e;
-    }
-    let mistake = l.mistake;
-    if !text_lines::is_none(mistake) {
-        return Told {
-            words: e.words,
-            entries: e.entries,
-            wrong: true,
-        };
-    }
-    Told {
-        words: put_line(out, e.words, l),
-        entries: e.entries + 1,
-        wrong: e.wrong,
+    match text_lines::read_line(form, s) {
+        Ok(Some(l)) => Told {
+            words: put_line(out, e.words, &l),
+            entries: e.entries + 1,
+            ..e
+        },
+        Ok(None) => e,
+        Err(_) => Told { wrong: true, ..e },
     }
 }
 
-// The words of lines in a form.
+// The words of lines in a form. The contract speaks of the place in the text, so the lines are gone through by it.
 fn tell_lines(form: Form, text: &[u8], out: &mut [u8]) -> Told
     requires { length text.now ≤ 131071 }
     ensures lines_tell { LinesTell (form_in form) (lines_of text.now) out.old out.new result }
@@ -127,15 +116,12 @@ fn tell_lines(form: Form, text: &[u8], out: &mut [u8]) -> Told
     while from < text.len() {
         let n = text_lines::length_before(&text[from..], b'\n');
         let end = from + n;
-        let next = with_line(form, &text[from..end], out, e);
-        e = next;
+        e = with_line(form, &text[from..end], out, e);
         from = end + 1;
     }
-    let w = catalogue_writer::end_word(e.entries);
     Told {
-        words: put(out, e.words, w),
-        entries: e.entries,
-        wrong: e.wrong,
+        words: put(out, e.words, catalogue_writer::end_word(e.entries)),
+        ..e
     }
 }
 
@@ -168,8 +154,7 @@ fn tell_text(text: &[u8], out: &mut [u8]) -> Told
     if !opens_new(text) {
         return tell_lines(Form::Old, text, out);
     }
-    let at = second_line(text);
-    tell_lines(Form::New, &text[at..], out)
+    tell_lines(Form::New, &text[second_line(text)..], out)
 }
 
 // The words of a text, as many as the output has room for. A text over the limit is wrong, and nothing is stored of it. The last clause
@@ -189,33 +174,32 @@ pub fn tell(text: &[u8], out: &mut [u8]) -> Told
 }
 
 // How many words a line that is right has.
-fn count_words(l: Line) -> usize
-    requires { l.count ≤ 225 }
-    ensures { result ≡ length (words_in l) }
+fn count_words(l: &Line) -> usize
+    requires { l.now.count ≤ 225 }
+    ensures { result ≡ length (words_in l.now) }
 {
-    1 + (l.size != 0) as usize + l.count + l.draft as usize + (l.see != 0) as usize
+    1 + usize::from(l.size.is_some())
+        + l.count
+        + usize::from(l.draft)
+        + usize::from(l.see.is_some())
 }
 
 // How many words a line tells.
 fn words_in(form: Form, s: &[u8]) -> usize
     ensures { result ≡ line_words (form_in form) s.now }
 {
-    let l = text_lines::read_line(form, s);
-    if l.blank {
-        return 0;
+    match text_lines::read_line(form, s) {
+        Ok(Some(l)) => count_words(&l),
+        Ok(None) => 0,
+        Err(_) => 0,
     }
-    let mistake = l.mistake;
-    if !text_lines::is_none(mistake) {
-        return 0;
-    }
-    count_words(l)
 }
 
-// The line in a form, from 1, whose entry holds the word with index k; 0 where none does, as for the end word. No more lines are passed than
-// bytes.
-fn line_among(form: Form, text: &[u8], k: usize) -> usize
-    ensures value { result ≡ line_holding (form_in form) (lines_of text.now) k }
-    ensures upper_bound { result ≤ length text.now }
+// The line in a form, from 1, whose entry holds the word with index k; none holds the end word. No more lines are passed than bytes,
+// and the place in the text is counted.
+fn line_among(form: Form, text: &[u8], k: usize) -> Option<usize>
+    ensures value { unwrap_or result 0 ≡ line_holding (form_in form) (lines_of text.now) k }
+    ensures bounds { IfSome result (λ n. (1 ≤ n) × (n ≤ length text.now)) }
 {
     let mut from = 0usize;
     let mut passed = 0usize;
@@ -225,29 +209,26 @@ fn line_among(form: Form, text: &[u8], k: usize) -> usize
         let end = from + n;
         let here = words_in(form, &text[from..end]);
         if left < here {
-            return passed + 1;
+            return Some(passed + 1);
         }
         if end == text.len() {
-            return 0;
+            return None;
         }
         left -= here;
         passed += 1;
         from = end + 1;
     }
-    0
+    None
 }
 
-// The line of a text, from 1, whose entry holds the word with index k; 0 where none does, as for the end word. A line `new` is the first.
-pub fn line_of_word(text: &[u8], k: usize) -> usize
-    ensures { result ≡ told_holding (lines_of text.now) k }
+// The line of a text, from 1, whose entry holds the word with index k; none holds the end word. A line `new` is the first.
+pub fn line_of_word(text: &[u8], k: usize) -> Option<usize>
+    ensures value { unwrap_or result 0 ≡ told_holding (lines_of text.now) k }
+    ensures lower_bound { IfSome result (λ n. 1 ≤ n) }
 {
     if !opens_new(text) {
         return line_among(Form::Old, text, k);
     }
-    let at = second_line(text);
-    let line = line_among(Form::New, &text[at..], k);
-    if line == 0 {
-        return 0;
-    }
-    line + 1
+    let line = line_among(Form::New, &text[second_line(text)..], k)?;
+    Some(line + 1)
 }

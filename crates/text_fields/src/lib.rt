@@ -31,8 +31,8 @@ pub fn put_coordinates(out: &mut [u8], at: usize, coordinates: &[i64]) -> usize
     ensures { Puts (joined (blank signed) coordinates.now) out.old at out.new result }
 {
     let mut n = at;
-    for i in 0..coordinates.len() {
-        n = put_coordinate(out, n, coordinates[i]);
+    for z in coordinates {
+        n = put_coordinate(out, n, *z);
     }
     n
 }

@@ -1,27 +1,14 @@
 -- Numbers that fit a field, and those that a part left in an array of zeros.
-use Rattle.std.specs.Prelude.{◌≡◌, refl, true, false, List, [], ◌∷◌, ◌++◌, ℕ, zero, suc, ◌+◌, ◌-◌, ◌≤◌, ◌<◌, leb, ℤ, pos, negsuc, nat_abs, length, take, drop, replicate}
-use Rattle.std.proofs.Common.{sym, ap, ◌∙◌, true≢false, arith, leb→le, length-drop, get_or-drop, take_all, le-leb}
-use Rattle.integers.specs.Tests.{true_T}
+use Rattle.std.specs.Prelude.{◌≡◌, refl, true, List, [], ◌∷◌, ◌++◌, ℕ, zero, suc, ◌+◌, ◌-◌, ◌<◌, ℤ, pos, negsuc, nat_abs, length, take, drop, replicate}
+use Rattle.std.proofs.Common.{sym, ap, ◌∙◌, true≢false, arith, length-drop, get_or-drop, take_all}
 use Rattle.lattices.specs.Vector.{nth}
-use Rattle.text_parts.specs.Counts.{is_count, count_of}
+use Rattle.text_parts.specs.Counts.{count_of}
 use Rattle.text_rules.specs.Encoding.{fits}
-
-pub no-count : (most : ℕ) (z : ℤ) → is_count z ≡ false → false ≡ fits most z
-no-count most (pos n) e = absurd (true≢false (sym (le-leb 0 n (omega arith)) ∙ e))
-no-count most (negsuc n) e = refl
-
-pub a-count : (most : ℕ) (z : ℤ) → is_count z ≡ true → leb (count_of z) most ≡ fits most z
-a-count most (pos n) e = refl
-a-count most (negsuc n) e = absurd (true≢false (sym e))
 
 -- one that fits is its size
 pub fits-size : (most : ℕ) (z : ℤ) → fits most z ≡ true → count_of z ≡ nat_abs z
 fits-size most (pos n) e = refl
 fits-size most (negsuc n) e = absurd (true≢false (sym e))
-
-pub fits-most : (most : ℕ) (z : ℤ) → fits most z ≡ true → nat_abs z ≤ most
-fits-most most (pos n) e = leb→le n most (true_T e)
-fits-most most (negsuc n) e = absurd (true≢false (sym e))
 
 -- `&s[at..]` is what follows
 pub to_end : (at : ℕ) (s : List ℕ) → take (length s - at) (drop at s) ≡ drop at s

@@ -1,6 +1,7 @@
 -- The parts of a line, one case of the definition after another.
-use Rattle.std.specs.Prelude.{◌≡◌, refl, Bool, true, false, not, ◌&&◌, ◌||◌, List, [], ◌∷◌, ◌++◌, map, ℕ, ◌*◌, eqb, length, drop}
-use Rattle.std.proofs.Common.{sym, ◌∙◌, arith, ne_eqb}
+use Rattle.std.specs.Prelude.{◌≡◌, refl, Bool, true, false, ◌&&◌, ◌||◌, List, [], ◌∷◌, ◌++◌, map, ℕ, eqb, length, drop, None, Some}
+use Rattle.std.specs.Prelude.{Option as Maybe}
+use Rattle.std.proofs.Common.{sym, ◌∙◌}
 use Rattle.std.proofs.Math.Path.{ap}
 use Rattle.std.proofs.Math.Bool.{cond}
 use Rattle.std.proofs.lemmas.Bool.{false≢true}
@@ -9,12 +10,12 @@ use Rattle.std.proofs.Math.Option.{Option, none, some}
 use Rattle.integers.specs.Tests.{neither, both}
 use Rattle.lattices.specs.Vector.{nth}
 use Rattle.catalogue_rules.specs.Catalogue.{Form, old, new, most_number}
-use Rattle.catalogue_rules.specs.Word.{Word, see, draft, head_number, head_size, encode}
+use Rattle.catalogue_rules.specs.Word.{Word, see, draft, encode}
 use Rattle.catalogue_rules.specs.Write.{head_words_in, draft_words}
 use Rattle.text_parts.specs.declared.Kind.{Kind}
 use Rattle.text_parts.specs.Tokens.{token_at}
 use Rattle.text_parts.specs.Parts.{is_end, is_semicolon, Taken, taken_at}
-use Rattle.text_rules.specs.Encoding.{fits, at, is_see, see_from, before, is_draft, past_draft, after_draft, mark_from, rest_from, coordinates_from, most_numbers, is_head, line_from}
+use Rattle.text_rules.specs.Encoding.{fits, at, is_see, see_from, before, is_draft, past_draft, after_draft, mark_from, rest_from, is_head}
 use Rattle.text_lines.specs.declared.Head.{Head}
 use Rattle.text_lines.specs.declared.Rest.{Rest}
 use Rattle.text_lines.specs.Told.{is_last, last_see, end_rest, see_rest, last_rest, mark_rest, rest_read, head_told, word_told, draft_told, encoded_line, behind}
@@ -28,38 +29,19 @@ told-before ws (some us) = ap some (sym (map-append encode ws us))
 abbrev pub head_numbers : Head → List ℕ
 head_numbers h = h.first ∷ word_told h.size
 
-size-is-some : (d m : ℕ) → eqb (encode (head_size 0 d m)) 0 ≡ false
-unfolding encode
-size-is-some d m = ne_eqb (encode (head_size 0 d m)) 0 (λ e. omega arith)
-
 pub head-told : (f : Form) (n d m : ℕ) → head_numbers (head_told f n d m) ≡ map encode (head_words_in f n d m)
 head-told old n d m = refl
-head-told new n d m = ap (λ b. encode (head_number n) ∷ cond b [] (encode (head_size 0 d m) ∷ [])) (size-is-some d m)
-
--- ---- the see word, 0 for none
-
-see-word : (p : Taken) {b : Bool} → is_see p ≡ b → last_see p ≡ cond b (encode (see (at p.numbers 0))) 0
-see-word p e = ap (λ b. cond b (encode (see (at p.numbers 0))) 0) e
-
-pub see-none : (p : Taken) → is_see p ≡ false → 0 ≡ last_see p
-see-none p e = sym (see-word p e)
-
-pub see-some : (p : Taken) → is_see p ≡ true → encode (see (at p.numbers 0)) ≡ last_see p
-see-some p e = sym (see-word p e)
-
-see-is-some : (n : ℕ) → eqb (encode (see n)) 0 ≡ false
-unfolding encode
-see-is-some n = ne_eqb (encode (see n)) 0 (λ e. omega arith)
+head-told new n d m = refl
 
 -- ---- what follows the coordinates, as numbers
 
-abbrev pub rest_told : Rest → Option (List ℕ)
-rest_told r = cond r.right (some (draft_told r.draft ++ word_told r.see)) none
+abbrev pub rest_told : Maybe Rest → Option (List ℕ)
+rest_told None = none
+rest_told (Some r) = some (draft_told r.draft ++ word_told r.see)
 
 -- a see word or none, behind the mark or without it
-told-see : (b : Bool) (n : ℕ) (t : Bool) → rest_told (see_rest b (cond t (encode (see n)) 0)) ≡ encoded_line (before (draft_words b) (cond t (some (see n ∷ [])) none))
-told-see b n true =
-    ap (λ z. cond (not z) (some (draft_told b ++ cond z [] (encode (see n) ∷ []))) none) (see-is-some n) ∙ told-before (draft_words b) (some (see n ∷ []))
+told-see : (b : Bool) (n : ℕ) (t : Bool) → rest_told (see_rest b (cond t (Some (encode (see n))) None)) ≡ encoded_line (before (draft_words b) (cond t (some (see n ∷ [])) none))
+told-see b n true = told-before (draft_words b) (some (see n ∷ []))
 told-see b n false = refl
 
 see-told : (b : Bool) (p : Taken) → rest_told (see_rest b (last_see p)) ≡ encoded_line (before (draft_words b) (see_from p))
@@ -72,7 +54,7 @@ last-told s = go (is_end (token_at s).kind) (is_semicolon (token_at s).kind)
     p = taken_at 1 (drop (token_at s).length s)
 
     go : (ended more : Bool)
-        → rest_told (cond ended (end_rest true) (cond more (see_rest true (last_see p)) (see_rest true 0))) ≡ encoded_line (before (draft 1 ∷ []) (cond ended (some []) (cond more (see_from p) none)))
+        → rest_told (cond ended (Some (end_rest true)) (cond more (see_rest true (last_see p)) None)) ≡ encoded_line (before (draft 1 ∷ []) (cond ended (some []) (cond more (see_from p) none)))
     go true more = refl
     go false true = see-told true p
     go false false = refl
@@ -95,7 +77,7 @@ mark-told s = go (is_draft s)
 pub rest-told : (k : Kind) (s : List ℕ) → is_last k ≡ true → rest_told (rest_read k s) ≡ encoded_line (rest_from k s)
 rest-told k s = go (is_end k) (is_semicolon k)
   where
-    go : (ended more : Bool) → ended || more ≡ true → rest_told (cond ended (end_rest false) (mark_rest s)) ≡ encoded_line (cond ended (some []) (cond more (mark_from s) none))
+    go : (ended more : Bool) → ended || more ≡ true → rest_told (cond ended (Some (end_rest false)) (mark_rest s)) ≡ encoded_line (cond ended (some []) (cond more (mark_from s) none))
     go true more e = refl
     go false true e = mark-told s
     go false false e = absurd (false≢true e)
@@ -116,20 +98,3 @@ head-fits f p e =
     let all = (both three (number && (d && m)) (both (is_semicolon p.stop) (three && (number && (d && m))) e).1).1 in
     let n = both number (d && m) all in
     (n.0, both d m n.1)
-
-module _ (f : Form) (s : List ℕ) where
-  -- the words after a head that is one
-  line : Option (List Word)
-  line =
-      let p = taken_at 3 s in
-      let more = drop p.length s in
-      before (head_words_in f (at p.numbers 0) (at p.numbers 1) (at p.numbers 2)) (coordinates_from (at p.numbers 1 * at p.numbers 2) (taken_at most_numbers more) more)
-
-  pub no-head : is_head f (taken_at 3 s) ≡ false → line_from f s ≡ none
-  unfolding line_from line
-  no-head e = ap (λ b. cond b line none) e
-
-  pub with_head : is_head f (taken_at 3 s) ≡ true → let p = taken_at 3 s in let more = drop p.length s in
-      line_from f s ≡ before (head_words_in f (at p.numbers 0) (at p.numbers 1) (at p.numbers 2)) (coordinates_from (at p.numbers 1 * at p.numbers 2) (taken_at most_numbers more) more)
-  unfolding line_from line
-  with_head e = ap (λ b. cond b line none) e

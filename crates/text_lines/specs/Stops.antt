@@ -5,7 +5,7 @@ use Rattle.text_parts.specs.declared.Kind.TheVariants.{Number, Semicolon, End, U
 
 -- at a number beyond 64 bits
 abbrev pub is_large : Kind → Bool
-is_large Number = false
+is_large (Number z) = false
 is_large Semicolon = false
 is_large End = false
 is_large Unexpected = false
@@ -15,7 +15,7 @@ is_large NoCount = false
 
 -- at a number too many
 abbrev pub is_many : Kind → Bool
-is_many Number = false
+is_many (Number z) = false
 is_many Semicolon = false
 is_many End = false
 is_many Unexpected = false

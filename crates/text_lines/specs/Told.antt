@@ -1,5 +1,6 @@
--- What is read of a line, for every line: its words as numbers, or what is wrong with it. Places that are not used hold 0.
-use Rattle.std.specs.Prelude.{Bool, true, false, cond, not, ◌&&◌, ◌||◌, List, [], ◌∷◌, ◌++◌, map, ℕ, ◌-◌, ◌*◌, eqb, ℤ, length, take, drop, replicate}
+-- What is read of a line, for every line: its words as numbers, or what is wrong with it, or nothing. Coordinates that are not used hold 0.
+use Rattle.std.specs.Prelude.{Bool, true, false, cond, ◌&&◌, ◌||◌, List, [], ◌∷◌, ◌++◌, map, ℕ, ◌-◌, ◌*◌, eqb, ℤ, length, take, drop, replicate, None, Some, Result, Ok, Err}
+use Rattle.std.specs.Prelude.{Option as Maybe}
 use Rattle.std.proofs.Math.Option.{Option, none, some}
 use Rattle.lattices.specs.Vector.{nth}
 use Rattle.integers.specs.Every.{any}
@@ -12,41 +13,17 @@ use Rattle.text_parts.specs.Tokens.{token_at}
 use Rattle.text_parts.specs.Parts.{is_end, is_semicolon, Taken, taken_at}
 use Rattle.text_rules.specs.Encoding.{fits, at, is_see, is_draft, past_draft, most_numbers, content, is_empty}
 use Rattle.text_lines.specs.declared.Mistake.{Mistake}
-use Rattle.text_lines.specs.declared.Mistake.TheVariants.{None, PartMissing, TooLarge, TooMany, NoNumber, NotThree, NoHead, NotAll, Beyond, NoSee}
+use Rattle.text_lines.specs.declared.Mistake.TheVariants.{PartMissing, TooLarge, TooMany, NoNumber, NotThree, NoHead, NotAll, Beyond, NoSee}
 use Rattle.text_lines.specs.declared.Head.{Head}
 use Rattle.text_lines.specs.declared.Line.{Line}
 use Rattle.text_lines.specs.declared.Rest.{Rest}
 use Rattle.text_lines.specs.Stops.{is_large, is_many}
 
-abbrev pub is_none : Mistake → Bool
-is_none None = true
-is_none PartMissing = false
-is_none TooLarge = false
-is_none TooMany = false
-is_none NoNumber = false
-is_none NotThree = false
-is_none NoHead = false
-is_none NotAll = false
-is_none Beyond = false
-is_none NoSee = false
-
 -- ---- lines
-
-abbrev pub no_words : Mistake → Bool → Line
-no_words mistake blank = record { mistake = mistake; blank = blank; head = 0; size = 0; count = 0; coordinates = replicate most_numbers 0; draft = false; see = 0 }
-
-abbrev pub wrong_line : Mistake → Line
-wrong_line mistake = no_words mistake false
-
--- a line without content
-abbrev pub blank_line : Line
-blank_line = no_words None true
 
 -- a head, coordinates and what follows them
 abbrev pub right_line : Head → List ℤ → Rest → Line
 right_line h zs r = record {
-  mistake = None;
-  blank = false;
   head = h.first;
   size = h.size;
   count = length zs;
@@ -61,16 +38,16 @@ right_line h zs r = record {
 abbrev pub stop_mistake : Kind → Mistake
 stop_mistake k = cond (is_end k) PartMissing (cond (is_large k) TooLarge (cond (is_many k) TooMany NoNumber))
 
-abbrev pub head_mistake : Form → Kind → ℕ → ℤ → ℤ → ℤ → Mistake
-head_mistake f stop count number d m =
-    cond (is_semicolon stop) (cond (eqb count 3) (cond (fits (most_number f) number && (fits 15 d && fits 15 m)) None NoHead) NotThree) (stop_mistake stop)
+abbrev pub head_checked : Form → Kind → ℕ → ℤ → ℤ → ℤ → Result (Unit {0}) Mistake
+head_checked f stop count number d m =
+    cond (is_semicolon stop) (cond (eqb count 3) (cond (fits (most_number f) number && (fits 15 d && fits 15 m)) (Ok tt) (Err NoHead)) (Err NotThree)) (Err (stop_mistake stop))
 
 -- ---- the head
 
--- its words in a form; the second is 0 for none
+-- its words in a form
 abbrev pub head_told : Form → ℕ → ℕ → ℕ → Head
-head_told old n d m = record { first = encode (head n d m); size = 0 }
-head_told new n d m = record { first = encode (head_number n); size = encode (head_size 0 d m) }
+head_told old n d m = record { first = encode (head n d m); size = None }
+head_told new n d m = record { first = encode (head_number n); size = Some (encode (head_size 0 d m)) }
 
 -- ---- what follows the coordinates
 
@@ -78,69 +55,75 @@ head_told new n d m = record { first = encode (head_number n); size = encode (he
 abbrev pub is_last : Kind → Bool
 is_last k = is_end k || is_semicolon k
 
--- the see word of the last part, 0 for none
-abbrev pub last_see : Taken → ℕ
-last_see p = cond (is_see p) (encode (see (at p.numbers 0))) 0
+-- the see word of the last part
+abbrev pub last_see : Taken → Maybe ℕ
+last_see p = cond (is_see p) (Some (encode (see (at p.numbers 0)))) None
 
 -- nothing more, behind the mark or without it
 abbrev pub end_rest : Bool → Rest
-end_rest draft = record { right = true; draft = draft; see = 0 }
+end_rest draft = record { draft = draft; see = None }
 
--- a part that is a see word, or none where it is 0
-abbrev pub see_rest : Bool → ℕ → Rest
-see_rest draft n = record { right = not (eqb n 0); draft = draft; see = n }
+-- a part that is a see word
+abbrev pub see_rest : Bool → Maybe ℕ → Maybe Rest
+see_rest draft None = None
+see_rest draft (Some n) = Some (record { draft = draft; see = Some n })
 
 -- behind the mark
-abbrev pub last_rest : List ℕ → Rest
+abbrev pub last_rest : List ℕ → Maybe Rest
 last_rest s =
     let t = token_at s in
-    cond (is_end t.kind) (end_rest true) (cond (is_semicolon t.kind) (see_rest true (last_see (taken_at 1 (drop t.length s)))) (see_rest true 0))
+    cond (is_end t.kind) (Some (end_rest true)) (cond (is_semicolon t.kind) (see_rest true (last_see (taken_at 1 (drop t.length s)))) None)
 
 -- the mark and what follows it, or a see word
-abbrev pub mark_rest : List ℕ → Rest
+abbrev pub mark_rest : List ℕ → Maybe Rest
 mark_rest s = cond (is_draft s) (last_rest (past_draft s)) (see_rest false (last_see (taken_at 1 s)))
 
-abbrev pub rest_read : Kind → List ℕ → Rest
-rest_read k s = cond (is_end k) (end_rest false) (mark_rest s)
+abbrev pub rest_read : Kind → List ℕ → Maybe Rest
+rest_read k s = cond (is_end k) (Some (end_rest false)) (mark_rest s)
 
 -- ---- all parts
 
-abbrev pub followed_read : Head → List ℤ → Rest → Line
-followed_read h zs r = cond r.right (right_line h zs r) (wrong_line NoSee)
+abbrev pub followed_read : Head → List ℤ → Maybe Rest → Result Line Mistake
+followed_read h zs None = Err NoSee
+followed_read h zs (Some r) = Ok (right_line h zs r)
 
 -- n coordinates, and what follows them
-abbrev pub parts_read : Head → ℕ → Taken → List ℕ → Line
+abbrev pub parts_read : Head → ℕ → Taken → List ℕ → Result Line Mistake
 parts_read h n p s =
     cond (is_last p.stop)
-    (cond (eqb (length p.numbers) n)
-    (cond (any beyond p.numbers) (wrong_line Beyond) (followed_read h p.numbers (rest_read p.stop (drop p.length s))))
-    (wrong_line NotAll))
-    (wrong_line (stop_mistake p.stop))
+    (cond (eqb (length p.numbers) n) (cond (any beyond p.numbers) (Err Beyond) (followed_read h p.numbers (rest_read p.stop (drop p.length s)))) (Err NotAll))
+    (Err (stop_mistake p.stop))
 
 -- the head, then the other parts
-abbrev pub head_read : Form → Mistake → Taken → List ℕ → Line
-head_read f mistake p s =
-    let zs = p.numbers in
-    cond (is_none mistake) (parts_read (head_told f (at zs 0) (at zs 1) (at zs 2)) (at zs 1 * at zs 2) (taken_at most_numbers s) s) (wrong_line mistake)
+abbrev pub head_read : Form → Result (Unit {0}) Mistake → Taken → List ℕ → Result Line Mistake
+head_read f (Err mistake) p s = Err mistake
+head_read f (Ok u) p s =
+    let zs = p.numbers in parts_read (head_told f (at zs 0) (at zs 1) (at zs 2)) (at zs 1 * at zs 2) (taken_at most_numbers s) s
 
-unfoldable pub content_read : Form → List ℕ → Line
+unfoldable pub content_read : Form → List ℕ → Result Line Mistake
 content_read f s =
     let p = taken_at 3 s in
     let zs = p.numbers in
-    head_read f (head_mistake f p.stop (length zs) (nth zs 0) (nth zs 1) (nth zs 2)) p (drop p.length s)
+    head_read f (head_checked f p.stop (length zs) (nth zs 0) (nth zs 1) (nth zs 2)) p (drop p.length s)
 
-abbrev pub text_read : Form → List ℕ → Line
-text_read f s = cond (is_empty s) blank_line (content_read f s)
+-- a line that is not blank
+abbrev pub shown : Result Line Mistake → Result (Maybe Line) Mistake
+shown (Ok l) = Ok (Some l)
+shown (Err mistake) = Err mistake
+
+abbrev pub text_read : Form → List ℕ → Result (Maybe Line) Mistake
+text_read f s = cond (is_empty s) (Ok None) (shown (content_read f s))
 
 -- the line that stands before a comment
-abbrev pub line_read : Form → List ℕ → Line
+abbrev pub line_read : Form → List ℕ → Result (Maybe Line) Mistake
 line_read f s = text_read f (content s)
 
 -- ---- its words
 
--- a word, 0 for none
-abbrev pub word_told : ℕ → List ℕ
-word_told n = cond (eqb n 0) [] (n ∷ [])
+-- a word, or none
+abbrev pub word_told : Maybe ℕ → List ℕ
+word_told None = []
+word_told (Some n) = n ∷ []
 
 -- the mark, or none
 abbrev pub draft_told : Bool → List ℕ
@@ -150,8 +133,9 @@ abbrev pub words_in : Line → List ℕ
 words_in l = l.head ∷ (word_told l.size ++ (take l.count l.coordinates ++ (draft_told l.draft ++ word_told l.see)))
 
 -- if nothing is wrong
-abbrev pub told : Line → Option (List ℕ)
-told l = cond (is_none l.mistake) (some (words_in l)) none
+abbrev pub told : Result Line Mistake → Option (List ℕ)
+told (Ok l) = some (words_in l)
+told (Err mistake) = none
 
 abbrev pub encoded_line : Option (List Word) → Option (List ℕ)
 encoded_line none = none

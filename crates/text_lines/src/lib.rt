@@ -2,25 +2,25 @@
 // behind a `#` is a comment. A line may be `new` instead, which tells the form of the others.
 #![tactic(auto)]
 
-ghost use Rattle.std.specs.Prelude.{◌≡◌, false, ◌++◌, ◌-◌, ◌≤◌, ◌<◌, length, replicate};
+ghost use Rattle.std.specs.Prelude.{◌≡◌, cond, None, Some, ◌++◌, ◌-◌, ◌≤◌, ◌<◌, length, replicate, IfOk, IfSome};
 ghost use Rattle.integers.specs.Every.{any};
 ghost use Rattle.catalogue_rules.specs.Catalogue.{most_number};
 ghost use Rattle.catalogue_rules.specs.Write.{encoded_coordinates};
 ghost use Rattle.catalogue_records.specs.EntriesIn.{form_in};
 ghost use Rattle.input_checks.specs.Any.{beyond};
 ghost use Rattle.text_parts.specs.Parts.{taken_at};
-ghost use Rattle.text_rules.specs.Encoding.{fits, begins_with, is_draft, is_new_text, is_new};
-ghost use Rattle.text_lines.specs.Told.{is_none, no_words, wrong_line, stop_mistake, head_mistake, head_told, is_last, last_see, see_rest, last_rest, mark_rest, rest_read, parts_read, content_read, text_read, line_read};
+ghost use Rattle.text_rules.specs.Encoding.{fits, is_draft, is_new_text, is_new};
+ghost use Rattle.text_lines.specs.Told.{stop_mistake, head_checked, head_told, is_last, last_see, see_rest, last_rest, mark_rest, rest_read, parts_read, content_read, text_read, line_read};
 ghost use Rattle.text_lines.specs.Lengths.{length_before};
 
 use catalogue_records::{Catalogue, Form};
-use text_parts::Kind;
+use text_parts::first_part::{count, is_count};
 use text_parts::tokens::{blanks, read_token};
+use text_parts::{Kind, read_part};
 
 // What is wrong with a line.
-#[derive(Clone, Copy)]
+#[derive(Clone, Copy, PartialEq, Eq)]
 pub enum Mistake {
-    None,
     PartMissing,
     TooLarge,
     TooMany,
@@ -32,79 +32,30 @@ pub enum Mistake {
     NoSee,
 }
 
-// What a line tells: its words, or what is wrong with it, or that it is blank. A head has a second word, its size, in the new form; 0 is none.
-// Of the mark the line tells whether it stands there. A see word 0 is none.
+// The words of a line: a head, which has a second word, its size, in the new form; coordinates; the mark, of which the line tells whether it
+// stands there; and a see word or none.
 #[derive(Clone, Copy)]
 pub struct Line {
-    pub mistake: Mistake,
-    pub blank: bool,
     pub head: u32,
-    pub size: u32,
+    pub size: Option<u32>,
     pub count: usize,
     pub coordinates: [u32; 225],
     pub draft: bool,
-    pub see: u32,
+    pub see: Option<u32>,
 }
 
-// The words of a head: its first word, and its size, 0 where there is none.
+// The words of a head: its first word, and its size if that is a word of its own.
 #[derive(Clone, Copy)]
 struct Head {
     first: u32,
-    size: u32,
+    size: Option<u32>,
 }
 
-// The words of some coordinates, unless one is beyond the limit.
-#[derive(Clone, Copy)]
-struct Words {
-    beyond: bool,
-    words: [u32; 225],
-}
-
-// What follows the coordinates: whether it is right, whether it begins with the mark, and the see word, 0 for none.
+// What follows the coordinates: whether it begins with the mark, and the see word.
 #[derive(Clone, Copy)]
 struct Rest {
-    right: bool,
     draft: bool,
-    see: u32,
-}
-
-pub fn is_none(mistake: Mistake) -> bool
-    ensures { result ≡ is_none mistake }
-{
-    match mistake {
-        Mistake::None => true,
-        Mistake::PartMissing => false,
-        Mistake::TooLarge => false,
-        Mistake::TooMany => false,
-        Mistake::NoNumber => false,
-        Mistake::NotThree => false,
-        Mistake::NoHead => false,
-        Mistake::NotAll => false,
-        Mistake::Beyond => false,
-        Mistake::NoSee => false,
-    }
-}
-
-// A line that tells nothing.
-fn no_words(mistake: Mistake, blank: bool) -> Line
-    ensures { result ≡ no_words mistake blank }
-{
-    Line {
-        mistake,
-        blank,
-        head: 0,
-        size: 0,
-        count: 0,
-        coordinates: [0; 225],
-        draft: false,
-        see: 0,
-    }
-}
-
-fn wrong(mistake: Mistake) -> Line
-    ensures { result ≡ wrong_line mistake }
-{
-    no_words(mistake, false)
+    see: Option<u32>,
 }
 
 // What is wrong where a part stops in a way that it may not.
@@ -112,13 +63,10 @@ fn wrong_stop(stop: Kind) -> Mistake
     ensures { result ≡ stop_mistake stop }
 {
     match stop {
-        Kind::Number => Mistake::NoNumber,
-        Kind::Semicolon => Mistake::NoNumber,
         Kind::End => Mistake::PartMissing,
-        Kind::Unexpected => Mistake::NoNumber,
         Kind::TooLarge => Mistake::TooLarge,
         Kind::TooMany => Mistake::TooMany,
-        Kind::NoCount => Mistake::NoNumber,
+        _ => Mistake::NoNumber,
     }
 }
 
@@ -126,25 +74,14 @@ fn wrong_stop(stop: Kind) -> Mistake
 fn is_last(stop: Kind) -> bool
     ensures { result ≡ is_last stop }
 {
-    match stop {
-        Kind::Number => false,
-        Kind::Semicolon => true,
-        Kind::End => true,
-        Kind::Unexpected => false,
-        Kind::TooLarge => false,
-        Kind::TooMany => false,
-        Kind::NoCount => false,
-    }
+    matches!(stop, Kind::Semicolon | Kind::End)
 }
 
 // Whether z is from 0 to the most that a field holds.
 fn fits(most: usize, z: i64) -> bool
     ensures { result ≡ fits most z }
 {
-    if !text_parts::first_part::is_count(z) {
-        return false;
-    }
-    text_parts::first_part::count(z) <= most
+    is_count(z) && count(z) <= most
 }
 
 // The most that a head's number can be.
@@ -157,26 +94,20 @@ fn most_number(form: Form) -> usize
     }
 }
 
-// What is wrong with the first part: how it stops, how many numbers it has, or one that does not fit.
-fn head_mistake(form: Form, stop: Kind, count: usize, number: i64, d: i64, m: i64) -> Mistake
-    ensures { result ≡ head_mistake (form_in form) stop count number d m }
+// Refuses a first part for how it stops, for how many numbers it has, or for one that does not fit.
+fn check_head(form: Form, stop: Kind, n: usize, number: i64, d: i64, m: i64) -> Result<(), Mistake>
+    ensures { result ≡ head_checked (form_in form) stop n number d m }
 {
-    if !text_parts::is_semicolon(stop) {
-        return wrong_stop(stop);
+    if stop != Kind::Semicolon {
+        return Err(wrong_stop(stop));
     }
-    if count != 3 {
-        return Mistake::NotThree;
+    if n != 3 {
+        return Err(Mistake::NotThree);
     }
-    if !fits(most_number(form), number) {
-        return Mistake::NoHead;
+    if fits(most_number(form), number) && fits(15, d) && fits(15, m) {
+        return Ok(());
     }
-    if !fits(15, d) {
-        return Mistake::NoHead;
-    }
-    if !fits(15, m) {
-        return Mistake::NoHead;
-    }
-    Mistake::None
+    Err(Mistake::NoHead)
 }
 
 // The words of a head in a form.
@@ -189,195 +120,130 @@ fn head_words(form: Form, number: u32, d: usize, m: usize) -> Head
     match form {
         Form::Old => Head {
             first: catalogue_writer::head_word(number, d, m),
-            size: 0,
+            size: None,
         },
         Form::New => Head {
             first: catalogue_writer::head_number_word(number),
-            size: catalogue_writer::head_size_word(d, m),
+            size: Some(catalogue_writer::head_size_word(d, m)),
         },
     }
 }
 
-// The words of up to 225 coordinates, as many as d and m in four bits each can ask for.
-fn coordinate_words(z: &[i64]) -> Words
+// The words of up to 225 coordinates, as many as d and m in four bits each can ask for, unless one is beyond the limit.
+fn coordinate_words(z: &[i64]) -> Option<[u32; 225]>
     requires { length z.now ≤ 225 }
-    ensures beyond_value { result.beyond ≡ any beyond z.now }
-    ensures words_value { result.beyond ≡ false → result.words ≡ encoded_coordinates z.now ++ replicate (225 - length z.now) 0 }
+    ensures { result ≡ cond (any beyond z.now) None (Some (encoded_coordinates z.now ++ replicate (225 - length z.now) 0)) }
 {
-    let mut words = [0u32; 225];
+    let mut words = [0; 225];
     for i in 0..z.len() {
         if input_checks::beyond(z[i]) {
-            return Words {
-                beyond: true,
-                words,
-            };
+            return None;
         }
         words[i] = catalogue_writer::coordinate_word(z[i]);
     }
-    Words {
-        beyond: false,
-        words,
-    }
+    Some(words)
 }
 
-// The see word that the last part tells, 0 for none.
-fn see_of(s: &[u8]) -> u32
+// The see word that the last part tells.
+fn see_of(s: &[u8]) -> Option<u32>
     ensures { result ≡ last_see (taken_at 1 s.now) }
 {
-    let mut z = [0i64; 1];
-    let part = text_parts::read_part(s, &mut z);
-    let stop = part.stop;
-    if !text_parts::is_end(stop) {
-        return 0;
+    let mut z = [0; 1];
+    let part = read_part(s, &mut z);
+    let [number] = z;
+    if part.stop == Kind::End && part.count == 1 && fits(Catalogue::MOST_NUMBER as usize, number) {
+        return Some(catalogue_writer::see_word(count(number) as u32));
     }
-    if part.count != 1 {
-        return 0;
-    }
-    if !fits(268435455, z[0]) {
-        return 0;
-    }
-    catalogue_writer::see_word(text_parts::first_part::count(z[0]) as u32)
+    None
 }
 
 // The part of the see word, with the mark before it or not.
-fn see_rest(s: &[u8], draft: bool) -> Rest
+fn see_rest(s: &[u8], draft: bool) -> Option<Rest>
     ensures { result ≡ see_rest draft (last_see (taken_at 1 s.now)) }
 {
-    let see = see_of(s);
-    Rest {
-        right: see != 0,
+    let number = see_of(s)?;
+    Some(Rest {
         draft,
-        see,
-    }
-}
-
-// Whether the bytes begin with a word.
-fn begins_with(s: &[u8], word: &[u8]) -> bool
-    ensures { result ≡ begins_with word.now s.now }
-{
-    if s.len() < word.len() {
-        return false;
-    }
-    for i in 0..word.len() {
-        if s[i] != word[i] {
-            return false;
-        }
-    }
-    true
-}
-
-// Whether `draft` stands behind the blanks.
-fn is_draft(s: &[u8]) -> bool
-    ensures { result ≡ is_draft s.now }
-{
-    let n = blanks(s);
-    begins_with(&s[n..], b"draft")
+        see: Some(number),
+    })
 }
 
 // What follows `draft`: nothing, or the part of the see word.
-fn after_draft(s: &[u8]) -> Rest
+fn after_draft(s: &[u8]) -> Option<Rest>
     ensures { result ≡ last_rest s.now }
 {
     let t = read_token(s);
-    let kind = t.kind;
-    if text_parts::is_end(kind) {
-        return Rest {
-            right: true,
+    match t.kind {
+        Kind::End => Some(Rest {
             draft: true,
-            see: 0,
-        };
+            see: None,
+        }),
+        Kind::Semicolon => see_rest(&s[t.length..], true),
+        _ => None,
     }
-    if !text_parts::is_semicolon(kind) {
-        return Rest {
-            right: false,
-            draft: true,
-            see: 0,
-        };
-    }
-    let at = t.length;
-    see_rest(&s[at..], true)
 }
 
 // The part behind the coordinates: `draft` and what follows it, or the see word.
-fn marked(s: &[u8]) -> Rest
+fn marked(s: &[u8]) -> Option<Rest>
     ensures { result ≡ mark_rest s.now }
 {
-    if !is_draft(s) {
-        return see_rest(s, false);
+    match s[blanks(s)..].strip_prefix(b"draft") {
+        Some(rest) => after_draft(rest),
+        None => see_rest(s, false),
     }
-    let at = blanks(s) + 5;
-    after_draft(&s[at..])
 }
 
 // What follows the coordinates, which may stop as they do: nothing, or that part.
-fn rest_of(stop: Kind, s: &[u8]) -> Rest
+fn rest_of(stop: Kind, s: &[u8]) -> Option<Rest>
     ensures { result ≡ rest_read stop s.now }
 {
-    if text_parts::is_end(stop) {
-        return Rest {
-            right: true,
+    if stop == Kind::End {
+        return Some(Rest {
             draft: false,
-            see: 0,
-        };
+            see: None,
+        });
     }
     marked(s)
 }
 
 // The parts after the head: n coordinates, the mark or none, and a see word or none.
-fn with_parts(s: &[u8], head: Head, n: usize) -> Line
+fn with_parts(s: &[u8], head: Head, n: usize) -> Result<Line, Mistake>
     ensures value { result ≡ parts_read head n (taken_at 225 s.now) s.now }
-    ensures count_bound { result.count ≤ 225 }
+    ensures count_bound { IfOk result (λ l. l.count ≤ 225) }
 {
-    let mut z = [0i64; 225];
-    let part = text_parts::read_part(s, &mut z);
-    let stop = part.stop;
-    if !is_last(stop) {
-        return wrong(wrong_stop(stop));
+    let mut z = [0; 225];
+    let part = read_part(s, &mut z);
+    if !is_last(part.stop) {
+        return Err(wrong_stop(part.stop));
     }
-    let count = part.count;
-    if count != n {
-        return wrong(Mistake::NotAll);
+    if part.count != n {
+        return Err(Mistake::NotAll);
     }
-    let w = coordinate_words(&z[..count]);
-    if w.beyond {
-        return wrong(Mistake::Beyond);
-    }
-    let words = w.words;
-    let at = part.length;
-    let rest = rest_of(stop, &s[at..]);
-    if !rest.right {
-        return wrong(Mistake::NoSee);
-    }
-    Line {
-        mistake: Mistake::None,
-        blank: false,
+    let coordinates = coordinate_words(&z[..n]).ok_or(Mistake::Beyond)?;
+    let rest = rest_of(part.stop, &s[part.length..]).ok_or(Mistake::NoSee)?;
+    Ok(Line {
         head: head.first,
         size: head.size,
-        count,
-        coordinates: words,
+        count: n,
+        coordinates,
         draft: rest.draft,
         see: rest.see,
-    }
+    })
 }
 
 // A line that is not blank, without its comment.
-fn read_content(form: Form, s: &[u8]) -> Line
+fn read_content(form: Form, s: &[u8]) -> Result<Line, Mistake>
     ensures value { result ≡ content_read (form_in form) s.now }
-    ensures count_bound { result.count ≤ 225 }
+    ensures count_bound { IfOk result (λ l. l.count ≤ 225) }
 {
-    let mut z = [0i64; 3];
-    let part = text_parts::read_part(s, &mut z);
-    let stop = part.stop;
-    let mistake = head_mistake(form, stop, part.count, z[0], z[1], z[2]);
-    if !is_none(mistake) {
-        return wrong(mistake);
-    }
-    let number = text_parts::first_part::count(z[0]);
-    let d = text_parts::first_part::count(z[1]);
-    let m = text_parts::first_part::count(z[2]);
-    let head = head_words(form, number as u32, d, m);
-    let at = part.length;
-    with_parts(&s[at..], head, d * m)
+    let mut z = [0; 3];
+    let part = read_part(s, &mut z);
+    let [number, d, m] = z;
+    check_head(form, part.stop, part.count, number, d, m)?;
+    let d = count(d);
+    let m = count(m);
+    let head = head_words(form, count(number) as u32, d, m);
+    with_parts(&s[part.length..], head, d * m)
 }
 
 // How many bytes stand before the first byte b, all of them where there is none.
@@ -385,32 +251,26 @@ pub fn length_before(s: &[u8], b: u8) -> usize
     ensures value { result ≡ length_before b s.now }
     ensures upper_bound { result ≤ length s.now }
 {
-    let mut i = 0;
-    while i < s.len() {
-        if s[i] == b {
-            return i;
-        }
-        i += 1;
-    }
-    i
+    s.iter().position(|&c| c == b).unwrap_or(s.len())
 }
 
 // A line without its comment.
-fn read_text(form: Form, s: &[u8]) -> Line
+fn read_text(form: Form, s: &[u8]) -> Result<Option<Line>, Mistake>
     ensures value { result ≡ text_read (form_in form) s.now }
-    ensures count_bound { result.count ≤ 225 }
+    ensures count_bound { IfOk result (λ o. IfSome o (λ l. l.count ≤ 225)) }
 {
     if blanks(s) == s.len() {
-        return no_words(Mistake::None, true);
+        return Ok(None);
     }
-    read_content(form, s)
+    let line = read_content(form, s)?;
+    Ok(Some(line))
 }
 
-// A line of a text in a form: its words, what is wrong with it, or that it is blank. The last clause follows from the other; with it a caller
-// can cut the coordinates out.
-pub fn read_line(form: Form, s: &[u8]) -> Line
+// A line of a text in a form: its words, or nothing where it is blank, or what is wrong with it. The last clause follows from the other; with
+// it a caller can cut the coordinates out.
+pub fn read_line(form: Form, s: &[u8]) -> Result<Option<Line>, Mistake>
     ensures value { result ≡ line_read (form_in form) s.now }
-    ensures count_bound { result.count ≤ 225 }
+    ensures count_bound { IfOk result (λ o. IfSome o (λ l. l.count ≤ 225)) }
 {
     let n = length_before(s, b'#');
     read_text(form, &s[..n])
@@ -420,12 +280,10 @@ pub fn read_line(form: Form, s: &[u8]) -> Line
 fn is_new_text(s: &[u8]) -> bool
     ensures { result ≡ is_new_text s.now }
 {
-    let n = blanks(s);
-    if !begins_with(&s[n..], b"new") {
-        return false;
+    match s[blanks(s)..].strip_prefix(b"new") {
+        Some(rest) => blanks(rest) == rest.len(),
+        None => false,
     }
-    let at = n + 3;
-    blanks(&s[at..]) == s.len() - at
 }
 
 // Whether a line is `new`.

@@ -1,5 +1,5 @@
 -- A number's digits stored from the last on.
-use Rattle.std.specs.Prelude.{◌≡◌, refl, List, [], ◌∷◌, ◌++◌, ℕ, suc, ◌+◌, ◌-◌, ◌/◌, ◌%◌, ◌≤◌, ◌<◌, length, set}
+use Rattle.std.specs.Prelude.{◌≡◌, List, [], ◌∷◌, ◌++◌, ℕ, suc, ◌+◌, ◌-◌, ◌/◌, ◌%◌, ◌≤◌, ◌<◌, length, set}
 use Rattle.std.proofs.Common.{ap, sym, ◌∙◌, arith, length-append, length-set}
 use Rattle.std.proofs.Math.Decide.{dec_lt}
 use Rattle.std.proofs.lemmas.List.Edits.{sets}
@@ -50,13 +50,6 @@ pub record Left (before : List ℕ) (end n : ℕ) (after : List ℕ) (at rest : 
   pub fewer : length (decimal rest) ≤ length (decimal n)
   pub digits : sets after (end - length (decimal n)) (decimal rest) ≡ sets before (end - length (decimal n)) (decimal n)
 
-pub left-start : (before : List ℕ) (end n at : ℕ) → length (decimal n) ≤ end → at ≡ end - 1 → Left before end n before at n
-left-start before end n at h e = record { long = refl; place = omega (arith, h, e, some-digit n); fewer = omega arith; digits = refl }
-
--- a digit is still to be put, within the bytes
-pub left-within : {before after : List ℕ} {end n at rest : ℕ} → Left before end n after at rest → length (decimal n) ≤ end → end ≤ length before → at < length after
-left-within {n} {rest} p h k = omega (arith, p.long, p.place, p.fewer, h, k)
-
 pub left-more : {before after : List ℕ} {end n at rest : ℕ} → Left before end n after at rest → 10 ≤ rest → 1 ≤ at
 left-more {rest} p h = omega (arith, p.place, one_more rest h, some-digit (rest / 10))
 
@@ -67,6 +60,3 @@ left-next {before} {after} {end} {n} {at} {rest} p h = record {
   fewer = omega (arith, p.fewer, one_more rest h);
   digits = digits_more after (end - length (decimal n)) at rest h p.place ∙ p.digits;
 }
-
-pub left-last : {before after : List ℕ} {end n at rest : ℕ} → Left before end n after at rest → rest < 10 → set after at (48 + rest) ≡ sets before (end - length (decimal n)) (decimal n)
-left-last {after = after} {end} {n} {at} {rest} p h = digits-one after (end - length (decimal n)) at rest h p.place ∙ p.digits

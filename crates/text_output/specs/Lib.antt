@@ -1,8 +1,6 @@
--- Text as bytes: where it is put, numbers in decimal, the sizes and signs of numbers.
+-- Text as bytes: where it is put, and numbers in decimal.
 pub mod Counts
 pub mod Puts
 pub mod Joined
 pub mod Within
 pub mod Digits
-pub mod Turned
-pub mod Signs

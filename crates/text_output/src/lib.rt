@@ -20,10 +20,9 @@ pub fn put_bytes(out: &mut [u8], at: usize, text: &[u8]) -> usize
     requires { at + length text.now ≤ length out.old }
     ensures { Puts text.now out.old at out.new result }
 {
-    for i in 0..text.len() {
-        out[at + i] = text[i];
-    }
-    at + text.len()
+    let end = at + text.len();
+    out[at..end].copy_from_slice(text);
+    end
 }
 
 // How many digits a number has.
@@ -64,25 +63,11 @@ pub fn put_decimal(out: &mut [u8], at: usize, n: u64) -> usize
     end
 }
 
-// The size of z. The least number's size is no i64, so one is added after the sign is turned.
-pub fn magnitude(z: i64) -> u64
-    ensures { result ≡ nat_abs z }
-{
-    if z < 0 {
-        return -(z + 1) as u64 + 1;
-    }
-    z as u64
-}
-
 // A signed number in decimal, a minus before it where it is negative.
 pub fn put_signed(out: &mut [u8], at: usize, z: i64) -> usize
     requires { at + length (signed z) ≤ length out.old }
     ensures { Puts (signed z) out.old at out.new result }
 {
-    let n = magnitude(z);
-    if z < 0 {
-        let k = put_byte(out, at, b'-');
-        return put_decimal(out, k, n);
-    }
-    put_decimal(out, at, n)
+    let first = if z < 0 { put_byte(out, at, b'-') } else { at };
+    put_decimal(out, first, z.unsigned_abs())
 }

@@ -20,7 +20,7 @@ are_counts n d m = leb 2 n && (is_count d && is_count m)
 
 -- how the first part stops: at its semicolon only behind two counts, and a third number is a mistake
 abbrev pub counts_stop : Kind → Bool → Kind
-counts_stop Number fit = Number
+counts_stop (Number z) fit = Number z
 counts_stop Semicolon true = Semicolon
 counts_stop Semicolon false = NoCount
 counts_stop End fit = End

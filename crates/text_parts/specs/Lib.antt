@@ -6,5 +6,4 @@ pub mod TokenLaws
 pub mod Parts
 pub mod PartLaws
 pub mod Counts
-pub mod CountLaws
 pub mod Examples

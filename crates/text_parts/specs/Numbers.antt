@@ -1,5 +1,5 @@
 -- The number that bytes begin with: its digits, the value that they write, and what is read of it.
-use Rattle.std.specs.Prelude.{Bool, cond, ◌&&◌, List, [], ◌∷◌, ℕ, suc, ◌+◌, ◌-◌, ◌*◌, get_or, take, drop, ℤ, pos, neg_ℤ, leb, ltb, eqb}
+use Rattle.std.specs.Prelude.{Bool, cond, Option, None, Some, ◌&&◌, List, [], ◌∷◌, ℕ, suc, ◌+◌, ◌-◌, ◌*◌, get_or, take, drop, ℤ, pos, neg_ℤ, leb, ltb, eqb}
 use Rattle.text_parts.specs.declared.Kind.{Kind}
 use Rattle.text_parts.specs.declared.Kind.TheVariants.{Number, Unexpected, TooLarge}
 use Rattle.text_parts.specs.declared.Token.{Token}
@@ -21,19 +21,23 @@ abbrev pub value : ℕ → List ℕ → ℕ
 value n [] = n
 value n (b ∷ bs) = value (n * 10 + (b - 48)) bs
 
--- the least number whose size no i64 has
-abbrev pub beyond : ℕ
-beyond = 9223372036854775809
+-- the largest number of 64 bits
+abbrev pub largest : ℕ
+largest = 18446744073709551615
 
 -- minus says how many signs there are
 abbrev pub with_sign : ℕ → ℕ → ℤ
 with_sign minus n = cond (eqb minus 0) (pos n) (neg_ℤ (pos n))
 
+-- the number with that size, where an i64 has it
+abbrev pub signed_within : ℕ → ℕ → Option ℤ
+signed_within minus n = cond (ltb (9223372036854775807 + minus) n) None (Some (with_sign minus n))
+
 abbrev pub wrong : Kind → ℕ → Token
-wrong k n = record { kind = k; length = n; value = pos 0 }
+wrong k n = record { kind = k; length = n }
 
 abbrev pub read : ℕ → ℤ → Token
-read n z = record { kind = Number; length = n; value = z }
+read n z = record { kind = Number z; length = n }
 
 -- a number of n digits and that size
 abbrev pub sized : ℕ → ℕ → ℕ → Token

@@ -9,7 +9,7 @@ use Rattle.text_parts.specs.declared.Kind.TheVariants.{TooMany}
 use Rattle.text_parts.specs.declared.Token.{Token}
 use Rattle.text_parts.specs.declared.Part.{Part}
 use Rattle.text_parts.specs.Tokens.{token_at}
-use Rattle.text_parts.specs.Parts.{is_number, Taken, stopped, more, taken_at, part_of, filled}
+use Rattle.text_parts.specs.Parts.{is_number, number_in, Taken, stopped, more, taken_at, part_of, filled}
 
 -- the same part with n numbers and `at` bytes before it
 abbrev further : ℕ → ℕ → Part → Part
@@ -24,18 +24,6 @@ pub record Reading (s : List ℕ) (before out : List ℤ) (n at : ℕ) : Type 0 
 
 same-part : {n m a b : ℕ} {k l : Kind} → n ≡ m → a ≡ b → k ≡ l → ◌≡◌ {A = Part} (record { count = n; length = a; stop = k }) (record { count = m; length = b; stop = l })
 same-part e f g = λ i. record { count = e i; length = f i; stop = g i }
-
-pub reading_begins : (s : List ℕ) (out : List ℤ) → Reading s out out 0 0
-reading_begins s out =
-    let p = taken_at (length out) s in
-    let e : length out - 0 ≡ length out = omega arith in
-    record {
-      few = omega arith;
-      within = omega arith;
-      same = refl;
-      part = same-part (omega arith) (omega arith) refl ∙ ap (λ k. further 0 0 (part_of (taken_at k s))) (sym e);
-      lent = ap (λ k. filled (taken_at k s) out) (sym e);
-    }
 
 -- the token that comes next, and which case of the definition it decides
 module _ {s : List ℕ} {before out : List ℤ} {n at : ℕ} (r : Reading s before out n at) (t : Token) (e : t ≡ token_at (drop at s)) where
@@ -81,9 +69,9 @@ module _ {s : List ℕ} {before out : List ℤ} {n at : ℕ} (r : Reading s befo
       let p = ends_with (last (omega arith) f) in
       (p.0 ∙ same-part refl (omega arith) refl, p.1)
 
-  pub reading-goes : n < length out → at + t.length ≤ length s → is_number t.kind ≡ true → Reading s before (set out n t.value) (n + 1) (at + t.length)
+  pub reading-goes : n < length out → at + t.length ≤ length s → is_number t.kind ≡ true → Reading s before (set out n (number_in t.kind)) (n + 1) (at + t.length)
   reading-goes h w f =
-      let x = t.value in
+      let x = number_in t.kind in
       let q = taken_at (length out - (n + 1)) (drop (at + t.length) s) in
       let next : taken_at (length out - n) (drop at s) ≡ more t q = rest (length out - (n + 1)) (omega arith) f in
       let one : suc n ≡ n + 1 = omega arith in
@@ -99,9 +87,9 @@ module _ {s : List ℕ} {before out : List ℤ} {n at : ℕ} (r : Reading s befo
             ∙ ap (λ k. take (n + 1) (set out n x) ++ filled (taken_at (k - (n + 1)) (drop (at + t.length) s)) (drop (n + 1) (set out n x))) long;
       }
     where
-      put : (q : Taken) → take n out ++ filled (more t q) (drop n out) ≡ take (suc n) (set out n t.value) ++ filled q (drop (suc n) (set out n t.value))
+      put : (q : Taken) → take n out ++ filled (more t q) (drop n out) ≡ take (suc n) (set out n (number_in t.kind)) ++ filled q (drop (suc n) (set out n (number_in t.kind)))
       put q =
-          let x = t.value in
+          let x = number_in t.kind in
           let k = length q.numbers in
           ap (λ l. take n out ++ (x ∷ (q.numbers ++ drop (suc k) l))) (drop-cons out n (pos 0) h)
           ∙ sym (append_snoc (take n out) x (filled q (drop (suc n) out)))

@@ -1,5 +1,5 @@
 -- The parts of a request: numbers up to a semicolon, the end or a mistake.
-use Rattle.std.specs.Prelude.{Bool, true, false, cond, List, [], ◌∷◌, ◌++◌, ℕ, zero, suc, ◌+◌, ℤ, length, drop}
+use Rattle.std.specs.Prelude.{Bool, true, false, cond, List, [], ◌∷◌, ◌++◌, ℕ, zero, suc, ◌+◌, ℤ, pos, length, drop}
 use Rattle.text_parts.specs.declared.Kind.{Kind}
 use Rattle.text_parts.specs.declared.Kind.TheVariants.{Number, Semicolon, End, Unexpected, TooLarge, TooMany, NoCount}
 use Rattle.text_parts.specs.declared.Token.{Token}
@@ -7,7 +7,7 @@ use Rattle.text_parts.specs.declared.Part.{Part}
 use Rattle.text_parts.specs.Tokens.{token_at}
 
 abbrev pub is_number : Kind → Bool
-is_number Number = true
+is_number (Number z) = true
 is_number Semicolon = false
 is_number End = false
 is_number Unexpected = false
@@ -16,7 +16,7 @@ is_number TooMany = false
 is_number NoCount = false
 
 abbrev pub is_semicolon : Kind → Bool
-is_semicolon Number = false
+is_semicolon (Number z) = false
 is_semicolon Semicolon = true
 is_semicolon End = false
 is_semicolon Unexpected = false
@@ -25,13 +25,23 @@ is_semicolon TooMany = false
 is_semicolon NoCount = false
 
 abbrev pub is_end : Kind → Bool
-is_end Number = false
+is_end (Number z) = false
 is_end Semicolon = false
 is_end End = true
 is_end Unexpected = false
 is_end TooLarge = false
 is_end TooMany = false
 is_end NoCount = false
+
+-- the number that a token is
+abbrev pub number_in : Kind → ℤ
+number_in (Number z) = z
+number_in Semicolon = pos 0
+number_in End = pos 0
+number_in Unexpected = pos 0
+number_in TooLarge = pos 0
+number_in TooMany = pos 0
+number_in NoCount = pos 0
 
 -- the numbers of a part, how many bytes they take with the token after them, and that token's kind
 pub record Taken : Type 0 where
@@ -44,7 +54,7 @@ stopped n k = record { numbers = []; length = n; stop = k }
 
 -- a number before the others
 abbrev pub more : Token → Taken → Taken
-more t p = record { numbers = t.value ∷ p.numbers; length = t.length + p.length; stop = p.stop }
+more t p = record { numbers = number_in t.kind ∷ p.numbers; length = t.length + p.length; stop = p.stop }
 
 -- R13.1, R14.1: what the bytes begin with, where there is room for so many numbers: one too many stays where it is
 unfoldable pub taken_at : ℕ → List ℕ → Taken

@@ -1,6 +1,6 @@
 -- Which case of the definition holds of a token, by the byte after its blanks.
-use Rattle.std.specs.Prelude.{◌≡◌, Bool, true, false, cond, ◌||◌, List, ◌∷◌, ◌⊎◌, ℕ, ◌+◌, ◌≤◌, ◌<◌, length, get_or, drop, eqb}
-use Rattle.std.proofs.Common.{sym, ◌∙◌, inl, inr, arith, drop_of_length-le, drop-drop, eq-eqb, ne_eqb}
+use Rattle.std.specs.Prelude.{◌≡◌, Bool, cond, List, ◌∷◌, ℕ, ◌+◌, ◌<◌, length, get_or, drop, eqb}
+use Rattle.std.proofs.Common.{sym, ◌∙◌, arith, drop-drop, eq-eqb, ne_eqb}
 use Rattle.std.proofs.Math.Path.{ap}
 use Rattle.std.proofs.Math.Seq.{drop-length}
 use Rattle.text_parts.specs.declared.Kind.TheVariants.{Semicolon, End, Unexpected}
@@ -8,24 +8,6 @@ use Rattle.text_parts.specs.declared.Token.{Token}
 use Rattle.text_parts.specs.Numbers.{leading, wrong, number_at}
 use Rattle.text_parts.specs.NumberLaws.{drop-next}
 use Rattle.text_parts.specs.Tokens.{is_blank, ends, ended, token_here, later, token_at}
-
-pub blank-yes : (b : ℕ) → (b ≡ 9) ⊎ ((b ≡ 13) ⊎ (b ≡ 32)) → is_blank b ≡ true
-blank-yes b (inl e) = ap is_blank e
-blank-yes b (inr (inl e)) = ap is_blank e
-blank-yes b (inr (inr e)) = ap is_blank e
-
-pub blank-no : (b : ℕ) → ((b ≡ 9) ⊎ ((b ≡ 13) ⊎ (b ≡ 32)) → ⊥) → is_blank b ≡ false
-blank-no b h =
-    let p = ne_eqb b 9 (λ e. h (inl e)) in
-    let q = ne_eqb b 13 (λ e. h (inr (inl e))) in
-    let r = ne_eqb b 32 (λ e. h (inr (inr e))) in
-    λ k. p k || (q k || r k)
-
-pub ends_next : (s : List ℕ) (i : ℕ) {t : Bool} → i < length s → eqb (get_or s i 0) 59 ≡ t → ends (drop i s) ≡ t || is_blank (get_or s i 0)
-ends_next s i h e = ap ends (drop-next s i h) ∙ ap (λ t. t || is_blank (get_or s i 0)) e
-
-pub ends-end : (s : List ℕ) (i : ℕ) → length s ≤ i → ends (drop i s) ≡ true
-ends-end s i h = ap ends (drop_of_length-le s h)
 
 -- the three cases, n being how many blanks there are
 module _ (s : List ℕ) (n : ℕ) (blanks : n ≡ leading is_blank s) where

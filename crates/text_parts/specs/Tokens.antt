@@ -24,7 +24,7 @@ token_here (b ∷ bs) = cond (eqb b 59) (wrong Semicolon 1) (ended (b ∷ bs) (n
 
 -- a token with n blanks before it
 abbrev pub later : ℕ → Token → Token
-later n t = record { kind = t.kind; length = n + t.length; value = t.value }
+later n t = record { kind = t.kind; length = n + t.length }
 
 -- R13.2: the first token of the bytes
 unfoldable pub token_at : List ℕ → Token

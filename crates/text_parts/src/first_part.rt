@@ -14,23 +14,14 @@ pub fn is_count(n: i64) -> bool
 pub fn count(n: i64) -> usize
     ensures { result ≡ count_of n }
 {
-    if n < 0 {
-        return 0;
-    }
-    n as usize
+    n.max(0) as usize
 }
 
 // Whether n numbers, of which d and m are the first, are two counts.
 fn are_counts(n: usize, d: i64, m: i64) -> bool
     ensures { result ≡ are_counts n d m }
 {
-    if n < 2 {
-        return false;
-    }
-    if !is_count(d) {
-        return false;
-    }
-    is_count(m)
+    n >= 2 && is_count(d) && is_count(m)
 }
 
 // How the first part stops: at its semicolon only behind two counts, and a third number is a mistake.
@@ -38,18 +29,9 @@ fn counts_stop(stop: Kind, fit: bool) -> Kind
     ensures { result ≡ counts_stop stop fit }
 {
     match stop {
-        Kind::Number => Kind::Number,
-        Kind::Semicolon => {
-            if fit {
-                return Kind::Semicolon;
-            }
-            Kind::NoCount
-        }
-        Kind::End => Kind::End,
-        Kind::Unexpected => Kind::Unexpected,
-        Kind::TooLarge => Kind::TooLarge,
+        Kind::Semicolon if !fit => Kind::NoCount,
         Kind::TooMany => Kind::NoCount,
-        Kind::NoCount => Kind::NoCount,
+        _ => stop,
     }
 }
 
@@ -58,13 +40,13 @@ pub fn read_counts(s: &[u8]) -> Counts
     ensures value { result ≡ counts_at s.now }
     ensures length_in_bounds { result.length ≤ length s.now }
 {
-    let mut numbers = [0i64; 2];
+    let mut numbers = [0; 2];
     let p = read_part(s, &mut numbers);
-    let stop = p.stop;
+    let [d, m] = numbers;
     Counts {
-        d: count(numbers[0]),
-        m: count(numbers[1]),
+        d: count(d),
+        m: count(m),
         length: p.length,
-        stop: counts_stop(stop, are_counts(p.count, numbers[0], numbers[1])),
+        stop: counts_stop(p.stop, are_counts(p.count, d, m)),
     }
 }

@@ -2,7 +2,7 @@
 #![tactic(auto)]
 
 ghost use Rattle.std.specs.Prelude.{◌≡◌, ◌≤◌, length};
-ghost use Rattle.text_parts.specs.Parts.{is_number, is_semicolon, is_end, taken_at, part_of, filled};
+ghost use Rattle.text_parts.specs.Parts.{taken_at, part_of, filled};
 
 use tokens::read_token;
 
@@ -11,9 +11,9 @@ pub mod numbers;
 pub mod tokens;
 
 // What stands at a place of the text.
-#[derive(Clone, Copy)]
+#[derive(Clone, Copy, PartialEq, Eq)]
 pub enum Kind {
-    Number,
+    Number(i64),
     Semicolon,
     End,
     Unexpected,
@@ -22,15 +22,14 @@ pub enum Kind {
     NoCount,
 }
 
-// The first token of some bytes: its kind, how many bytes it takes with the blanks before it, and its value if it is a number.
+// The first token of some bytes: what it is, and how many bytes it takes with the blanks before it.
 #[derive(Clone, Copy)]
 pub struct Token {
     pub kind: Kind,
     pub length: usize,
-    pub value: i64,
 }
 
-// The numbers of a part: how many, how many bytes they take with the token after them, and that token's kind.
+// The numbers of a part: how many, how many bytes they take with the token after them, and what that token is.
 #[derive(Clone, Copy)]
 pub struct Part {
     pub count: usize,
@@ -47,48 +46,6 @@ pub struct Counts {
     pub stop: Kind,
 }
 
-fn is_number(kind: Kind) -> bool
-    ensures { result ≡ is_number kind }
-{
-    match kind {
-        Kind::Number => true,
-        Kind::Semicolon => false,
-        Kind::End => false,
-        Kind::Unexpected => false,
-        Kind::TooLarge => false,
-        Kind::TooMany => false,
-        Kind::NoCount => false,
-    }
-}
-
-pub fn is_semicolon(kind: Kind) -> bool
-    ensures { result ≡ is_semicolon kind }
-{
-    match kind {
-        Kind::Number => false,
-        Kind::Semicolon => true,
-        Kind::End => false,
-        Kind::Unexpected => false,
-        Kind::TooLarge => false,
-        Kind::TooMany => false,
-        Kind::NoCount => false,
-    }
-}
-
-pub fn is_end(kind: Kind) -> bool
-    ensures { result ≡ is_end kind }
-{
-    match kind {
-        Kind::Number => false,
-        Kind::Semicolon => false,
-        Kind::End => true,
-        Kind::Unexpected => false,
-        Kind::TooLarge => false,
-        Kind::TooMany => false,
-        Kind::NoCount => false,
-    }
-}
-
 // The numbers up to a semicolon, the end or a mistake, put into out. One that out has no room for is a mistake.
 pub fn read_part(s: &[u8], out: &mut [i64]) -> Part
     ensures value { result ≡ part_of (taken_at (length out.old) s.now) }
@@ -100,14 +57,13 @@ pub fn read_part(s: &[u8], out: &mut [i64]) -> Part
     let mut at = 0;
     loop {
         let t = read_token(&s[at..]);
-        let kind = t.kind;
-        if !is_number(kind) {
+        let Kind::Number(z) = t.kind else {
             return Part {
                 count: n,
                 length: at + t.length,
-                stop: kind,
+                stop: t.kind,
             };
-        }
+        };
         if n == out.len() {
             return Part {
                 count: n,
@@ -115,8 +71,7 @@ pub fn read_part(s: &[u8], out: &mut [i64]) -> Part
                 stop: Kind::TooMany,
             };
         }
-        let value = t.value;
-        out[n] = value;
+        out[n] = z;
         n += 1;
         at += t.length;
     }

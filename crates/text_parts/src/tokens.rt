@@ -3,7 +3,7 @@ ghost use Rattle.std.specs.Prelude.{◌≡◌, ◌≤◌, length, drop};
 ghost use Rattle.text_parts.specs.Numbers.{leading};
 ghost use Rattle.text_parts.specs.Tokens.{is_blank, ends, token_at};
 
-use super::numbers::{number, wrong};
+use super::numbers::number;
 use super::{Kind, Token};
 
 // A carriage return counts as a blank, so that both kinds of line end do.
@@ -21,24 +21,17 @@ pub fn blanks(s: &[u8]) -> usize
     ensures value { result ≡ leading is_blank s.now }
     ensures upper_bound { result ≤ length s.now }
 {
-    let mut i = 0;
-    while i < s.len() {
-        if !is_blank(s[i]) {
-            return i;
-        }
-        i += 1;
-    }
-    i
+    s.iter().position(|&b| !is_blank(b)).unwrap_or(s.len())
 }
 
-// May a number end before place i?
-fn is_end(s: &[u8], i: usize) -> bool
-    ensures { result ≡ ends (drop i s.now) }
+// May a number end before these bytes?
+fn ends(s: &[u8]) -> bool
+    ensures { result ≡ ends s.now }
 {
-    if i < s.len() {
-        return s[i] == b';' || is_blank(s[i]);
+    match s {
+        [] => true,
+        [b, ..] => *b == b';' || is_blank(*b),
     }
-    true
 }
 
 // The first token of the bytes.
@@ -48,16 +41,24 @@ pub fn read_token(s: &[u8]) -> Token
 {
     let n = blanks(s);
     if n == s.len() {
-        return wrong(Kind::End, n);
+        return Token {
+            kind: Kind::End,
+            length: n,
+        };
     }
     if s[n] == b';' {
-        return wrong(Kind::Semicolon, n + 1);
+        return Token {
+            kind: Kind::Semicolon,
+            length: n + 1,
+        };
     }
-    let mut t = number(&s[n..]);
-    let end = n + t.length;
-    if !is_end(s, end) {
-        return wrong(Kind::Unexpected, n);
+    let t = number(&s[n..]);
+    let length = n + t.length;
+    if !ends(&s[length..]) {
+        return Token {
+            kind: Kind::Unexpected,
+            length: n,
+        };
     }
-    t.length = end;
-    t
+    Token { length, ..t }
 }

@@ -105,7 +105,7 @@ later-blank s =
     let n = leading is_blank s in
     let t = token_here (drop n s) in
     let e : suc n + t.length ≡ 1 + (n + t.length) = omega arith in
-    ap (λ k. record { kind = t.kind; length = k; value = t.value }) e
+    ap (λ k. record { kind = t.kind; length = k }) e
 
 pub blank_reads : (s : List ℕ) (z : ℤ) → Reads s z → Reads (32 ∷ s) z
 blank_reads s z r =

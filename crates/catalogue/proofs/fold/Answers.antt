@@ -1,29 +1,17 @@
 -- The catalogue's own refusals first; then the fold of what was read.
-use mathlib.Core.Path.{ap, ◌∙◌}
-use Rattle.catalogue_records.specs.Catalogues.{written_of}
-use Rattle.catalogue_standing.specs.ReducedEntries.{ready}
+use Rattle.std.proofs.Common.{◌≡◌, ap, ◌∙◌, rules, Err}
+use Rattle.catalogue_records.specs.EntriesIn.{output_in}
+use Rattle.catalogue_standing.specs.ReducedEntries.{ready-read}
 use Rattle.catalogue.specs.Outcome.{not-folded, fold_as}
 use Rattle.catalogue.proofs.fold.Goals as goal
 
-pub returns-then-c-ne0 : goal.returns-then-c-ne0
-returns-then-c-ne0 c =
-    let r = c.before.before in
-    let a = r.before.before.before.args in
-    let o = not-folded a.bytes.now r.read-c.ensures a.out.now c.if-c-ne0.true in record {
-      value = ap written_of o;
-      out_after = ap (λ o. o.lent) o;
-    }
+pub returns-in_err-c : goal.returns-in_err-c
+returns-in_err-c c =
+    let e : c.from_residual.result ≡ Err c.in_err-c.field-0.0 = search rules in
+    ap (λ r. output_in r c.args.out.now) e ∙ not-folded c.args.bytes.now c.in_err-c.field-0.0 c.in_err-c.ensures.outcome c.args.out.now
 
 pub fold_read-requires : goal.fold_read-requires
-fold_read-requires c = let e = c.before in let r = e.before.before in ready r.before.before.before.args.bytes.now r.read-c.ensures e.if-c-ne0.false
+fold_read-requires c = ready-read c.args.bytes.now c.in_ok-c.c c.in_ok-c.ensures.outcome c.list.ensures
 
 pub returns : goal.returns
-returns c =
-    let w = c.before.before in
-    let e = w.before.before in
-    let r = e.before.before in
-    let a = r.before.before.before.args in
-    let same = fold_as a.bytes.now r.read-c.ensures e.if-c-ne0.false a.out.now in record {
-      value = w.fold_read.ensures.value ∙ ap written_of same;
-      out_after = w.fold_read.ensures.out_after ∙ ap (λ o. o.lent) same;
-    }
+returns c = c.fold_read.ensures ∙ fold_as c.args.bytes.now c.in_ok-c.c c.in_ok-c.ensures.outcome c.list.ensures c.args.out.now

@@ -1,19 +1,17 @@
 -- The catalogue's own refusals first; then what was read.
-use mathlib.Core.Path.{◌∙◌}
-use Rattle.catalogue_standing.specs.ReducedEntries.{ready}
+use Rattle.std.proofs.Common.{◌≡◌, ap, ◌∙◌, rules, Err}
+use Rattle.separation_answers.specs.Said.{said_by}
+use Rattle.catalogue_standing.specs.ReducedEntries.{ready-read}
 use Rattle.catalogue.specs.Separating.{separate_refused, separated_as}
 use Rattle.catalogue.proofs.separate.Goals as goal
 
-pub returns-then-c-ne0 : goal.returns-then-c-ne0
-returns-then-c-ne0 c =
-    let r = c.before.before in
-    separate_refused r.before.before.args.bytes.now r.read-c.ensures _ _ c.if-c-ne0.true
+pub returns-in_err-c : goal.returns-in_err-c
+returns-in_err-c c =
+    let e : c.from_residual.result ≡ Err c.in_err-c.field-0.0 = search rules in
+    ap said_by e ∙ separate_refused c.args.bytes.now c.args.first c.args.second c.in_err-c.field-0.0 c.in_err-c.ensures.outcome
 
 pub separate_read-requires : goal.separate_read-requires
-separate_read-requires c = let r = c.before.before in ready r.before.before.args.bytes.now r.read-c.ensures c.if-c-ne0.false
+separate_read-requires c = ready-read c.args.bytes.now c.in_ok-c.c c.in_ok-c.ensures.outcome c.list.ensures
 
 pub returns : goal.returns
-returns c =
-    let e = c.before in
-    let r = e.before.before in
-    c.separate_read.ensures ∙ separated_as r.before.before.args.bytes.now r.read-c.ensures _ _ e.if-c-ne0.false
+returns c = c.separate_read.ensures ∙ separated_as c.args.bytes.now c.args.first c.args.second c.in_ok-c.c c.in_ok-c.ensures.outcome c.list.ensures

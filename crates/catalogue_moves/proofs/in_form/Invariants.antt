@@ -1,8 +1,5 @@
 -- The first k entries are stored in the form.
-use mathlib.Core.Path.{◌≡◌}
-use mathlib.Core.List.{map}
-use Prim.Native.Nat.{◌-◌, ◌≤◌}
-use lib.ListN.{take}
+use Rattle.std.proofs.Common.{◌≡◌, map, take}
 use Rattle.integers.specs.Filled.{filled}
 use Rattle.catalogue_rules.specs.Catalogue.{most_entries}
 use Rattle.catalogue_records.specs.Stored.{no_entry}
@@ -10,7 +7,4 @@ use Rattle.catalogue_moves.specs.Moved.{stored_in}
 use Rattle.catalogue_moves.proofs.in_form.Given as goal
 
 abbrev pub invariant-loop-k : goal.invariant-loop-k
-invariant-loop-k l = (l.k ≤ l.k-end) × (l.entries ≡ filled no_entry most_entries (map (stored_in l.form) (take l.k l.c.entries)))
-
-abbrev pub decreases-loop-k : goal.decreases-loop-k
-decreases-loop-k l = l.k-end - l.k
+invariant-loop-k l = l.c.entries ≡ filled no_entry most_entries (map (stored_in l.form) (take l.k l.entries))

@@ -1,14 +1,11 @@
--- No see word of the first k entries is lost, so the rest decides.
-use mathlib.Core.Path.{◌≡◌}
-use Prim.Native.Nat.{◌-◌}
-use lib.ListN.{drop}
+-- No see word of the entries so far is lost, so the rest decides.
+use Rattle.std.proofs.Common.{◌≡◌, map, drop}
 use Rattle.integers.specs.First.{first_given}
 use Rattle.catalogue_rules.specs.Read.{lost_at}
-use Rattle.catalogue_records.specs.EntriesIn.{entries_in}
+use Rattle.catalogue_records.specs.EntriesIn.{entry_in}
 use Rattle.catalogue_reader.proofs.first_lost.Given as goal
 
-abbrev pub invariant-loop-k : goal.invariant-loop-k
-invariant-loop-k l = first_given (lost_at (entries_in l.c)) (entries_in l.c) ≡ first_given (lost_at (entries_in l.c)) (drop l.k (entries_in l.c))
-
-abbrev pub decreases-loop-k : goal.decreases-loop-k
-decreases-loop-k l = l.k-end - l.k
+abbrev pub invariant-loop-e : goal.invariant-loop-e
+invariant-loop-e l =
+    let es = map entry_in l.entries in
+    first_given (lost_at es) es ≡ first_given (lost_at es) (drop l.e-index es)

@@ -1,11 +1,17 @@
--- The see word is there and names none of the numbers.
-use mathlib.Core.Path.{sym, ap, ◌∙◌}
-use mathlib.Core.Bool.{not, ◌&&◌}
+use Rattle.std.proofs.Common.{sym, ap, ◌∙◌}
 use Rattle.integers.specs.Every.{any}
 use Rattle.catalogue_steps.specs.Readings.{is_number}
-use lib.ListN.{take}
+use Rattle.catalogue_reader.specs.Ended.{any-numbers, lost-named, lost-here}
 use Rattle.catalogue_reader.proofs.lost.Goals as goal
 
-pub returns-then-e : goal.returns-then-e
-returns-then-e c =
-    ap not c.numbered.ensures ∙ sym (ap (λ t. t && not (any (is_number c.args.e.see) (take c.args.count c.args.numbers.now))) c.if-e.true)
+pub returns-then-contains : goal.returns-then-contains
+returns-then-contains c = λ es is.
+    let n = c.in_ok-see.see.number in
+    let named = sym (any-numbers n es) ∙ sym (ap (any (is_number n)) is) ∙ sym c.contains.ensures.value ∙ c.if-contains.true in
+    sym (lost-named es c.args.e.now c.in_ok-see.was named)
+
+pub returns : goal.returns
+returns c = λ es is.
+    let n = c.in_ok-see.see.number in
+    let none = sym (any-numbers n es) ∙ sym (ap (any (is_number n)) is) ∙ sym c.contains.ensures.value ∙ c.if-contains.false in
+    sym (lost-here es c.args.e.now c.in_ok-see.was none)

@@ -1,12 +1,13 @@
--- A row of the whole file, or all that follows.
-use mathlib.Core.Path.{◌∙◌}
-use Rattle.catalogue_reader.specs.Whole.{file-refused, file-read}
+use Rattle.std.proofs.Common.{◌∙◌, rules}
+use Rattle.catalogue_rules.specs.Read.{read_all, read}
 use Rattle.catalogue_reader.proofs.read.Goals as goal
 
-pub returns-then-refusal-ne0 : goal.returns-then-refusal-ne0
-returns-then-refusal-ne0 c =
-    c.refused.ensures ∙ file-refused c.args.bytes.now c.file_refusal-refusal.ensures c.if-refusal-ne0.true
+pub returns-in_err-file-clause-outcome : goal.returns-in_err-file-clause-outcome
+unfolding read
+returns-in_err-file-clause-outcome c =
+    let e = c.in_err-file.ensures (read_all c.args.bytes.now) in
+    search rules
 
-pub returns : goal.returns
-returns c =
-    c.read_all.ensures ∙ file-read c.args.bytes.now c.file_refusal-refusal.ensures c.if-refusal-ne0.false
+pub returns-clause-outcome : goal.returns-clause-outcome
+unfolding read
+returns-clause-outcome c = c.read_all.ensures.outcome ∙ c.in_ok-file.ensures (read_all c.args.bytes.now)

@@ -1,4 +1,5 @@
 -- The entry's vectors, filled up with zeros, are searched; the one found is measured.
+use Rattle.std.proofs.Common.{Option, Some, None}
 use mathlib.Core.Path.{◌≡◌, sym, ap, ◌∙◌, subst}
 use mathlib.Core.Bool.{not}
 use mathlib.Core.List.{List, [], map}
@@ -18,7 +19,7 @@ use Rattle.lattices.specs.Answer.{padded, table}
 use Rattle.lattices.specs.Laws.Answer.{length-vectors_of}
 use Rattle.successive_minima.specs.Member.{squared_to, is_member}
 use Rattle.greedy_reduction.specs.Start.{Coordinates}
-use Rattle.greedy_reduction.specs.Accepted.{short, vectors_of-full}
+use Rattle.greedy_reduction.specs.Accepted.{short as norm, vectors_of-full}
 use Rattle.lattice_membership.specs.declared.Lattice.{Lattice}
 use Rattle.lattice_membership.specs.Known.{vectors_in}
 use Rattle.lattice_membership.specs.Laws.Accepted.{rows_short, table-first}
@@ -27,8 +28,9 @@ use Rattle.catalogue_rules.specs.Form.{EntryFits}
 use Rattle.catalogue_records.specs.declared.Entry.{Entry}
 use Rattle.catalogue_records.specs.EntriesIn.{entry_in}
 use Rattle.catalogue_records.specs.Coordinates.{cut}
-use Rattle.catalogue_standing.specs.Places.{First, first-like}
+use Rattle.catalogue_standing.specs.Places.{FirstFound}
 use borrow.Author.Rules.{rules}
+use Rattle.catalogue_separation.specs.Outsides.{AllInside}
 use Rattle.catalogue_separation.proofs.outside_of.Goals as goal
 
 -- the array of the vectors of an entry
@@ -54,37 +56,44 @@ module _ (e : Entry) (fits : EntryFits (entry_in e)) (long : length e.coordinate
   row : (i : ℕ) → i < e.d → get_or rows i [] ≡ get_or (map (padded most_coordinates) vs) i []
   row i h = sym (get_or-take e.d rows i [] h) ∙ ap (λ l. get_or l i []) taken
 
-  all : length (map (padded most_coordinates) vs) ≡ e.d
-  all = length-map vs (padded most_coordinates) ∙ count
-
   limit : (i : ℕ) → i < e.d → N (get_or rows i []) ≤ℤ pos 400000000
-  limit = rows_short e.m few-coordinates vs full e.d count rows taken (all_imp (λ v f. short v f.short) vs fits.vectors)
+  limit = rows_short e.m few-coordinates vs full e.d count rows taken (all_imp (λ v f. norm v f.short) vs fits.vectors)
 
-  found : (l : Lattice) {k : ℕ} → First (λ i. not (is_member (vectors_in l) (get_or rows i []))) e.d k
-      → First (λ i. not (is_member (vectors_in l) (get_or (map (padded most_coordinates) vs) i []))) (length (map (padded most_coordinates) vs)) k
-  found l {k} first =
-      subst (λ n. First (λ i. not (is_member (vectors_in l) (get_or (map (padded most_coordinates) vs) i []))) n k) (sym all)
-      (first-like (λ j h. ap (λ v. not (is_member (vectors_in l) v)) (row j h)) first)
+  long-taken : length (take e.d rows) ≡ e.d
+  long-taken = ap length taken ∙ length-map (entry_in e).vectors (padded most_coordinates) ∙ count
 
-pub first_outside-k-requires-clause-by_index : goal.first_outside-k-requires-clause-by_index
-first_outside-k-requires-clause-by_index c = limit c.args.e c.requires.entry_fits (search rules) c.basis-vectors.ensures
+  short : (i : ℕ) → i < length (take e.d rows) → N (get_or (take e.d rows) i []) ≤ℤ pos 400000000
+  short i h = subst (λ v. N v ≤ℤ pos 400000000) (sym (get_or-take e.d rows i [] (omega (arith, long-taken, h)))) (limit i (omega (arith, long-taken, h)))
 
-pub returns-then-k-e : goal.returns-then-k-e
-returns-then-k-e c =
-    let long : length c.args.e.coordinates ≡ most_numbers = search rules in
-    record {
-      first = found c.args.e c.requires.entry_fits long c.basis-vectors.ensures c.args.l c.first_outside-k.ensures;
-      square = λ h. absurd (omega (arith, c.if-k-e.true, all c.args.e c.requires.entry_fits long c.basis-vectors.ensures));
-    }
+  found : (l : Lattice) (o : Option ℕ) → FirstFound (λ i. not (is_member (vectors_in l) (get_or (take e.d rows) i []))) (length (take e.d rows)) o
+      → FirstFound (λ i. not (is_member (vectors_in l) (get_or (map (padded most_coordinates) (entry_in e).vectors) i []))) (length (map (padded most_coordinates) (entry_in e).vectors)) o
+  found l o = subst (λ vs. FirstFound (λ i. not (is_member (vectors_in l) (get_or vs i []))) (length vs) o) taken
+
+pub first_outside-requires-clause-by_index : goal.first_outside-requires-clause-by_index
+first_outside-requires-clause-by_index c = short c.args.e.now c.requires.entry_fits (search rules) c.basis-vectors.ensures
+
+pub returns-in_err-place : goal.returns-in_err-place
+returns-in_err-place c =
+    let long : length c.args.e.now.coordinates ≡ most_numbers = search rules in
+    let inside : AllInside (vectors_in c.args.l.now) (map (padded most_coordinates) (entry_in c.args.e.now).vectors) =
+    record { none = found c.args.e.now c.requires.entry_fits long c.basis-vectors.ensures c.args.l.now None c.in_err-place.ensures } in
+    let e : c.from_residual.result ≡ None = search rules in
+    rw e inside
 
 pub squared_to-requires-clause-t_bound : goal.squared_to-requires-clause-t_bound
-squared_to-requires-clause-t_bound c = limit c.args.e c.requires.entry_fits (search rules) c.basis-vectors.ensures c.first_outside-k.result (omega (arith, c.first_outside-k.ensures.within))
+squared_to-requires-clause-t_bound c =
+    let long : length c.args.e.now.coordinates ≡ most_numbers = search rules in
+    let n = long-taken c.args.e.now c.requires.entry_fits long c.basis-vectors.ensures in
+    limit c.args.e.now c.requires.entry_fits long c.basis-vectors.ensures c.in_ok-place.place (omega (arith, n, c.in_ok-place.ensures.1))
 
 pub returns : goal.returns
 returns c =
-    let long : length c.args.e.coordinates ≡ most_numbers = search rules in
-    let here = row c.args.e c.requires.entry_fits long c.basis-vectors.ensures c.first_outside-k.result (omega (arith, c.first_outside-k.ensures.within)) in
+    let long : length c.args.e.now.coordinates ≡ most_numbers = search rules in
+    let n = long-taken c.args.e.now c.requires.entry_fits long c.basis-vectors.ensures in
+    let first = found c.args.e.now c.requires.entry_fits long c.basis-vectors.ensures c.args.l.now (Some c.in_ok-place.place) c.in_ok-place.ensures in
+    let here = row c.args.e.now c.requires.entry_fits long c.basis-vectors.ensures c.in_ok-place.place (omega (arith, n, c.in_ok-place.ensures.1)) in
     record {
-      first = found c.args.e c.requires.entry_fits long c.basis-vectors.ensures c.args.l c.first_outside-k.ensures;
-      square = λ h. to_z-of_z {w = w64} (record { sfits = c.squared_to.type_inv }) ∙ c.squared_to.ensures ∙ ap (squared_to (vectors_in c.args.l)) here;
+      first = first.0;
+      within = first.1;
+      square = to_z-of_z {w = w64} (record { sfits = c.squared_to.type_inv }) ∙ c.squared_to.ensures ∙ ap (squared_to (vectors_in c.args.l.now)) here;
     }

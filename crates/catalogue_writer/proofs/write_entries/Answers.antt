@@ -1,62 +1,45 @@
 -- The length is known first; then the entries, then the end word.
-use mathlib.Core.Path.{◌≡◌, sym, ap, ◌∙◌}
-use mathlib.Core.List.{[], ◌∷◌}
-use Prim.Native.Nat.{◌+◌, ◌*◌, ◌≤◌, ◌<◌}
-use native.Mathlib.Omega.{arith}
-use lib.ListN.{length}
+use Rattle.std.proofs.Common.{◌≡◌, sym, ap, ap₂, ◌∙◌, List, ℕ, map, ◌+◌, ◌*◌, ◌≤◌, arith, length}
 use Rattle.catalogue_rules.specs.Write.{write}
 use Rattle.catalogue_rules.proofs.Laws.Output.{too_short, long-enough}
 use Rattle.catalogue_rules.proofs.Laws.ReadBack.{sees-fit}
-use Rattle.catalogue_records.specs.EntriesIn.{entries_in}
+use Rattle.catalogue_records.specs.EntriesIn.{entry_in}
 use Rattle.catalogue_records.specs.Entries.{length-entries}
-use Rattle.catalogue_writer.specs.Over.{over_words}
+use Rattle.catalogue_rules.specs.Word.{end, encode}
 use Rattle.catalogue_writer.specs.Upto.{few_words}
 use Rattle.catalogue_writer.specs.Writing.{length-write, end-written}
-use Rattle.catalogue_records.specs.Catalogues.{written_of}
-use Rattle.catalogue_rules.specs.Catalogue.{new, most_entries, most_words}
-use borrow.Author.Rules.{rules}
+use Rattle.catalogue_rules.specs.Output.{Output}
 use Rattle.catalogue_writer.proofs.write_entries.Goals as goal
+
+filled : ℕ → List ℕ → Output
+filled n lent = record { refusal = 0; place = 0; written = n; lent = lent }
 
 pub overflow_mul-n : goal.overflow_mul-n
 overflow_mul-n c =
-    let full : length c.args.c.entries ≡ most_entries = search rules in
-    let few : c.count_words.result < most_words new = omega (arith, c.count_words.ensures, few_words c.args.c full c.requires.count_le_most_entries c.requires.well_formed.entered.fits) in
-    omega (arith, few)
+    let w = c.requires.entered in
+    omega (arith, c.count_words.ensures, few_words c.args.entries.now (omega (arith, w.few, length-entries c.args.entries.now)) w.fits)
 
 pub overflow_add-n : goal.overflow_add-n
 overflow_add-n c =
-    let full : length c.args.c.entries ≡ most_entries = search rules in
-    let few : c.count_words.result < most_words new = omega (arith, c.count_words.ensures, few_words c.args.c full c.requires.count_le_most_entries c.requires.well_formed.entered.fits) in
-    omega (arith, few)
+    let w = c.requires.entered in
+    omega (arith, c.count_words.ensures, few_words c.args.entries.now (omega (arith, w.few, length-entries c.args.entries.now)) w.fits)
 
 pub returns-then-out-n : goal.returns-then-out-n
 returns-then-out-n c =
-    let size : c.count_words.result * 4 + 4 ≡ length (write (entries_in c.args.c)) = omega (arith, c.count_words.ensures, length-write (entries_in c.args.c)) in
-    let o = too_short (entries_in c.args.c) c.args.out.now (omega (arith, c.if-out-n.true, size)) in record {
-      value = ap written_of o;
-      out_after = ap (λ o. o.lent) o;
-    }
+    let es = map entry_in c.args.entries.now in
+    too_short es c.args.out.now (omega (arith, c.count_words.ensures, length-write es, c.if-out-n.true))
 
-pub put_entries-k-requires : goal.put_entries-k-requires
-put_entries-k-requires c =
-    let size : c.count_words.result * 4 + 4 ≡ length (write (entries_in c.args.c)) = omega (arith, c.count_words.ensures, length-write (entries_in c.args.c)) in
-    let es = entries_in c.args.c in
-    let w = c.requires.well_formed in record {
-      count_le_most_entries = c.requires.count_le_most_entries;
-      all = w.entered.fits;
-      all_2 = sees-fit es es w.entered.fits w.named;
-      c_in_bounds = omega (arith, c.if-out-n.false, size, length-write es);
-    }
+pub put_entries-k-requires-clause-all_2 : goal.put_entries-k-requires-clause-all_2
+put_entries-k-requires-clause-all_2 c =
+    let es = map entry_in c.args.entries.now in
+    sees-fit es es c.requires.entered.fits c.requires.named
 
 pub returns : goal.returns
+unfolding filled
 returns c =
-    let full : length c.args.c.entries ≡ most_entries = search rules in
-    let size : c.count_words.result * 4 + 4 ≡ length (write (entries_in c.args.c)) = omega (arith, c.count_words.ensures, length-write (entries_in c.args.c)) in
-    let es = entries_in c.args.c in
+    let es = map entry_in c.args.entries.now in
     let out = c.args.out.now in
+    let size : c.count_words.result * 4 + 4 ≡ length (write es) = omega (arith, c.count_words.ensures, length-write es) in
     let room : length (write es) ≤ length out = omega (arith, size, c.if-out-n.false) in
-    let o = long-enough es out room in
-    let lent = end-written es out room (sym (length-entries c.args.c full c.requires.count_le_most_entries)) c.put_entries-k.ensures.value c.put_entries-k.ensures.out_after (c.put_word.ensures ∙ ap (λ w. over_words c.put_entries-k.new.out c.put_entries-k.result (w ∷ [])) c.end_word-w.ensures) in record {
-      value = ap (λ k. record { refusal = 0; place = 0; length = k }) size ∙ ap written_of o;
-      out_after = lent ∙ ap (λ o. o.lent) o;
-    }
+    let lent = end-written es out room c.put_entries-k.ensures (c.end_word.ensures ∙ ap (λ n. encode (end n)) (sym (length-entries c.args.entries.now))) c.put_word.ensures in
+    ap₂ filled size lent ∙ long-enough es out room

@@ -1,15 +1,7 @@
 -- The pieces one after another.
-use native.Mathlib.Omega.{arith}
 use Rattle.text_output.specs.Puts.{puts_then}
 use Rattle.cli_answers.proofs.put_error.Goals as goal
 
-pub returns : goal.returns
-returns c =
-    let e = c.before.before in
-    let d = e.before.before.before.before in
-    let b = d.before.before.before.before in
-    let n = b.before.before.before.before.before in
-    let a = n.before.before.before.before in record {
-      puts = puts_then a.put_bytes-first.ensures (puts_then n.put_number-second.ensures.puts (puts_then b.put_bytes-third.ensures (puts_then d.put_bytes-fourth.ensures e.put_byte.ensures)));
-      upper_bound = omega (arith, a.put_bytes-first.ensures.place, n.put_number-second.ensures.upper_bound, b.put_bytes-third.ensures.place, d.put_bytes-fourth.ensures.place, e.put_byte.ensures.place);
-    }
+pub returns-clause-puts : goal.returns-clause-puts
+returns-clause-puts c =
+    puts_then c.put_bytes-first.ensures (puts_then c.put_number-second.ensures.puts (puts_then c.put_bytes-third.ensures (puts_then c.put_bytes-fourth.ensures c.put_byte.ensures)))

@@ -1,160 +1,66 @@
 -- `begun`: the counts and coordinates, the Gram matrix, then squared lengths and dependence.
-use mathlib.Core.Path.{◌≡◌, sym, ◌∙◌}
-use mathlib.Core.List.{List, []}
-use native.Mathlib.Omega.{arith}
-use lib.IntN.{ℤ}
-use lib.ListN.{length, take, length-take}
+use Rattle.std.specs.Prelude.{◌≡◌, refl, Bool, List, [], ℤ, pos, take}
+use Rattle.std.proofs.Common.{sym, ap, ◌∙◌, arith, length-take}
+use Rattle.std.specs.Int.Signed.{lt_z}
 use Rattle.integers.specs.Every.{any}
 use Rattle.integers.specs.Size.{within-le}
-use Rattle.lattices.specs.Volume.{is_dependent}
-use Rattle.lattices.specs.Refusal.{Input, basis, too_long, vector_checks, most_vectors, most_coordinates}
+use Rattle.lattices.specs.Vector.{Vec}
+use Rattle.lattices.specs.Refusal.{Input, basis, too_long, vector_checks, most_vectors, most_coordinates, most_square}
 use Rattle.lattices.specs.Answer.{table}
 use Rattle.input_checks.specs.First.{found, none, here, later}
 use Rattle.input_checks.specs.Shape.{Shaped, over}
 use Rattle.input_checks.specs.Rows.{four-rows, small-rows, over-rows, short-rows, dependent_rows}
+use Rattle.gram_matrix.specs.Formed.{formed}
+use Rattle.gram_matrix.specs.Work.{diagonal_of}
 use Rattle.engine.specs.Laws.Over.{over-formed}
-use Rattle.engine.specs.Laws.Answer.{four-formed}
 use Rattle.engine.proofs.begun.Goals as goal
 
-pub shaped-number-requires : goal.shaped-number-requires
-shaped-number-requires c = c.requires.b_value
+-- what the diagonal of the Gram matrix tells of the vectors
+module _ (i : Input) (s : Shaped i) {b : List Vec} (is : b ≡ table most_vectors most_coordinates (basis i)) {g : List (List ℤ)} (gram : g ≡ formed (take i.d b))
+    {l : List ℤ} (squares : l ≡ diagonal_of g) {t : Bool} (tested : t ≡ any (lt_z (pos most_square)) (take i.d l)) where
+  overs : t ≡ any over (take i.d b)
+  overs =
+      let four = four-rows i.d i.m i.numbers s.few s.narrow is in
+      tested ∙ ap (λ l. any (lt_z (pos most_square)) (take i.d l)) squares
+      ∙ over-formed i.d (take i.d b) (omega (arith, length-take i.d b, four, s.few)) s.few gram
 
-pub returns-then-number-ne0 : goal.returns-then-number-ne0
-returns-then-number-ne0 c = record {
-  value = c.shaped-number.ensures.value c.if-number-ne0.true;
-  b_after = (λ h. absurd (c.if-number-ne0.true h));
-  g_after = (λ h. absurd (c.if-number-ne0.true h));
-}
+  long : any too_long (basis i) ≡ t
+  long = sym (overs ∙ over-rows i.d i.m i.numbers s.few s.narrow is s.small)
 
-pub formed-requires : goal.formed-requires
-formed-requires c =
-    let input : Input =
-    record { numbers = c.args.numbers.now; d = c.args.d; m = c.args.m; target = [] } in
-    -- past the first test
-    let shape : Shaped input =
-    c.shaped-number.ensures.shaped c.if-number-ne0.false in
-    let array : List (List ℤ) =
-    c.shaped-number.new.b in
-    let read : array ≡ table most_vectors most_coordinates (basis input) =
-    c.shaped-number.ensures.b_after c.if-number-ne0.false in
-    let four : length array ≡ 4 =
-    let i = input in four-rows i.d i.m i.numbers shape.few shape.narrow read in
-    let i = input in record {
-      d_bound = shape.few;
-      b_len = four;
-      by_index = (λ j k h. within-le (omega arith) (small-rows i.d i.m i.numbers shape.few shape.narrow read shape.small j h k));
-      g_value = c.requires.g_value;
-    }
+pub basis-requires-clause-numbers_len : goal.basis-requires-clause-numbers_len
+basis-requires-clause-numbers_len c = (c.in_ok-shaped.ensures.shaped refl).count
 
-pub any_over-requires : goal.any_over-requires
-any_over-requires c =
-    let input : Input =
-    record { numbers = c.args.numbers.now; d = c.args.d; m = c.args.m; target = [] } in
-    -- past the first test
-    let shape : Shaped input =
-    c.shaped-number.ensures.shaped c.if-number-ne0.false in
-    let array : List (List ℤ) =
-    c.shaped-number.new.b in
-    record {
-      d_bound = shape.few;
-      g_len = four-formed (take c.args.d array) c.formed.ensures;
-    }
+pub formed-requires-clause-by_index : goal.formed-requires-clause-by_index
+formed-requires-clause-by_index c =
+    let s = c.in_ok-shaped.ensures.shaped refl in
+    λ j k h. within-le (omega arith) (small-rows c.args.d c.args.m c.args.numbers.now s.few s.narrow c.basis.ensures s.small j h k)
 
-pub returns-then-any_over : goal.returns-then-any_over
-returns-then-any_over c =
-    let input : Input =
-    record { numbers = c.args.numbers.now; d = c.args.d; m = c.args.m; target = [] } in
-    -- past the first test
-    let shape : Shaped input =
-    c.shaped-number.ensures.shaped c.if-number-ne0.false in
-    let array : List (List ℤ) =
-    c.shaped-number.new.b in
-    let read : array ≡ table most_vectors most_coordinates (basis input) =
-    c.shaped-number.ensures.b_after c.if-number-ne0.false in
-    let four : length array ≡ 4 =
-    let i = input in four-rows i.d i.m i.numbers shape.few shape.narrow read in
-    let overs : c.any_over.result ≡ any over (take c.args.d array) =
-    c.any_over.ensures ∙ over-formed c.args.d (take c.args.d array) (omega (arith, length-take c.args.d array, four, shape.few)) shape.few c.formed.ensures in
-    let long : any too_long (basis input) ≡ c.any_over.result =
-    let i = input in
-    sym (overs ∙ over-rows i.d i.m i.numbers shape.few shape.narrow read shape.small) in
-    let i = input in record {
-      value = found i vector_checks (shape.rest (here (long ∙ c.if-any_over.true)));
-      b_after = (λ h. absurd (omega arith));
-      g_after = (λ h. absurd (omega arith));
-    }
+pub returns-then-any_over-clause-value : goal.returns-then-any_over-clause-value
+returns-then-any_over-clause-value c =
+    let i : Input = record { numbers = c.args.numbers.now; d = c.args.d; m = c.args.m; target = [] } in
+    let s : Shaped i = c.in_ok-shaped.ensures.shaped refl in
+    let l = long i s c.basis.ensures c.formed.ensures c.diagonal.ensures c.any_over.ensures in
+    found i vector_checks (s.rest (here (l ∙ c.if-any_over.true)))
 
-pub dependent-requires : goal.dependent-requires
-dependent-requires c =
-    let input : Input =
-    record { numbers = c.args.numbers.now; d = c.args.d; m = c.args.m; target = [] } in
-    -- past the first test
-    let shape : Shaped input =
-    c.shaped-number.ensures.shaped c.if-number-ne0.false in
-    let array : List (List ℤ) =
-    c.shaped-number.new.b in
-    let read : array ≡ table most_vectors most_coordinates (basis input) =
-    c.shaped-number.ensures.b_after c.if-number-ne0.false in
-    let four : length array ≡ 4 =
-    let i = input in four-rows i.d i.m i.numbers shape.few shape.narrow read in
-    let overs : c.any_over.result ≡ any over (take c.args.d array) =
-    c.any_over.ensures ∙ over-formed c.args.d (take c.args.d array) (omega (arith, length-take c.args.d array, four, shape.few)) shape.few c.formed.ensures in
-    let i = input in record {
-      d_le_most_vectors = shape.few;
-      b_len = four;
-      by_index = short-rows i.d i.m i.numbers shape.few shape.narrow read shape.small (sym overs ∙ c.if-any_over.false);
-    }
+pub dependent-requires-clause-by_index : goal.dependent-requires-clause-by_index
+dependent-requires-clause-by_index c =
+    let i : Input = record { numbers = c.args.numbers.now; d = c.args.d; m = c.args.m; target = [] } in
+    let s : Shaped i = c.in_ok-shaped.ensures.shaped refl in
+    let o = overs i s c.basis.ensures c.formed.ensures c.diagonal.ensures c.any_over.ensures in
+    short-rows i.d i.m i.numbers s.few s.narrow c.basis.ensures s.small (sym o ∙ c.if-any_over.false)
 
-pub returns-then-dependent : goal.returns-then-dependent
-returns-then-dependent c =
-    let input : Input =
-    record { numbers = c.args.numbers.now; d = c.args.d; m = c.args.m; target = [] } in
-    -- past the first test
-    let shape : Shaped input =
-    c.shaped-number.ensures.shaped c.if-number-ne0.false in
-    let array : List (List ℤ) =
-    c.shaped-number.new.b in
-    let read : array ≡ table most_vectors most_coordinates (basis input) =
-    c.shaped-number.ensures.b_after c.if-number-ne0.false in
-    let four : length array ≡ 4 =
-    let i = input in four-rows i.d i.m i.numbers shape.few shape.narrow read in
-    let overs : c.any_over.result ≡ any over (take c.args.d array) =
-    c.any_over.ensures ∙ over-formed c.args.d (take c.args.d array) (omega (arith, length-take c.args.d array, four, shape.few)) shape.few c.formed.ensures in
-    let long : any too_long (basis input) ≡ c.any_over.result =
-    let i = input in
-    sym (overs ∙ over-rows i.d i.m i.numbers shape.few shape.narrow read shape.small) in
-    let dependence : let i = input in is_dependent i.m (basis i) ≡ c.dependent.result =
-    let i = input in
-    sym (c.dependent.ensures ∙ dependent_rows i.d i.m i.numbers shape.few shape.narrow read) in
-    record {
-      value = found input vector_checks (shape.rest (later (long ∙ c.if-any_over.false) (here (dependence ∙ c.if-dependent.true))));
-      b_after = (λ h. absurd (omega arith));
-      g_after = (λ h. absurd (omega arith));
-    }
+pub returns-then-dependent-clause-value : goal.returns-then-dependent-clause-value
+returns-then-dependent-clause-value c =
+    let i : Input = record { numbers = c.args.numbers.now; d = c.args.d; m = c.args.m; target = [] } in
+    let s : Shaped i = c.in_ok-shaped.ensures.shaped refl in
+    let l = long i s c.basis.ensures c.formed.ensures c.diagonal.ensures c.any_over.ensures in
+    let dependence = sym (c.dependent.ensures ∙ dependent_rows i.d i.m i.numbers s.few s.narrow c.basis.ensures) in
+    found i vector_checks (s.rest (later (l ∙ c.if-any_over.false) (here (dependence ∙ c.if-dependent.true))))
 
-pub returns : goal.returns
-returns c =
-    let input : Input =
-    record { numbers = c.args.numbers.now; d = c.args.d; m = c.args.m; target = [] } in
-    -- past the first test
-    let shape : Shaped input =
-    c.shaped-number.ensures.shaped c.if-number-ne0.false in
-    let array : List (List ℤ) =
-    c.shaped-number.new.b in
-    let read : array ≡ table most_vectors most_coordinates (basis input) =
-    c.shaped-number.ensures.b_after c.if-number-ne0.false in
-    let four : length array ≡ 4 =
-    let i = input in four-rows i.d i.m i.numbers shape.few shape.narrow read in
-    let overs : c.any_over.result ≡ any over (take c.args.d array) =
-    c.any_over.ensures ∙ over-formed c.args.d (take c.args.d array) (omega (arith, length-take c.args.d array, four, shape.few)) shape.few c.formed.ensures in
-    let long : any too_long (basis input) ≡ c.any_over.result =
-    let i = input in
-    sym (overs ∙ over-rows i.d i.m i.numbers shape.few shape.narrow read shape.small) in
-    let dependence : let i = input in is_dependent i.m (basis i) ≡ c.dependent.result =
-    let i = input in
-    sym (c.dependent.ensures ∙ dependent_rows i.d i.m i.numbers shape.few shape.narrow read) in
-    record {
-      value = found input vector_checks (shape.rest (later (long ∙ c.if-any_over.false) (later (dependence ∙ c.if-dependent.false) none)));
-      b_after = (λ h. read);
-      g_after = (λ h. c.formed.ensures);
-    }
+pub returns-clause-value : goal.returns-clause-value
+returns-clause-value c =
+    let i : Input = record { numbers = c.args.numbers.now; d = c.args.d; m = c.args.m; target = [] } in
+    let s : Shaped i = c.in_ok-shaped.ensures.shaped refl in
+    let l = long i s c.basis.ensures c.formed.ensures c.diagonal.ensures c.any_over.ensures in
+    let dependence = sym (c.dependent.ensures ∙ dependent_rows i.d i.m i.numbers s.few s.narrow c.basis.ensures) in
+    found i vector_checks (s.rest (later (l ∙ c.if-any_over.false) (later (dependence ∙ c.if-dependent.false) none)))

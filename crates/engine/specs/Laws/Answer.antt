@@ -1,4 +1,4 @@
--- That the finished work packs to the definition's answer: what `reduce` gives.
+-- That the finished work is the definition's answer: what `reduce` gives.
 use Rattle.std.specs.Prelude.{◌≡◌, refl, List, [], ◌∷◌, map, ◌≢◌, ℕ, zero, suc, ◌+◌, ◌≤◌, ◌<◌, ℤ, pos, ◌*ℤ◌, length, get_or, take}
 use Rattle.std.proofs.Math.Path.{sym, ap}
 use Rattle.std.proofs.Common.{◌∙◌, subst, arith, length-take, get_or-take}
@@ -17,14 +17,10 @@ use Rattle.lattices.specs.Greedy.{Row, vectors, units, reduction}
 use Rattle.lattices.specs.Refusal.{Input, basis, first_of, vector_checks, most_vectors, most_coordinates}
 use Rattle.lattices.specs.Answer as Definition
 use Rattle.lattices.specs.Answer.{padded, table, reduction_given, no_reduction, reduction_of}
-use Rattle.lattices.specs.Laws.Answer.{length-padded, table-rows, padded-≈}
-use Rattle.greedy_reduction.specs.Start.{Coordinates}
+use Rattle.lattices.specs.Laws.Answer.{table-rows, padded-≈}
 use Rattle.greedy_reduction.specs.Accepted.{accepted}
 use Rattle.greedy_reduction.specs.Demand.{accepted-reduction}
-use Rattle.row_operations.specs.declared.VectorRow.{VectorRow}
-use Rattle.row_operations.specs.declared.TableRow.{TableRow}
 use Rattle.row_operations.specs.Rows.{transposed, Tables, rows_of-tables, map-four}
-use Rattle.row_operations.specs.RowStructs.{vector_row, table_row}
 use Rattle.gram_matrix.specs.declared.work.Work.{Work}
 use Rattle.gram_matrix.specs.Gram.{gram_of}
 use Rattle.gram_matrix.specs.Formed.{products, formed, formed-is}
@@ -32,10 +28,9 @@ use Rattle.gram_matrix.specs.Tied.{whole, Tied, tied-diagonal, tied-length-gram,
 use Rattle.gram_matrix.specs.Passed.{tied-entry}
 use Rattle.gram_matrix.specs.Lose.{row-wide}
 use Rattle.nearest_steps.specs.Formed.{GramOf}
-use Rattle.gram_matrix.specs.Work as Work
-use Rattle.gram_matrix.specs.Work.{vectors_in, table_in, diagonal_of}
-use Rattle.engine.specs.declared.Reduction.{Reduction}
-use Rattle.engine.specs.Packed.{packed}
+use Rattle.gram_matrix.specs.Work.{diagonal_of}
+use Rattle.refusals.specs.declared.Refusal.{Refusal}
+use Rattle.refusals.specs.Number.{number_of, number_of-nonzero}
 use Rattle.greedy_steps.specs.State.{blank, greedy_rows, greedy_passes}
 use Rattle.engine.specs.Laws.Few.{few-passes}
 use Rattle.greedy_steps.specs.Room.{small-rows}
@@ -49,21 +44,9 @@ pub record Array (i : Input) (d : ℕ) (b : List (List ℤ)) : Type 0 where
   pub count : d ≡ i.d
   pub rows : b ≡ table most_vectors most_coordinates (basis i)
 
--- a finished work and its Gram matrix in the struct of the answer
-unfoldable pub finished : List (List ℤ) → Work → Reduction
-finished g w = record { refusal = 0; place = 0; vectors = w.vectors; u = w.u; v = w.v; squares = diagonal_of g; passes = w.passes }
-
--- the rows of an answer's vectors
-pub vectors-back : (l : List (List ℤ)) → map (λ r. r.at) (map vector_row l) ≡ l
-vectors-back = Work.vectors-back
-
-vectors-again : (l : List VectorRow) → map vector_row (vectors_in l) ≡ l
-vectors-again [] = refl
-vectors-again (r ∷ l) = ap (λ t. r ∷ t) (vectors-again l)
-
-table-again : (l : List TableRow) → map table_row (table_in l) ≡ l
-table-again [] = refl
-table-again (r ∷ l) = ap (λ t. r ∷ t) (table-again l)
+-- a finished work and its Gram matrix as an answer
+unfoldable pub finished : List (List ℤ) → Work → Definition.Reduction
+finished g w = record { refusal = 0; place = 0; basis = w.vectors; u = w.u; v = w.v; squares = diagonal_of g; passes = w.passes }
 
 -- the diagonal of the Gram matrix of four vectors
 diagonal-is : {rows : List Row} {g b u v : List (List ℤ)} → Tied whole rows g b u v → length rows ≡ 4 → diagonal_of g ≡ map (λ r. N r.vector) rows
@@ -94,11 +77,6 @@ length-table (suc h) w (r ∷ rows) = ap suc (length-table h w rows)
 -- a Gram matrix as it is formed has four rows
 pub four-formed : (bs : List Vec) {g : List (List ℤ)} → g ≡ formed bs → length g ≡ 4
 four-formed bs e = ap length e ∙ length-filled (padded 4 []) 4 (map (products bs) bs)
-
-table-wide : (h w : ℕ) (rows : List (List ℤ)) → Coordinates w (table h w rows)
-table-wide zero w rows = tt
-table-wide (suc h) w [] = (length-padded w [], table-wide h w [])
-table-wide (suc h) w (r ∷ rows) = (length-padded w r, table-wide h w rows)
 
 -- beyond the rows of a table the products are 0
 beyond : (h w : ℕ) (rows : List (List ℤ)) (j : ℕ) (v : Vec) → length rows ≤ j → dot (get_or (table h w rows) j []) v ≡ pos 0
@@ -143,8 +121,6 @@ module _ (i : Input) (e : first_of vector_checks i ≡ 0) where
     vectors = ones (vectors (first i e)) ∙ tables.vectors;
     us = tables.u;
     vs = ap transposed tables.v ∙ symmetric_units i.d (accepted i e).most;
-    vectors-wide = table-wide most_vectors most_coordinates (basis i);
-    us-wide = table-wide most_vectors most_vectors (units i.d);
   }
 
   pub begun_few : 0 + greedy_passes i.d (first i e) ≤ 1000000000000
@@ -170,7 +146,7 @@ module _ (i : Input) (e : first_of vector_checks i ≡ 0) where
 
   module _ (g : List (List ℤ)) (w : Work) (o : Outcome whole i.d 0 (first i e) g w) where
     -- the vectors, which the nearest vector is searched in
-    pub vectors-given : vectors_in w.vectors ≡ table most_vectors most_coordinates (vectors (R i e))
+    pub vectors-given : w.vectors ≡ table most_vectors most_coordinates (vectors (R i e))
     vectors-given = sym o.tied.vectors ∙ ones (vectors G) ∙ last-vectors i e
 
     -- and their Gram matrix
@@ -204,26 +180,47 @@ module _ (i : Input) (e : first_of vector_checks i ≡ 0) where
             let n : length g ≤ m = omega (arith, tied-length-gram o.tied, G-count, h) in
             rw (get_or-eq_default g [] n) (omega arith)
 
-    finished-rows : finished g w ≡ packed (reduction_given (reduction (basis i)))
+    finished-rows : finished g w ≡ reduction_given (reduction (basis i))
     unfolding finished
     finished-rows = λ k. record {
       refusal = 0;
       place = 0;
-      vectors = (sym (vectors-again w.vectors) ∙ ap (map vector_row) vectors-given) k;
-      u = (sym (table-again w.u) ∙ ap (map table_row) (sym o.tied.us ∙ last-u i e)) k;
-      v = (sym (table-again w.v) ∙ ap (map table_row) (sym o.tied.vs ∙ last-v i e)) k;
+      basis = vectors-given k;
+      u = (sym o.tied.us ∙ last-u i e) k;
+      v = (sym o.tied.vs ∙ last-v i e) k;
       squares = (diagonal-is o.tied G-count ∙ sym (map-map N (λ r. r.vector) G) ∙ last-squares i e) k;
       passes = (o.passes ∙ zero-add (greedy_passes i.d (first i e)) ∙ last-passes i e) k;
     }
 
-    pub accepted-answer : finished g w ≡ packed (reduction_of i)
-    accepted-answer = finished-rows ∙ ap packed (sym (accepted-reduction i e))
+    pub accepted-answer : finished g w ≡ reduction_of i
+    accepted-answer = finished-rows ∙ sym (accepted-reduction i e)
+
+    -- its vectors
+    pub basis-is : w.vectors ≡ (reduction_of i).basis
+    unfolding finished
+    basis-is = ap (λ a. a.basis) accepted-answer
+
+-- what the steps leave of an accepted input
+abbrev pub Left : Input → List (List ℤ) → Work → Type 0
+Left i g w = (e : first_of vector_checks i ≡ 0) → Outcome whole i.d 0 (first i e) g w
 
 -- the answer for a refused input
-refused-answer : (i : Input) (n : ℕ) → first_of vector_checks i ≡ suc n → packed (no_reduction (suc n)) ≡ packed (reduction_of i)
+refused-answer : (i : Input) (n : ℕ) → first_of vector_checks i ≡ suc n → no_reduction (suc n) ≡ reduction_of i
 unfolding reduction_of
-refused-answer i n e = ap packed (sym (ap (λ (k : ℕ). elim k as (λ k. Definition.Reduction) [ zero ↦ reduction_given (reduction (basis i)) | suc j ↦ no_reduction (suc j) ]) e))
+refused-answer i n e = sym (ap (λ (k : ℕ). elim k as (λ k. Definition.Reduction) [ zero ↦ reduction_given (reduction (basis i)) | suc j ↦ no_reduction (suc j) ]) e)
 
-pub refused_with : (i : Input) (n : ℕ) → n ≡ first_of vector_checks i → n ≢ 0 → packed (no_reduction n) ≡ packed (reduction_of i)
+refused_with : (i : Input) (n : ℕ) → n ≡ first_of vector_checks i → n ≢ 0 → no_reduction n ≡ reduction_of i
 refused_with i zero e h = absurd (h refl)
 refused_with i (suc n) e h = refused-answer i n (sym e)
+
+pub refused-reduction : (i : Input) (e : Refusal) → number_of e ≡ first_of vector_checks i → no_reduction (number_of e) ≡ reduction_of i
+refused-reduction i e h = refused_with i (number_of e) h (number_of-nonzero e)
+
+-- the number in a reduction's answer is that of the checks
+pub refusal_is : (i : Input) → (reduction_of i).refusal ≡ first_of vector_checks i
+unfolding reduction_of
+refusal_is i = go (first_of vector_checks i)
+  where
+    go : (n : ℕ) → (elim n as (λ n. Definition.Reduction) [ zero ↦ reduction_given (reduction (basis i)) | suc k ↦ no_reduction (suc k) ]).refusal ≡ n
+    go zero = refl
+    go (suc n) = refl

@@ -16,11 +16,11 @@ loop-i-init c = (search rules, refl)
 
 pub loop-i-preserved : goal.loop-i-preserved
 loop-i-preserved c =
-    let h : c.loop-i.i < length c.args.g.now = omega (arith, c.requires.g_len) in
+    let h : c.loop-i.i < length c.args.g.now = omega (arith, c.told-g) in
     let e : get_or c.loop-i.g c.loop-i.i [] ≡ get_or c.args.g.now c.loop-i.i [] = ap (λ t. get_or t c.loop-i.i []) c.loop-i.invariant.1 ∙ get_d_front c.loop-i.i c.loop-i.i (entered c.args.k c.args.r.now c.args.g.now) c.args.g.now [] (omega (arith, length-entered c.args.k c.args.r.now c.args.g.now)) (omega arith) (omega arith) in
     let z = to_z-of_z {w = w64} (record { sfits = c.g-1.given }) in
     (search rules, rw add-one (ap₂ (λ t a. set t c.loop-i.i a) c.loop-i.invariant.1 (ap₂ (λ a n. set a c.args.k n) e z ∙ sym (get_d_entered c.args.k c.args.r.now c.args.g.now c.loop-i.i)) ∙ front-suc c.loop-i.i (entered c.args.k c.args.r.now c.args.g.now) c.args.g.now [] (omega (arith, length-entered c.args.k c.args.r.now c.args.g.now)) h))
 
 pub returns : goal.returns
 returns c =
-    c.loop-i.invariant.1 ∙ front-all c.loop-i.i (entered c.args.k c.args.r.now c.args.g.now) c.args.g.now (omega (arith, length-entered c.args.k c.args.r.now c.args.g.now, c.requires.g_len)) (omega (arith, c.requires.g_len))
+    c.loop-i.invariant.1 ∙ front-all c.loop-i.i (entered c.args.k c.args.r.now c.args.g.now) c.args.g.now (omega (arith, length-entered c.args.k c.args.r.now c.args.g.now, c.told-g)) (omega (arith, c.told-g))

@@ -1,38 +1,25 @@
-use mathlib.Core.Path.{◌≡◌, sym, ap, ap₂, ◌∙◌}
+use mathlib.Core.Path.{◌≡◌, refl, sym, ap, ap₂, ◌∙◌}
 use mathlib.Core.List.{[], map}
 use Prim.Native.Nat.{◌<◌}
 use native.Mathlib.Numerals.{add-one}
 use native.Mathlib.Omega.{arith}
-use lib.ListN.{length, get_or, set, take, length-set}
-use lib.Seq.{get_or-set_same}
+use lib.ListN.{length, get_or, set, take}
 use Rattle.integers.specs.FilledLaws.{length-filled}
 use Rattle.lattices.specs.Answer.{padded}
 use Rattle.gram_matrix.specs.Cross.{entered}
-use Rattle.gram_matrix.specs.Formed.{products, formed, zeros-behind, grown}
+use Rattle.gram_matrix.specs.Formed.{products, formed, grown}
 use borrow.Author.Rules.{rules}
 use Rattle.gram_matrix.proofs.formed.Goals as goal
 
 pub loop-i-init : goal.loop-i-init
-loop-i-init c = (search rules, c.requires.g_value)
+loop-i-init c = (search rules, refl)
 
-pub products-requires : goal.products-requires
-products-requires c =
-    let h : c.loop-i.i < 4 = omega (arith, c.requires.d_bound) in record {
-      d_bound = omega arith;
-      b_len = c.requires.b_len;
-      by_index = λ m j l₂. c.requires.by_index m j (omega arith);
-      by_index_2 = λ j. c.requires.by_index c.loop-i.i j (omega arith);
-      r_value = ap (λ g. get_or g c.loop-i.i []) c.loop-i.invariant.1 ∙ zeros-behind c.args.b.now c.loop-i.i h;
-    }
-
-pub enter-requires : goal.enter-requires
-enter-requires c =
-    let table-four : length c.loop-i.g ≡ 4 =
-    ap length c.loop-i.invariant.1 ∙ length-filled (padded 4 []) 4 (map (products (take c.loop-i.i c.args.b.now)) (take c.loop-i.i c.args.b.now)) in
-    record {
-      k_bound = omega (arith, c.requires.d_bound);
-      g_len = length-set c.loop-i.g c.loop-i.i c.products.new.r ∙ table-four;
-    }
+pub products-r-requires : goal.products-r-requires
+products-r-requires c = record {
+  d_bound = omega (arith, c.requires.d_bound);
+  by_index = λ m j l₂. c.requires.by_index m j (omega arith);
+  by_index_2 = λ j. c.requires.by_index c.loop-i.i j (omega arith);
+}
 
 pub loop-i-preserved : goal.loop-i-preserved
 loop-i-preserved c =
@@ -40,9 +27,8 @@ loop-i-preserved c =
     ap length c.loop-i.invariant.1 ∙ length-filled (padded 4 []) 4 (map (products (take c.loop-i.i c.args.b.now)) (take c.loop-i.i c.args.b.now)) in
     let h : c.loop-i.i < length c.loop-i.g = omega (arith, table-four, c.requires.d_bound) in (
       search rules,
-      c.enter.ensures ∙ ap (λ r. entered c.loop-i.i r (set c.loop-i.g c.loop-i.i c.products.new.r)) (get_or-set_same c.loop-i.g c.loop-i.i c.products.new.r [] h)
-          ∙ ap₂ (λ g r. entered c.loop-i.i r (set g c.loop-i.i r)) c.loop-i.invariant.1 (c.products.ensures ∙ ap (λ n. products (take n c.args.b.now) (get_or c.args.b.now c.loop-i.i [])) (add-one c.loop-i.i))
-          ∙ grown c.args.b.now c.loop-i.i (omega (arith, c.requires.d_bound, c.requires.b_len)) (omega (arith, c.requires.b_len)) ∙ ap (λ n. formed (take n c.args.b.now)) (sym (add-one c.loop-i.i)),
+      c.enter.ensures ∙ ap₂ (λ g r. entered c.loop-i.i r (set g c.loop-i.i r)) c.loop-i.invariant.1 (c.products-r.ensures ∙ ap (λ n. products (take n c.args.b.now) (get_or c.args.b.now c.loop-i.i [])) (add-one c.loop-i.i))
+          ∙ grown c.args.b.now c.loop-i.i (omega (arith, c.requires.d_bound, c.told-b)) (omega (arith, c.told-b)) ∙ ap (λ n. formed (take n c.args.b.now)) (sym (add-one c.loop-i.i)),
     )
 
 pub returns : goal.returns

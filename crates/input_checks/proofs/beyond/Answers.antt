@@ -9,12 +9,12 @@ use Rattle.input_checks.proofs.beyond.Goals as goal
 
 pub returns-then-x : goal.returns-then-x
 returns-then-x c =
-    let f = c.before.ranges.x in
-    let e : lt_z c.before.args.x (negsuc 19999) ≡ true = simp to_z-of_z at c.if-x.true in
-    simp to_z-of_z (e ∙ sym (beyond-low c.before.args.x e))
+    let f = c.ranges.x in
+    let e : lt_z c.args.x (negsuc 19999) ≡ true = simp to_z-of_z at c.if-x.true in
+    simp to_z-of_z (e ∙ sym (beyond-low c.args.x e))
 
 pub returns-else-x : goal.returns-else-x
 returns-else-x c =
-    let f = c.before.ranges.x in
-    let e : lt_z c.before.args.x (negsuc 19999) ≡ false = simp to_z-of_z at c.if-x.false in
-    simp to_z-of_z (sym (beyond-high c.before.args.x e))
+    let f = c.ranges.x in
+    let e : lt_z c.args.x (negsuc 19999) ≡ false = simp to_z-of_z at c.if-x.false in
+    simp to_z-of_z (sym (beyond-high c.args.x e))

@@ -14,11 +14,11 @@ use Rattle.lattice_membership.proofs.cofactors.Goals as goal
 
 pub three-requires : goal.three-requires
 three-requires c =
-    let small : (Small c.before.before.other-p.result) × ((Small c.before.other-q.result) × (Small c.other-r.result)) =
-    let s = c.before.before.before in
-    let row : (r : ℕ) → Small (get_or (without s.args.j s.args.t) r []) = without-small s.args.j s.args.t s.requires.by_index in (
-      subst Small (sym c.before.before.other-p.ensures) (row _),
-      (subst Small (sym c.before.other-q.ensures) (row _), subst Small (sym c.other-r.ensures) (row _)),
+    let small : (Small c.other-p.result) × ((Small c.other-q.result) × (Small c.other-r.result)) =
+    let s = c in
+    let row : (r : ℕ) → Small (get_or (without s.args.j s.args.t.now) r []) = without-small s.args.j s.args.t.now s.requires.by_index in (
+      subst Small (sym c.other-p.ensures) (row _),
+      (subst Small (sym c.other-q.ensures) (row _), subst Small (sym c.other-r.ensures) (row _)),
     ) in
     record {
       i_bound = (omega arith, (omega arith, omega arith));
@@ -27,11 +27,11 @@ three-requires c =
 
 pub three-requires-2 : goal.three-requires-2
 three-requires-2 c =
-    let small : (Small c.before.before.other-p.result) × ((Small c.before.other-q.result) × (Small c.other-r.result)) =
-    let s = c.before.before.before in
-    let row : (r : ℕ) → Small (get_or (without s.args.j s.args.t) r []) = without-small s.args.j s.args.t s.requires.by_index in (
-      subst Small (sym c.before.before.other-p.ensures) (row _),
-      (subst Small (sym c.before.other-q.ensures) (row _), subst Small (sym c.other-r.ensures) (row _)),
+    let small : (Small c.other-p.result) × ((Small c.other-q.result) × (Small c.other-r.result)) =
+    let s = c in
+    let row : (r : ℕ) → Small (get_or (without s.args.j s.args.t.now) r []) = without-small s.args.j s.args.t.now s.requires.by_index in (
+      subst Small (sym c.other-p.ensures) (row _),
+      (subst Small (sym c.other-q.ensures) (row _), subst Small (sym c.other-r.ensures) (row _)),
     ) in
     record {
       i_bound = (omega arith, (omega arith, omega arith));
@@ -40,11 +40,11 @@ three-requires-2 c =
 
 pub three-requires-3 : goal.three-requires-3
 three-requires-3 c =
-    let small : (Small c.before.before.other-p.result) × ((Small c.before.other-q.result) × (Small c.other-r.result)) =
-    let s = c.before.before.before in
-    let row : (r : ℕ) → Small (get_or (without s.args.j s.args.t) r []) = without-small s.args.j s.args.t s.requires.by_index in (
-      subst Small (sym c.before.before.other-p.ensures) (row _),
-      (subst Small (sym c.before.other-q.ensures) (row _), subst Small (sym c.other-r.ensures) (row _)),
+    let small : (Small c.other-p.result) × ((Small c.other-q.result) × (Small c.other-r.result)) =
+    let s = c in
+    let row : (r : ℕ) → Small (get_or (without s.args.j s.args.t.now) r []) = without-small s.args.j s.args.t.now s.requires.by_index in (
+      subst Small (sym c.other-p.ensures) (row _),
+      (subst Small (sym c.other-q.ensures) (row _), subst Small (sym c.other-r.ensures) (row _)),
     ) in
     record {
       i_bound = (omega arith, (omega arith, omega arith));
@@ -53,11 +53,11 @@ three-requires-3 c =
 
 pub three-requires-4 : goal.three-requires-4
 three-requires-4 c =
-    let small : (Small c.before.before.other-p.result) × ((Small c.before.other-q.result) × (Small c.other-r.result)) =
-    let s = c.before.before.before in
-    let row : (r : ℕ) → Small (get_or (without s.args.j s.args.t) r []) = without-small s.args.j s.args.t s.requires.by_index in (
-      subst Small (sym c.before.before.other-p.ensures) (row _),
-      (subst Small (sym c.before.other-q.ensures) (row _), subst Small (sym c.other-r.ensures) (row _)),
+    let small : (Small c.other-p.result) × ((Small c.other-q.result) × (Small c.other-r.result)) =
+    let s = c in
+    let row : (r : ℕ) → Small (get_or (without s.args.j s.args.t.now) r []) = without-small s.args.j s.args.t.now s.requires.by_index in (
+      subst Small (sym c.other-p.ensures) (row _),
+      (subst Small (sym c.other-q.ensures) (row _), subst Small (sym c.other-r.ensures) (row _)),
     ) in
     record {
       i_bound = (omega arith, (omega arith, omega arith));
@@ -71,14 +71,14 @@ row p q r = three_of p q r 1 2 3 ∷ three_of p q r 0 3 2 ∷ three_of p q r 0 1
 pub returns : goal.returns
 returns c =
     let others : List Vec =
-    without c.args.j c.args.t in
-    let c3 = c.before in
-    let c2 = c3.before in
-    let c1 = c2.before in
-    let o = c1.before in
+    without c.args.j c.args.t.now in
+    let c3 = c in
+    let c2 = c3 in
+    let c1 = c2 in
+    let o = c1 in
     ap₂ ◌∷◌ (to_z-of_z {w = w64} (record { sfits = c1.three.type_inv }) ∙ c1.three.ensures.0)
     (ap₂ ◌∷◌ (to_z-of_z {w = w64} (record { sfits = c2.three-2.type_inv }) ∙ c2.three-2.ensures.0)
     (ap₂ ◌∷◌ (to_z-of_z {w = w64} (record { sfits = c3.three-3.type_inv }) ∙ c3.three-3.ensures.0)
     (ap₂ ◌∷◌ (to_z-of_z {w = w64} (record { sfits = c.three-4.type_inv }) ∙ c.three-4.ensures.0) refl)))
-    ∙ ap₂ (λ p q. row p q o.other-r.result) o.before.before.other-p.ensures o.before.other-q.ensures
+    ∙ ap₂ (λ p q. row p q o.other-r.result) o.other-p.ensures o.other-q.ensures
     ∙ ap (row (get_or (others) (c.args.j % 2) []) (get_or (others) (1 - c.args.j % 2) [])) o.other-r.ensures

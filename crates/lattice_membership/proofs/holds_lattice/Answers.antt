@@ -1,27 +1,13 @@
--- The array holds the vectors of the other lattice.
-use mathlib.Core.Path.{sym, ap, ◌∙◌, subst}
-use mathlib.Core.List.{[]}
-use lib.IntN.{pos}
-use lib.ListN.{get_or, take}
-use lib.Seq.{get_or-take}
-use lib.Signed.{◌≤ℤ◌}
-use Rattle.integers.specs.Every.{every}
+-- The vectors of the other lattice are short.
+use Rattle.std.specs.Prelude.{[], pos, ◌≤ℤ◌}
+use Rattle.std.proofs.Common.{subst, get_or-take}
 use Rattle.lattices.specs.Vector.{N}
-use Rattle.successive_minima.specs.Member.{is_member}
-use Rattle.lattice_membership.specs.Known.{vectors_in}
 use Rattle.lattice_membership.proofs.holds_lattice.Goals as goal
 
 pub holds_all-requires : goal.holds_all-requires
 holds_all-requires c =
-    let s = c.before.before in
-    let k = s.requires.1 in record {
-      known = s.requires.0;
+    let k = c.requires.1 in record {
+      known = c.requires.0;
       count_le_most_vectors = k.few;
-      by_index = λ i h. subst (λ v. N v ≤ℤ pos 400000000) (get_or-take s.args.other.d _ i [] h ∙ ap (λ l. get_or l i []) (sym c.vectors_of.ensures)) (k.short i);
+      by_index = λ i h. subst (λ v. N v ≤ℤ pos 400000000) (get_or-take c.args.other.now.d c.args.other.now.vectors i [] h) (k.short i);
     }
-
-pub returns : goal.returns
-returns c =
-    let v = c.before in
-    let a = v.before.before.args in
-    c.holds_all.ensures ∙ ap (λ l. every (is_member (vectors_in a.l)) (take a.other.d l)) v.vectors_of.ensures

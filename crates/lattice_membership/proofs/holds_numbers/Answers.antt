@@ -19,12 +19,12 @@ holds_all-requires c =
     let count = length-vectors_of a.d a.m a.numbers.now in record {
       known = p.known;
       count_le_most_vectors = p.shape.0;
-      by_index = rows_short a.m p.shape.1 vs full a.d count _ (ap (take a.d) c.basis-b.ensures ∙ table-first a.m p.shape.1 vs full a.d count p.shape.0) p.short;
+      by_index = rows_short a.m p.shape.1 vs full a.d count _ (ap (take a.d) c.basis.ensures ∙ table-first a.m p.shape.1 vs full a.d count p.shape.0) p.short;
     }
 
 pub returns : goal.returns
 returns c =
     let a = c.args in
     let n = a.numbers.now in
-    c.holds_all.ensures ∙ ap (every (is_member (vectors_in a.l)))
-    (ap (take a.d) c.basis-b.ensures ∙ table-first a.m c.requires.shape.1 (vectors_of a.d a.m n) (vectors_of-full a.d a.m n c.requires.numbers_len) a.d (length-vectors_of a.d a.m n) c.requires.shape.0)
+    c.holds_all.ensures ∙ ap (every (is_member (vectors_in a.l.now)))
+    (ap (take a.d) c.basis.ensures ∙ table-first a.m c.requires.shape.1 (vectors_of a.d a.m n) (vectors_of-full a.d a.m n c.requires.numbers_len) a.d (length-vectors_of a.d a.m n) c.requires.shape.0)

@@ -1,6 +1,6 @@
 use mathlib.Core.Path.{◌≡◌, sym, ap, ap₂, ◌∙◌, subst}
 use mathlib.Core.Bool.{true}
-use mathlib.Core.List.{List, [], map}
+use mathlib.Core.List.{List, []}
 use Prim.Native.Nat.{ℕ, ◌≤◌, ◌<◌, ◌+◌, ◌*◌}
 use native.Mathlib.Omega.{arith}
 use lib.IntN.{ℤ, pos, nat_abs, ◌*ℤ◌}
@@ -14,40 +14,38 @@ use Rattle.integers.specs.Tests.{not_false}
 use Rattle.lattices.specs.Vector.{Vec, N, dot, nth, comb, ◌⊙◌, ◌⊖◌}
 use Rattle.lattices.specs.Laws.Vector.{◌≈◌, ≈_trans, ≈_of_≡}
 use Rattle.input_checks.specs.Lengths.{short-within}
+use Rattle.row_operations.specs.Dot.{weight}
 use Rattle.row_operations.specs.Minus.{room}
 use Rattle.lattice_membership.specs.declared.Lattice.{Lattice}
 use Rattle.lattice_membership.specs.Known.{Known, row_in, quotients_of, is_whole}
-use Rattle.lattice_membership.specs.Laws.Members.{not_true, quot-within, divisor-pos, left-none, p, top, vector_at, coordinates-small, not-member, left_decides, minor-within, turn-room, turn_small, turn-left}
+use Rattle.lattice_membership.specs.Laws.Members.{not_true, quot-within, divisor-pos, left-none, p, top, vector_at, not-member, left_decides, minor-within, top-room, top-within, turn-room, turn_small, turn-left}
 use borrow.Author.Rules.{rules}
 use Rattle.lattice_membership.proofs.member.Goals as goal
 
 pub pick-p-requires : goal.pick-p-requires
-pick-p-requires c = c.before.requires.known.below
+pick-p-requires c = c.requires.known.below
 
 pub loop-j-init : goal.loop-j-init
-loop-j-init c = let s = c.before.before in (search rules, (left-none s.args.v [] [], short-within s.args.v s.requires.v_bound))
+loop-j-init c = let s = c in (search rules, (left-none s.args.v.now [] [], short-within s.args.v.now s.requires.v_bound))
 
 pub offset_bounds-l-j : goal.offset_bounds-l-j
-offset_bounds-l-j c = record { fits = let k = c.before.before.before.before.requires.known.few in omega (arith, k) }
+offset_bounds-l-j c = record { fits = let k = c.requires.known.few in omega (arith, k) }
 
 pub bounds-l-j : goal.bounds-l-j
-bounds-l-j c = let k = c.before.before.before.before.requires.known.few in omega (arith, k)
+bounds-l-j c = let k = c.requires.known.few in omega (arith, k)
 
-pub numerator-n-requires : goal.numerator-n-requires
-numerator-n-requires c =
-    let picks : let s = c.before.before in c.pick-p.result ≡ p s.args.l s.requires.known s.args.v s.requires.v_bound =
-    c.pick-p.ensures in
-    let f = c.before.before.before.before in
-    let s = f.before.before in
-    let k = s.requires.known in record {
-      by_index = (k.rows c.before.before.before.loop-j.j (search rules)).small;
-      by_index_2 = λ i. subst (λ l. Within 20000 (nth l i)) (sym (picks)) (coordinates-small s.args.l k s.args.v s.requires.v_bound i);
-    }
+pub dot-n-requires : goal.dot-n-requires
+dot-n-requires c =
+    let h : c.loop-j.j < c.args.l.now.d = search rules in
+    (search rules, subst (λ x. weight (row_in c.args.l.now c.loop-j.j) x ≤ room) (sym c.pick-p.ensures) (top-room c.args.l.now c.requires.known c.args.v.now c.requires.v_bound c.loop-j.j h))
 
 -- the numerator z of a turn, and the minor, as numbers
-module _ (l : Lattice) (k : Known l) (v : Vec) (h : N v ≤ℤ pos 400000000) (turn : ℕ) (x : List ℤ) (picks : x ≡ p l k v h) (z : ℤ) (is : z ≡ dot (row_in l turn) x) (size : Within 3840000000000000000 z) where
+module _ (l : Lattice) (k : Known l) (v : Vec) (h : N v ≤ℤ pos 400000000) (turn : ℕ) (x : List ℤ) (picks : x ≡ p l k v h) (z : ℤ) (is : z ≡ dot (row_in l turn) x) (below : turn < l.d) where
   top-is : z ≡ top l k v h turn
   top-is = is ∙ ap (dot (row_in l turn)) picks
+
+  pub size : Within 3840000000000000000 z
+  size = subst (Within 3840000000000000000) (sym top-is) (top-within l k v h turn below)
 
   top-plain : to_z w64 (of_z w64 z) ≡ z
   top-plain = to_z-of_z {w = w64} (fits-within size tt)
@@ -66,51 +64,53 @@ module _ (l : Lattice) (k : Known l) (v : Vec) (h : N v ≤ℤ pos 400000000) (t
 
 pub whole-requires : goal.whole-requires
 whole-requires c = record {
-  within = subst (Within 3840000000000000000) (sym (top-plain c.args.l c.requires.known c.args.v c.requires.v_bound c.loop-j.j c.pick-p.result c.pick-p.ensures c.numerator-n.result c.numerator-n.ensures.0 c.numerator-n.ensures.1)) c.numerator-n.ensures.1;
-  m_nonzero = λ e. c.requires.known.nonzero (sym (minor-plain c.args.l c.requires.known c.args.v c.requires.v_bound c.loop-j.j c.pick-p.result c.pick-p.ensures c.numerator-n.result c.numerator-n.ensures.0 c.numerator-n.ensures.1) ∙ e);
+  within = subst (Within 3840000000000000000) (sym (top-plain c.args.l.now c.requires.known c.args.v.now c.requires.v_bound c.loop-j.j c.pick-p.result c.pick-p.ensures c.dot-n.result c.dot-n.ensures (search rules))) (size c.args.l.now c.requires.known c.args.v.now c.requires.v_bound c.loop-j.j c.pick-p.result c.pick-p.ensures c.dot-n.result c.dot-n.ensures (search rules));
+  m_nonzero = λ e. c.requires.known.nonzero (sym (minor-plain c.args.l.now c.requires.known c.args.v.now c.requires.v_bound c.loop-j.j c.pick-p.result c.pick-p.ensures c.dot-n.result c.dot-n.ensures (search rules)) ∙ e);
 }
 
 pub returns-then-not-whole : goal.returns-then-not-whole
 returns-then-not-whole c =
-    not-member c.args.l c.requires.known c.args.v c.requires.v_bound c.loop-j.j (search rules) (sym (whole_is c.args.l c.requires.known c.args.v c.requires.v_bound c.loop-j.j c.pick-p.result c.pick-p.ensures c.numerator-n.result c.numerator-n.ensures.0 c.numerator-n.ensures.1) ∙ sym c.whole.ensures ∙ not_true c.whole.result c.if-not-whole.true-raw)
+    not-member c.args.l.now c.requires.known c.args.v.now c.requires.v_bound c.loop-j.j (search rules) (sym (whole_is c.args.l.now c.requires.known c.args.v.now c.requires.v_bound c.loop-j.j c.pick-p.result c.pick-p.ensures c.dot-n.result c.dot-n.ensures (search rules)) ∙ sym c.whole.ensures ∙ not_true c.whole.result c.if-not-whole.true-raw)
 
 pub offset_bounds-l-j-in-loop-j : goal.offset_bounds-l-j-in-loop-j
-offset_bounds-l-j-in-loop-j c = record { fits = let h : c.loop-j.j < c.args.l.d = search rules in let k = c.requires.known.few in omega (arith, h, k) }
+offset_bounds-l-j-in-loop-j c = record { fits = let h : c.loop-j.j < c.args.l.now.d = search rules in let k = c.requires.known.few in omega (arith, h, k) }
 
 pub bounds-l-j-in-loop-j : goal.bounds-l-j-in-loop-j
-bounds-l-j-in-loop-j c = let h : c.loop-j.j < c.args.l.d = search rules in let k = c.requires.known.few in omega (arith, h, k)
+bounds-l-j-in-loop-j c = let h : c.loop-j.j < c.args.l.now.d = search rules in let k = c.requires.known.few in omega (arith, h, k)
 
 pub nonzero_div-n : goal.nonzero_div-n
 nonzero_div-n c = (
-  divisor-pos (of_z w64 c.args.l.minor) (λ e. c.requires.known.nonzero (sym (minor-plain c.args.l c.requires.known c.args.v c.requires.v_bound c.loop-j.j c.pick-p.result c.pick-p.ensures c.numerator-n.result c.numerator-n.ensures.0 c.numerator-n.ensures.1) ∙ ap (to_z w64) e)),
-  subst (SFits w64) (sym (ap₂ quot_z (top-plain c.args.l c.requires.known c.args.v c.requires.v_bound c.loop-j.j c.pick-p.result c.pick-p.ensures c.numerator-n.result c.numerator-n.ensures.0 c.numerator-n.ensures.1) (minor-plain c.args.l c.requires.known c.args.v c.requires.v_bound c.loop-j.j c.pick-p.result c.pick-p.ensures c.numerator-n.result c.numerator-n.ensures.0 c.numerator-n.ensures.1))) (quotient_fits c.args.l c.requires.known c.args.v c.requires.v_bound c.loop-j.j c.pick-p.result c.pick-p.ensures c.numerator-n.result c.numerator-n.ensures.0 c.numerator-n.ensures.1),
+  divisor-pos (of_z w64 c.args.l.now.minor) (λ e. c.requires.known.nonzero (sym (minor-plain c.args.l.now c.requires.known c.args.v.now c.requires.v_bound c.loop-j.j c.pick-p.result c.pick-p.ensures c.dot-n.result c.dot-n.ensures (search rules)) ∙ ap (to_z w64) e)),
+  subst (SFits w64) (sym (ap₂ quot_z (top-plain c.args.l.now c.requires.known c.args.v.now c.requires.v_bound c.loop-j.j c.pick-p.result c.pick-p.ensures c.dot-n.result c.dot-n.ensures (search rules)) (minor-plain c.args.l.now c.requires.known c.args.v.now c.requires.v_bound c.loop-j.j c.pick-p.result c.pick-p.ensures c.dot-n.result c.dot-n.ensures (search rules)))) (quotient_fits c.args.l.now c.requires.known c.args.v.now c.requires.v_bound c.loop-j.j c.pick-p.result c.pick-p.ensures c.dot-n.result c.dot-n.ensures (search rules)),
 )
 
-pub minus_multiple-next-requires : goal.minus_multiple-next-requires
-minus_multiple-next-requires c i =
-    let h : c.loop-j.j < c.args.l.d = search rules in
-    let yes : is_whole (top c.args.l c.requires.known c.args.v c.requires.v_bound c.loop-j.j) c.args.l.minor ≡ true =
-    sym (whole_is c.args.l c.requires.known c.args.v c.requires.v_bound c.loop-j.j c.pick-p.result c.pick-p.ensures c.numerator-n.result c.numerator-n.ensures.0 c.numerator-n.ensures.1) ∙ sym c.whole.ensures ∙ not_false c.whole.result c.if-not-whole.false-raw in
-    subst (λ q. nat_abs (nth c.loop-j.rest i) + nat_abs (q *ℤ nth (vector_at c.args.l c.requires.known c.args.v c.requires.v_bound c.loop-j.j) i) ≤ room) (sym (quotient_is c.args.l c.requires.known c.args.v c.requires.v_bound c.loop-j.j c.pick-p.result c.pick-p.ensures c.numerator-n.result c.numerator-n.ensures.0 c.numerator-n.ensures.1))
-    (turn-room c.args.l c.requires.known c.args.v c.requires.v_bound c.loop-j.j h c.loop-j.rest c.loop-j.invariant.1.1 yes i)
+pub lose-requires : goal.lose-requires
+lose-requires c =
+    let h : c.loop-j.j < c.args.l.now.d = search rules in
+    let yes : is_whole (top c.args.l.now c.requires.known c.args.v.now c.requires.v_bound c.loop-j.j) c.args.l.now.minor ≡ true =
+    sym (whole_is c.args.l.now c.requires.known c.args.v.now c.requires.v_bound c.loop-j.j c.pick-p.result c.pick-p.ensures c.dot-n.result c.dot-n.ensures (search rules)) ∙ sym c.whole.ensures ∙ not_false c.whole.result c.if-not-whole.false-raw in (
+      search rules,
+      λ i. subst (λ q. nat_abs (nth c.loop-j.rest i) + nat_abs (q *ℤ nth (vector_at c.args.l.now c.requires.known c.args.v.now c.requires.v_bound c.loop-j.j) i) ≤ room) (sym (quotient_is c.args.l.now c.requires.known c.args.v.now c.requires.v_bound c.loop-j.j c.pick-p.result c.pick-p.ensures c.dot-n.result c.dot-n.ensures (search rules)))
+          (turn-room c.args.l.now c.requires.known c.args.v.now c.requires.v_bound c.loop-j.j h c.loop-j.rest c.loop-j.invariant.1.1 yes i),
+    )
 
 pub loop-j-preserved : goal.loop-j-preserved
 loop-j-preserved c =
-    let l = c.args.l in
+    let l = c.args.l.now in
     let k = c.requires.known in
-    let v = c.args.v in
+    let v = c.args.v.now in
     let b = c.requires.v_bound in
     let j = c.loop-j.j in
     let left = c.loop-j.rest in
-    let h : c.loop-j.j < c.args.l.d = search rules in
-    let yes : is_whole (top c.args.l c.requires.known c.args.v c.requires.v_bound c.loop-j.j) c.args.l.minor ≡ true =
-    sym (whole_is c.args.l c.requires.known c.args.v c.requires.v_bound c.loop-j.j c.pick-p.result c.pick-p.ensures c.numerator-n.result c.numerator-n.ensures.0 c.numerator-n.ensures.1) ∙ sym c.whole.ensures ∙ not_false c.whole.result c.if-not-whole.false-raw in
-    let next = c.minus_multiple-next.ensures ∙ ap (λ q. left ⊖ q ⊙ vector_at l k v b j) (quotient_is c.args.l c.requires.known c.args.v c.requires.v_bound c.loop-j.j c.pick-p.result c.pick-p.ensures c.numerator-n.result c.numerator-n.ensures.0 c.numerator-n.ensures.1) in (
+    let h : c.loop-j.j < c.args.l.now.d = search rules in
+    let yes : is_whole (top c.args.l.now c.requires.known c.args.v.now c.requires.v_bound c.loop-j.j) c.args.l.now.minor ≡ true =
+    sym (whole_is c.args.l.now c.requires.known c.args.v.now c.requires.v_bound c.loop-j.j c.pick-p.result c.pick-p.ensures c.dot-n.result c.dot-n.ensures (search rules)) ∙ sym c.whole.ensures ∙ not_false c.whole.result c.if-not-whole.false-raw in
+    let next = c.lose.ensures ∙ ap (λ q. left ⊖ q ⊙ vector_at l k v b j) (quotient_is c.args.l.now c.requires.known c.args.v.now c.requires.v_bound c.loop-j.j c.pick-p.result c.pick-p.ensures c.dot-n.result c.dot-n.ensures (search rules)) in (
       search rules,
       (
-        subst (λ x. c.minus_multiple-next.result ≈ v ⊖ comb (take (j + 1) (quotients_of l x)) (take (j + 1) (map (λ row. row.at) l.vectors))) (sym c.pick-p.ensures)
+        subst (λ x. c.lose.new.a ≈ v ⊖ comb (take (j + 1) (quotients_of l x)) (take (j + 1) l.vectors)) (sym c.pick-p.ensures)
             (≈_trans (≈_of_≡ next) (turn-left l k v b j h left c.loop-j.invariant.1.1 yes
-            (subst (λ x. left ≈ v ⊖ comb (take j (quotients_of l x)) (take j (map (λ row. row.at) l.vectors))) c.pick-p.ensures c.loop-j.invariant.1.0))),
+            (subst (λ x. left ≈ v ⊖ comb (take j (quotients_of l x)) (take j l.vectors)) c.pick-p.ensures c.loop-j.invariant.1.0))),
         λ i. subst (λ r. Within (20000 + (j + 1) * 21600000000) (nth r i)) (sym next)
             (turn_small l k v b j h left c.loop-j.invariant.1.1 yes i),
       ),
@@ -119,10 +119,10 @@ loop-j-preserved c =
 pub returns : goal.returns
 returns c =
     let picks = c.pick-p.ensures in
-    let a = c.before.before in
-    let s = a.before.before.before in
-    let v = s.args.v in
-    let end : a.loop-j.j ≡ s.args.l.d = omega arith in
-    c.is_zero.ensures ∙ left_decides s.args.l s.requires.known s.args.v s.requires.v_bound {r = a.loop-j.rest}
-    (subst (λ j. a.loop-j.rest ≈ v ⊖ comb (take j (quotients_of s.args.l (p s.args.l s.requires.known v s.requires.v_bound))) (take j (map (λ row. row.at) s.args.l.vectors))) end
-    (subst (λ x. a.loop-j.rest ≈ v ⊖ comb (take a.loop-j.j (quotients_of s.args.l x)) (take a.loop-j.j (map (λ row. row.at) s.args.l.vectors))) (picks) a.loop-j.invariant.1.0))
+    let a = c in
+    let s = a in
+    let v = s.args.v.now in
+    let end : a.loop-j.j ≡ s.args.l.now.d = omega arith in
+    c.is_zero.ensures ∙ left_decides s.args.l.now s.requires.known s.args.v.now s.requires.v_bound {r = a.loop-j.rest}
+    (subst (λ j. a.loop-j.rest ≈ v ⊖ comb (take j (quotients_of s.args.l.now (p s.args.l.now s.requires.known v s.requires.v_bound))) (take j s.args.l.now.vectors)) end
+    (subst (λ x. a.loop-j.rest ≈ v ⊖ comb (take a.loop-j.j (quotients_of s.args.l.now x)) (take a.loop-j.j s.args.l.now.vectors)) (picks) a.loop-j.invariant.1.0))

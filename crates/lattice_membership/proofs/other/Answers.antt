@@ -8,7 +8,7 @@ use Rattle.lattice_membership.specs.Laws.Cofactors.{without-before, without-afte
 use Rattle.lattice_membership.proofs.other.Goals as goal
 
 pub returns-then-i-j : goal.returns-then-i-j
-returns-then-i-j c = let a = c.before.before.args in without-before a.j a.i a.t [] c.before.if-i-j.true
+returns-then-i-j c = let a = c.args in without-before a.j a.i a.t.now [] c.if-i-j.true
 
-pub returns : goal.returns
-returns c = let a = c.before.before.args in ap (λ n. get_or a.t n []) (add-one a.i) ∙ without-after a.j a.i a.t [] (omega arith)
+pub returns-else-i-j : goal.returns-else-i-j
+returns-else-i-j c = let a = c.args in ap (λ n. get_or a.t.now n []) (add-one a.i) ∙ without-after a.j a.i a.t.now [] (omega arith)

@@ -26,7 +26,7 @@ overflow_sub-result c =
 
 pub returns-then-a-b : goal.returns-then-a-b
 returns-then-a-b c =
-    let s = c.before in
+    let s = c in
     eq-eqb _ _ c.if-a-b.true ∙ sym (size-equal s.args.a s.args.b (from_bits s.ranges.a s.ranges.b c.if-a-b.true))
 
 decided : (a b : ℤ) → SFits w64 a → SFits w64 b → SFits w64 (neg_ℤ b) → (of_z w64 a ≡ of_z w64 b → ⊥) → (t : Bool) → eqb (of_z w64 a) (of_z w64 (neg_ℤ b)) ≡ t → t ≡ same_size a b
@@ -39,6 +39,6 @@ returns-else-a-b c =
     fits-within (within-neg c.requires) tt in
     let minus_is : pos 0 -ℤ to_z w64 (of_z w64 c.args.b) ≡ neg_ℤ c.args.b =
     +ℤ_idl (neg_ℤ (to_z w64 (of_z w64 c.args.b))) ∙ ap neg_ℤ (to_z-of_z {w = w64} c.ranges.b) in
-    let s = c.before in
+    let s = c in
     ap (λ z. eqb (of_z w64 s.args.a) (of_z w64 z)) minus_is
     ∙ decided s.args.a s.args.b s.ranges.a s.ranges.b opposite-fits c.if-a-b.false (eqb (of_z w64 s.args.a) (of_z w64 (neg_ℤ s.args.b))) refl

@@ -21,7 +21,7 @@ nonzero_rem-n c =
 
 pub returns-then-n-m-ne0 : goal.returns-then-n-m-ne0
 returns-then-n-m-ne0 c =
-    let s = c.before in
+    let s = c in
     sym (not-whole s.args.n s.args.m (λ e. c.if-n-m-ne0.true (ap (of_z w64) (ap₂ rem_z (to_z-of_z s.ranges.n) (to_z-of_z s.ranges.m) ∙ e))))
 
 pub nonzero_div-q : goal.nonzero_div-q
@@ -30,19 +30,19 @@ nonzero_div-q c =
     fits-within (quot-within c.args.n c.args.m c.requires.within) tt in
     let divisor : 0 < of_z w64 c.args.m =
     divisor-pos (of_z w64 c.args.m) (λ e. c.requires.m_nonzero (sym (to_z-of_z c.ranges.m) ∙ ap (to_z w64) e)) in
-    let s = c.before in (divisor, simp (to_z-of_z, s.ranges.n, s.ranges.m) (quotient_fits))
+    let s = c in (divisor, simp (to_z-of_z, s.ranges.n, s.ranges.m) (quotient_fits))
 
 pub returns-then-q : goal.returns-then-q
 returns-then-q c =
     let quotient_fits : SFits w64 (quot_z c.args.n c.args.m) =
     fits-within (quot-within c.args.n c.args.m c.requires.within) tt in
-    let exact : rem_z c.before.args.n c.before.args.m ≡ pos 0 =
-    let s = c.before in
+    let exact : rem_z c.args.n c.args.m ≡ pos 0 =
+    let s = c in
     let r : SFits w64 (rem_z s.args.n s.args.m) = fits-within (rem_within s.args.n s.args.m s.requires.within) tt in
     sym (to_z-of_z r) ∙ ap (λ z. to_z w64 (of_z w64 z)) (sym (ap₂ rem_z (to_z-of_z s.ranges.n) (to_z-of_z s.ranges.m))) ∙ ap (to_z w64) c.if-n-m-ne0.false in
     let quotient_is : to_z w64 (of_z w64 (quot_z (to_z w64 (of_z w64 c.args.n)) (to_z w64 (of_z w64 c.args.m)))) ≡ quot_z c.args.n c.args.m =
     ap (λ z. to_z w64 (of_z w64 z)) (ap₂ quot_z (to_z-of_z c.ranges.n) (to_z-of_z c.ranges.m)) ∙ to_z-of_z (quotient_fits) in
-    let s = c.before.before in
+    let s = c in
     let q = quot_z s.args.n s.args.m in
     let low : le_z (negsuc 1079999) q ≡ true = ap (le_z (negsuc 1079999)) (sym (quotient_is)) ∙ c.if-q.true in
     ap (λ z. le_z z (pos 1080000)) (quotient_is) ∙ within-high q low ∙ sym (whole-by-size s.args.n s.args.m (exact))
@@ -51,13 +51,13 @@ pub returns-else-q : goal.returns-else-q
 returns-else-q c =
     let quotient_fits : SFits w64 (quot_z c.args.n c.args.m) =
     fits-within (quot-within c.args.n c.args.m c.requires.within) tt in
-    let exact : rem_z c.before.args.n c.before.args.m ≡ pos 0 =
-    let s = c.before in
+    let exact : rem_z c.args.n c.args.m ≡ pos 0 =
+    let s = c in
     let r : SFits w64 (rem_z s.args.n s.args.m) = fits-within (rem_within s.args.n s.args.m s.requires.within) tt in
     sym (to_z-of_z r) ∙ ap (λ z. to_z w64 (of_z w64 z)) (sym (ap₂ rem_z (to_z-of_z s.ranges.n) (to_z-of_z s.ranges.m))) ∙ ap (to_z w64) c.if-n-m-ne0.false in
     let quotient_is : to_z w64 (of_z w64 (quot_z (to_z w64 (of_z w64 c.args.n)) (to_z w64 (of_z w64 c.args.m)))) ≡ quot_z c.args.n c.args.m =
     ap (λ z. to_z w64 (of_z w64 z)) (ap₂ quot_z (to_z-of_z c.ranges.n) (to_z-of_z c.ranges.m)) ∙ to_z-of_z (quotient_fits) in
-    let s = c.before.before in
+    let s = c in
     let q = quot_z s.args.n s.args.m in
     let low : le_z (negsuc 1079999) q ≡ false = ap (le_z (negsuc 1079999)) (sym (quotient_is)) ∙ c.if-q.false in
     c.if-q.false ∙ sym (within_low q low) ∙ sym (whole-by-size s.args.n s.args.m (exact))

@@ -12,11 +12,12 @@ use Rattle.integers.specs.AllLaws.{get_d_map}
 use Rattle.integers.specs.Every.{any, every}
 use Rattle.integers.specs.ListLaws.{same}
 use Rattle.integers.specs.Order.{≤ℤ_trans}
-use Rattle.integers.specs.Size.{Within, within-le, within-add, within-sub, within-mul, size-neg, size-mul, fits-within, root-within}
+use Rattle.integers.specs.Size.{Within, within-le, within-sub, within-mul, size-neg, size-mul, root-within}
 use Rattle.integers.specs.Tests.{both, true_T}
 use Rattle.lattices.specs.Vector.{Vec, N, Zero, nth, dot, comb, ◌⊕◌, ◌⊙◌, ◌⊖◌}
 use Rattle.lattices.specs.Laws.Vector.{◌≈◌, ≈_sym, ≈_trans, ≈_of_≡, ≈-N, ≈-nth, ≈-Zero, Zero-≈, bilinear, nil-dot, comb-nil, comb_snoc, ⊖-zero}
 use Rattle.lattices.specs.Answer.{padded}
+use Rattle.lattices.specs.Laws.Answer.{length-padded}
 use Rattle.lattices.specs.Refusal.{most_vectors}
 use Rattle.exterior_algebra.specs.Cramer.{cramer}
 use Rattle.exterior_algebra.specs.Hadamard.{minor}
@@ -29,8 +30,7 @@ use Rattle.input_checks.specs.FirstMinor.{picked-small}
 use Rattle.successive_minima.specs.Member.{is_member, Member}
 use Rattle.successive_minima.specs.Laws.Members.{member_is, is_member_lem}
 use Rattle.successive_minima.specs.Laws.Solving.{quot_exact, reduced-within}
-use Rattle.row_operations.specs.RowStructs.{vector_row, table_row}
-use Rattle.row_operations.specs.Dot.{DotTurn, dot-within}
+use Rattle.row_operations.specs.Dot.{weight, dot-weight, weight-most_right}
 use Rattle.row_operations.specs.Minus.{nth-minus, room}
 use Rattle.lattice_membership.specs.declared.Lattice.{Lattice}
 use Rattle.lattice_membership.specs.Known.{Known, vectors_in, row_in, quotients_of, most_times, is_whole}
@@ -89,20 +89,6 @@ within_low (negsuc n) e = lt-leb (suc n) 1080000 (omega (arith, leb-false n 1079
 pub within-high : (x : ℤ) → le_z (negsuc 1079999) x ≡ true → le_z x (pos 1080000) ≡ leb (nat_abs x) most_times
 within-high (pos n) e = refl
 within-high (negsuc n) e = sym (le-leb (suc n) 1080000 (omega (arith, leb→le n 1079999 (true_T e))))
-
--- ---- the sum of products of a numerator
-
-pub numerator_within : (i : ℕ) (a b : List ℤ) → ((c : ℕ) → Within 48000000000000 (nth a c)) → ((c : ℕ) → Within 20000 (nth b c)) → i ≤ 4 → Within 3840000000000000000 (dot (take i a) (take i b))
-numerator_within i a b f g h = within-le (omega arith) (dot-within i a b f g)
-
-pub numerator_turn : (a b : List ℤ) → ((c : ℕ) → Within 48000000000000 (nth a c)) → ((c : ℕ) → Within 20000 (nth b c)) → (i : ℕ) → i ≤ 4 → DotTurn a b i
-numerator_turn a b f g i h = record {
-  left = fits-within (f i) tt;
-  right = fits-within (g i) tt;
-  product = fits-within (within-mul (f i) (g i)) tt;
-  sum = fits-within (numerator_within i a b f g h) tt;
-  next = fits-within (within-add (numerator_within i a b f g h) (within-mul (f i) (g i))) tt;
-}
 
 -- ---- picking sees coordinates only
 
@@ -182,7 +168,7 @@ left-none v qs ws = ≈_sym (⊖-zero v {v = comb [] []} (comb-nil []))
 
 module _ (l : Lattice) (k : Known l) where
   long : length (vectors_in l) ≡ l.d
-  long = omega (arith, length-take l.d (map (λ row. row.at) l.vectors), length-map l.vectors (λ row. row.at), k.four.0, k.few)
+  long = omega (arith, length-take l.d l.vectors, k.four.0, k.few)
 
   few : length (vectors_in l) ≤ 4
   few = omega (arith, long, k.few)
@@ -207,8 +193,18 @@ module _ (l : Lattice) (k : Known l) (v : Vec) (limit : N v ≤ℤ pos 400000000
   pub coordinates-small : (c : ℕ) → Within 20000 (nth p c)
   coordinates-small = picked-small v (short-within v limit) most_vectors (take most_vectors l.choice)
 
+  -- a numerator fits
+  top-weight : (j : ℕ) → j < l.d → weight (row_in l j) p ≤ 4 * (48000000000000 * 20000)
+  top-weight j h = weight-most_right 4 (row_in l j) p (omega (arith, length-padded 4 (map (nth v) (take most_vectors l.choice)))) (λ c. within-mul ((k.rows j h).small c) (coordinates-small c))
+
+  pub top-room : (j : ℕ) → j < l.d → weight (row_in l j) p ≤ room
+  top-room j h = omega (arith, top-weight j h)
+
+  pub top-within : (j : ℕ) → j < l.d → Within 3840000000000000000 (top j)
+  top-within j h = record { within = omega (arith, top-weight j h, dot-weight (row_in l j) p) }
+
   pub quotient_at : (j : ℕ) → j < 4 → nth quotients j ≡ quot_z (top j) l.minor
-  quotient_at j h = get_d_map (λ row. quot_z (dot row.at p) l.minor) l.cofactors (table_row []) (pos 0) j (omega (arith, k.four.1))
+  quotient_at j h = get_d_map (λ row. quot_z (dot row p) l.minor) l.cofactors [] (pos 0) j (omega (arith, k.four.1))
 
   top-is : (m : Member (vectors_in l) v) (j : ℕ) → j < l.d → top j ≡ nth m.coefficients j *ℤ l.minor
   top-is m j h =
@@ -231,7 +227,7 @@ module _ (l : Lattice) (k : Known l) (v : Vec) (limit : N v ≤ℤ pos 400000000
   coefficients-are m = same (length-quotients ∙ sym (m.count ∙ long l k)) (λ i. at i (dec_lt i l.d))
     where
       length-quotients : length (take l.d quotients) ≡ l.d
-      length-quotients = omega (arith, length-take l.d quotients, length-map l.cofactors (λ row. quot_z (dot row.at p) l.minor), k.four.1, k.few)
+      length-quotients = omega (arith, length-take l.d quotients, length-map l.cofactors (λ row. quot_z (dot row p) l.minor), k.four.1, k.few)
 
       at : (i : ℕ) → Dec (i < l.d) → nth (take l.d quotients) i ≡ nth m.coefficients i
       at i (yes h) = get_or-take l.d quotients i (pos 0) h ∙ quotient_at i (omega (arith, k.few)) ∙ ap (λ n. quot_z n l.minor) (top-is m i h) ∙ quot_exact (nth m.coefficients i) l.minor k.nonzero
@@ -247,7 +243,7 @@ module _ (l : Lattice) (k : Known l) (v : Vec) (limit : N v ≤ℤ pos 400000000
       to : not (any nonzero r) ≡ true → is_member (vectors_in l) v ≡ true
       to q = is_member_lem (vectors_in l) k.reduced (few l k) v (record {
         coefficients = take l.d quotients;
-        count = omega (arith, length-take l.d quotients, length-map l.cofactors (λ row. quot_z (dot row.at p) l.minor), k.four.1, k.few, long l k);
+        count = omega (arith, length-take l.d quotients, length-map l.cofactors (λ row. quot_z (dot row p) l.minor), k.four.1, k.few, long l k);
         gives = difference v u (λ i. sym (≈-nth e i) ∙ nonzero_false (nth r i) (any_none nonzero (pos 0) refl r (not_true (any nonzero r) q) i));
       })
 
@@ -261,13 +257,10 @@ module _ (l : Lattice) (k : Known l) (v : Vec) (limit : N v ≤ℤ pos 400000000
 
   -- vector j as the array holds it
   abbrev pub vector_at : ℕ → Vec
-  vector_at j = (get_or l.vectors j (vector_row [])).at
-
-  vector-is : (j : ℕ) → j < l.d → get_or (map (λ row. row.at) l.vectors) j [] ≡ vector_at j
-  vector-is j h = get_d_map (λ row. row.at) l.vectors (vector_row []) [] j (omega (arith, k.four.0, k.few))
+  vector_at j = get_or l.vectors j []
 
   vector-small : (j : ℕ) → j < l.d → (i : ℕ) → Within 20000 (nth (vector_at j) i)
-  vector-small j h = short-within (vector_at j) (subst (λ b. N b ≤ℤ pos 400000000) (get_or-take l.d (map (λ row. row.at) l.vectors) j [] h ∙ vector-is j h) (k.short j))
+  vector-small j h = short-within (vector_at j) (subst (λ b. N b ≤ℤ pos 400000000) (get_or-take l.d l.vectors j [] h) (k.short j))
 
   module _ (j : ℕ) (h : j < l.d) (r : Vec) (small : (i : ℕ) → Within (20000 + j * 21600000000) (nth r i)) (e : is_whole (top j) l.minor ≡ true) where
     abbrev pub q : ℤ
@@ -282,11 +275,11 @@ module _ (l : Lattice) (k : Known l) (v : Vec) (limit : N v ≤ℤ pos 400000000
     pub turn_small : (i : ℕ) → Within (20000 + (j + 1) * 21600000000) (nth (r ⊖ q ⊙ vector_at j) i)
     turn_small i = subst (Within (20000 + (j + 1) * 21600000000)) (sym (nth-minus r q (vector_at j) i)) (within-le (omega arith) (within-sub (small i) (multiple-small i)))
 
-    pub turn-left : r ≈ v ⊖ comb (take j quotients) (take j (map (λ row. row.at) l.vectors)) → r ⊖ q ⊙ vector_at j ≈ v ⊖ comb (take (j + 1) quotients) (take (j + 1) (map (λ row. row.at) l.vectors))
-    turn-left f = ≈_trans (≈_of_≡ (ap₂ (λ z b. r ⊖ z ⊙ b) (sym (quotient_at j (omega (arith, k.few)))) (sym (vector-is j h))))
-        (left-more v quotients (map (λ row. row.at) l.vectors) j
-        (omega (arith, length-map l.cofactors (λ row. quot_z (dot row.at p) l.minor), k.four.1, k.few))
-        (omega (arith, length-map l.vectors (λ row. row.at), k.four.0, k.few)) f)
+    pub turn-left : r ≈ v ⊖ comb (take j quotients) (take j l.vectors) → r ⊖ q ⊙ vector_at j ≈ v ⊖ comb (take (j + 1) quotients) (take (j + 1) l.vectors)
+    turn-left f = ≈_trans (≈_of_≡ (ap (λ z. r ⊖ z ⊙ vector_at j) (sym (quotient_at j (omega (arith, k.few))))))
+        (left-more v quotients l.vectors j
+        (omega (arith, length-map l.cofactors (λ row. quot_z (dot row p) l.minor), k.four.1, k.few))
+        (omega (arith, k.four.0, k.few)) f)
 
 -- ---- a list of vectors, from the last on
 

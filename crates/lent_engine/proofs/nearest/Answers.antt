@@ -1,73 +1,50 @@
--- The answer is stored part by part where there is room, and nothing is where there is not.
-use mathlib.Core.Path.{◌≡◌, sym, ap, ◌∙◌, subst}
-use mathlib.Core.Bool.{true≢false}
-use Prim.Native.Nat.{◌≤◌, ◌<◌}
-use native.Mathlib.Omega.{arith}
-use lib.ListN.{length}
-use lib.Seq.{sets}
-use mir.Syntax.{w64}
-use mir.Facts.{to_z-of_z}
-use borrow.Author.Tests.{le-leb, lt-leb}
+-- The answer is stored where there is room for it, and its tenths are found there.
+use Rattle.std.specs.Prelude.{◌≡◌, [], ◌≤◌, List, ℤ, length}
+use Rattle.std.proofs.Common.{sym, ap, ◌∙◌, subst, rules}
+use Rattle.std.proofs.lemmas.List.Edits.{sets}
 use Rattle.lattices.specs.Refusal.{Input, most_vectors}
-use Rattle.lattices.specs.Answer.{nearest_of}
+use Rattle.lattices.specs.Answer.{padded, nearest_of}
+use Rattle.lattices.specs.Laws.Answer.{length-padded}
 use Rattle.solutions.specs.Solution.{TenthsFor}
-use Rattle.engine.specs.declared.NearestVector.{NearestVector}
-use Rattle.engine.specs.Packed.{packed_nearest}
-use Rattle.lent_numbers.specs.Layout.{nearest_count, head, layout_nearest, tenths_in, written}
-use Rattle.lent_numbers.specs.Runs.{written-short}
-use Rattle.lent_engine.specs.NearestShape.{nearest-shape, nearest-stored, tenths-written}
-use borrow.Author.Rules.{rules}
+use Rattle.refusals.specs.Number.{number_of}
+use Rattle.lent_numbers.specs.Layout.{nearest_count, layout_nearest, tenths_in, written}
+use Rattle.lent_numbers.specs.Runs.{written-long}
+use Rattle.lent_engine.specs.NearestShape.{nearest-shape, length-layout, refused-layout, tenths-written}
 use Rattle.lent_engine.proofs.nearest.Goals as goal
 
-pub returns-then-out-lt-NEAREST : goal.returns-then-out-lt-NEAREST
-returns-then-out-lt-NEAREST c =
-    let input : Input =
-    record { numbers = c.args.numbers.now; d = c.args.d; m = c.args.m; target = c.args.target.now } in
-    let l = c.before.args.out.now in
-    let h : length l < nearest_count = c.if-out-lt-NEAREST.true in record {
-      value = sym (lt-leb nearest_count (length l) h);
-      out_after = written-short l nearest_count (layout_nearest (nearest_of (input)) (tenths_in l)) h;
-      tenths_for = λ yes. absurd (true≢false (sym yes));
+-- what stands in the numbers, and the tenths there
+module _ (i : Input) (l : List ℤ) (h : nearest_count ≤ length l) (tenths : List ℤ) (few : length tenths ≡ most_vectors) (for : TenthsFor i tenths) {x : List ℤ} (e : x ≡ sets l 0 (layout_nearest (nearest_of i) tenths)) where
+  stored : x ≡ written l nearest_count (layout_nearest (nearest_of i) tenths)
+  stored = e ∙ written-long l nearest_count (layout_nearest (nearest_of i) tenths) (length-layout (nearest-shape i) tenths few) h
+
+  found : tenths_in x ≡ tenths
+  found = tenths-written (nearest-shape i) tenths few l h stored
+
+  after : x ≡ written l nearest_count (layout_nearest (nearest_of i) (tenths_in x))
+  after = stored ∙ ap (λ z. written l nearest_count (layout_nearest (nearest_of i) z)) (sym found)
+
+  solution : TenthsFor i (tenths_in x)
+  solution = subst (TenthsFor i) (sym found) for
+
+pub returns-in-Ok : goal.returns-in-Ok
+returns-in-Ok c =
+    let i : Input = record { numbers = c.args.numbers.now; d = c.args.d; m = c.args.m; target = c.args.target.now } in
+    let l = c.args.out.now in
+    let few : length c.in-Ok.a.tenths ≡ most_vectors = search rules in
+    let e = c.put_nearest.ensures ∙ ap (λ x. sets l 0 (layout_nearest x c.in-Ok.a.tenths)) c.in-Ok.ensures.value in record {
+      value = search rules;
+      out_after = after i l c.if-out-lt-NEAREST.false c.in-Ok.a.tenths few c.in-Ok.ensures.tenths_for e;
+      tenths_for = λ yes. solution i l c.if-out-lt-NEAREST.false c.in-Ok.a.tenths few c.in-Ok.ensures.tenths_for e;
     }
 
--- whatever input it is of
-small : (i : Input) (a : NearestVector) → a ≡ packed_nearest (nearest_of i) a.tenths → (a.refusal ≤ 1000000000000) × (a.place ≤ 1000000000000)
-small i a e =
-    let n = nearest-shape i in
-    let refusal : a.refusal ≡ (nearest_of i).refusal = ap (λ a. a.refusal) e in
-    let place : a.place ≡ (nearest_of i).place = ap (λ a. a.place) e in
-    (omega (arith, refusal, n.refusal), omega (arith, place, n.place))
-
-pub put_head-requires : goal.put_head-requires
-put_head-requires c = record {
-  in_bounds = search rules;
-  refusal_bound = small _ _ c.before.before.before.before.before.nearest-a.ensures.value;
-}
-
-pub returns : goal.returns
-returns c =
-    let input : Input =
-    record { numbers = c.args.numbers.now; d = c.args.d; m = c.args.m; target = c.args.target.now } in
-    let v = c.before in
-    let t = v.before.before.before in
-    let q = t.before.before.before in
-    let p = q.before.before.before in
-    let r = p.before.before.before.before.before.before in
-    let s = r.before.before in
-    let i = input in
-    let l = s.args.out.now in
-    let a = r.nearest-a.result in
-    let e = r.nearest-a.ensures.value in
-    let h : nearest_count ≤ length l = search rules in
-    let few : length a.tenths ≡ most_vectors = t.put_row-2.ensures.row_len in
-    let stored : v.put_vector.new.out ≡ written l nearest_count (layout_nearest (nearest_of i) a.tenths) =
-    nearest-stored (nearest-shape i) a.tenths few l h
-    (p.put_head.ensures ∙ ap (sets l 0) (ap (head a.refusal a.place) (to_z-of_z {w = w64} (record { sfits = p.before.struct_told-1.given.1.1.1.1.1.0.1 }))) ∙ ap (λ a. sets l 0 (head a.refusal a.place a.square)) e)
-    (q.put_row.ensures.out_after ∙ ap (λ a. sets p.put_head.new.out 3 a.coefficients) e)
-    t.put_row-2.ensures.out_after
-    (v.put_vector.ensures.out_after ∙ ap (λ a. sets t.put_row-2.new.out 11 a.vector) e) in
-    let tenths = tenths-written (nearest-shape i) a.tenths few l h stored in record {
-      value = sym (le-leb nearest_count (length l) h);
-      out_after = stored ∙ ap (λ z. written l nearest_count (layout_nearest (nearest_of i) z)) (sym tenths);
-      tenths_for = λ yes. subst (TenthsFor i) (sym tenths) r.nearest-a.ensures.tenths_for;
+pub returns-in-Err : goal.returns-in-Err
+returns-in-Err c =
+    let i : Input = record { numbers = c.args.numbers.now; d = c.args.d; m = c.args.m; target = c.args.target.now } in
+    let l = c.args.out.now in
+    let zeros = padded most_vectors [] in
+    let few = length-padded most_vectors [] in
+    let e = c.put_refusal.ensures ∙ ap (sets l 0) (sym (refused-layout (number_of c.in-Err.e))) ∙ ap (λ x. sets l 0 (layout_nearest x zeros)) c.in-Err.ensures.value in record {
+      value = search rules;
+      out_after = after i l c.if-out-lt-NEAREST.false zeros few c.in-Err.ensures.tenths_for e;
+      tenths_for = λ yes. solution i l c.if-out-lt-NEAREST.false zeros few c.in-Err.ensures.tenths_for e;
     }

@@ -7,4 +7,4 @@ pub float_to_bits-result : goal.float_to_bits-result
 float_to_bits-result c = at_least _ _ c.if-t.true
 
 pub returns-then-t : goal.returns-then-t
-returns-then-t c = mod-lt _ c.before.requires
+returns-then-t c = mod-lt _ c.requires

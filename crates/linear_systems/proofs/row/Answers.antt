@@ -2,7 +2,7 @@ use Rattle.linear_systems.specs.Bounds.{read}
 use Rattle.linear_systems.proofs.row.Goals as goal
 
 pub real-requires : goal.real-requires
-real-requires c = read tt (c.before.before.before.before.before.requires.bounded _)
+real-requires c = read tt (c.requires.bounded _)
 
 pub real-requires-2 : goal.real-requires-2
-real-requires-2 c = read tt (c.before.before.before.requires.bounded _)
+real-requires-2 c = read tt (c.requires.bounded _)

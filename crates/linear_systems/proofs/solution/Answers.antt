@@ -4,8 +4,8 @@ use Rattle.linear_systems.proofs.solution.Goals as goal
 
 pub row-e-requires : goal.row-e-requires
 row-e-requires c =
-    let l = c.before.before.before.before in
-    let s = l.before in record {
+    let l = c in
+    let s = l in record {
       i_bound = search rules;
       bounded = s.requires.by_index l.loop-i.i;
       within = read tt (s.requires.bounded l.loop-i.i);

@@ -31,9 +31,6 @@ along-requires c =
     let one : 1 ≡ c.args.d =
     omega (arith, c.requires.d_nonzero.0, c.if-d-lt2.true) in
     record {
-      g_len = c.requires.g_len;
-      r_len = c.requires.r_len;
-      x_len = four;
       known = subst (λ d. Known d c.args.g.now c.args.r.now) (sym one) (known c.requires.known_near);
       bounded = zeros;
     }
@@ -60,8 +57,7 @@ level-requires c =
     let size : Sized c.args.g.now c.args.r.now =
     sized c.requires.known_near.near.meant in
     record {
-      g_len = c.requires.g_len;
-      r_len = c.requires.r_len;
+      d_bound = omega (arith, c.requires.d_nonzero.1);
       by_index = size.gram;
       bounded = size.products;
     }
@@ -74,9 +70,6 @@ descend-requires c =
     λ i. subst (λ x. Within 30000000 (nth x i)) (sym c.requires.x_value) (subst (Within 30000000) (sym (nth-replicate 4 i)) (record { within = omega arith })) in
     record {
       k_bound = c.requires.d_nonzero.1;
-      g_len = c.requires.g_len;
-      r_len = c.requires.r_len;
-      x_len = four;
       known = known c.requires.known_near;
       bounded = zeros;
     }
@@ -100,8 +93,6 @@ solution-y-requires c =
     let size : Sized c.args.g.now c.args.r.now =
     sized c.requires.known_near.near.meant in
     record {
-      g_len = c.requires.g_len;
-      c_len = c.requires.r_len;
       by_index = size.gram;
       bounded = size.products;
     }
@@ -109,8 +100,6 @@ solution-y-requires c =
 pub around-requires : goal.around-requires
 around-requires c = simp (to_z-of_z, c.ranges.n) (record {
   d_bound = omega (arith, c.requires.d_nonzero.1);
-  g_len = c.requires.g_len;
-  r_len = c.requires.r_len;
   x_value = c.requires.x_value;
   known_near = c.requires.known_near;
 })

@@ -1,5 +1,5 @@
 -- `around` starts at the rounded solution, and searches from there.
-use mathlib.Core.Path.{◌≡◌, sym, ap, ◌∙◌, subst}
+use mathlib.Core.Path.{◌≡◌, sym, ap, subst}
 use mathlib.Core.List.{List}
 use Prim.Native.Nat.{ℕ, ◌≤◌}
 use native.Mathlib.Omega.{arith}
@@ -12,7 +12,6 @@ use Rattle.integers.specs.Size.{fits-within}
 use Rattle.lattices.specs.Vector.{Vec, N, comb, ◌⊖◌}
 use Rattle.lattices.specs.Nearest.{nearest}
 use Rattle.lattices.specs.Answer.{padded}
-use Rattle.nearest_steps.specs.Moves.{moved_length}
 use Rattle.nearest_steps.specs.End.{left_is, nearest-is as nearest-among}
 use Rattle.nearest_search.specs.MeantNear.{MeantNear, KnownNear}
 use Rattle.nearest_search.specs.LayerLaws.{known}
@@ -27,8 +26,6 @@ Answered d n g r r' x = (r' ≡ r ⊖ comb (take d x) (take d g)) × ((F : ℤ) 
 pub jump-v-requires : goal.jump-v-requires
 jump-v-requires c = record {
   d_bound = c.requires.d_bound;
-  g_len = c.requires.g_len;
-  r_len = c.requires.r_len;
   x_value = c.requires.x_value;
   known = known c.requires.known_near;
 }
@@ -60,9 +57,6 @@ through_layers-requires c =
     let sum : SFits w64 (c.args.n +ℤ c.jump-v.result) =
     fits-within (jumped_within all jumped) tt in
     simp (to_z-of_z, c.ranges.n, number, sum) (record {
-      g_len = c.requires.g_len;
-      r_len = c.jump-v.ensures.moves.width ∙ c.requires.r_len;
-      x_len = moved_length small c.jump-v.ensures.moves;
       bounded = jumped_small (omega arith) all c.requires.x_value jumped;
       known_near = jumped_known all jumped;
     })
@@ -97,9 +91,6 @@ descend-requires c =
     omega (arith, c.requires.d_bound, c.if-d-eq4.false) in
     record {
       k_bound = few;
-      g_len = c.requires.g_len;
-      r_len = c.jump-v.ensures.moves.width ∙ c.requires.r_len;
-      x_len = moved_length small c.jump-v.ensures.moves;
       known = known (jumped_known c.requires.known_near c.jump-v.ensures);
       bounded = jumped_small c.requires.d_bound c.requires.known_near c.requires.x_value c.jump-v.ensures;
     }

@@ -1,10 +1,11 @@
 -- `best` leaves the layer's numbers to the search.
-use mathlib.Core.Path.{◌≡◌, refl, sym, subst}
+use mathlib.Core.Path.{◌≡◌, sym, subst}
 use mathlib.Core.List.{[], ◌∷◌}
 use Prim.Native.Nat.{zero, suc, ◌≤◌}
 use lib.IntN.{ℤ, pos, nat_abs}
 use lib.ListN.{length, get_or}
 use native.Mathlib.Omega.{arith}
+use borrow.Author.Rules.{rules}
 use mir.Facts.{to_z-of_z}
 use Rattle.integers.specs.Size.{within-mul}
 use Rattle.nearest_steps.specs.Numbers.{Sized}
@@ -18,10 +19,7 @@ pub lose-requires : goal.lose-requires
 lose-requires c =
     let size : Sized c.args.g.now c.args.s.now =
     sized c.requires.layer_known.near.meant in
-    simp (to_z-of_z, c.ranges.j) (record {
-      r_len = c.requires.s_len;
-      by_index = λ i. omega (arith, (size.products i).within, (within-mul {A = 2} {a = c.args.j} (record { within = c.requires.j_bound }) (size.gram 3 i)).within);
-    })
+    simp (to_z-of_z, c.ranges.j) (search rules, λ i. omega (arith, (size.products i).within, (within-mul {A = 2} {a = c.args.j} (record { within = c.requires.j_bound }) (size.gram 3 i)).within))
 
 -- the list that is begun with is small
 begun : (j : ℤ) → nat_abs j ≤ 2 → Bounded 30000000 (pos 0 ∷ pos 0 ∷ pos 0 ∷ j ∷ [])
@@ -34,20 +32,17 @@ begun j h (suc (suc (suc (suc i)))) = record { within = omega arith }
 pub descend-requires : goal.descend-requires
 descend-requires c =
     -- the numbers of the layer
-    let taken : (c.lose.new.r ≡ c.args.s.now ⊖ c.args.j ⊙ get_or c.args.g.now 3 []) × (length c.lose.new.r ≡ 4) =
-    let f = simp (to_z-of_z, c.ranges.j) at c.lose.ensures in (f.r_after, f.r_len_2) in
+    let taken : (c.lose.new.a ≡ c.args.s.now ⊖ c.args.j ⊙ get_or c.args.g.now 3 []) × (length c.lose.new.a ≡ 4) =
+    let f : c.lose.new.a ≡ c.args.s.now ⊖ c.args.j ⊙ get_or c.args.g.now 3 [] = simp (to_z-of_z, c.ranges.j) at c.lose.ensures in (f, search rules) in
     record {
       k_bound = omega arith;
-      g_len = c.requires.g_len;
-      r_len = taken.1;
-      x_len = refl;
-      known = layer-searched c.requires.layer_known c.requires.g_len c.requires.s_len c.args.j c.requires.j_bound taken.0 taken.1;
+      known = layer-searched c.requires.layer_known c.told-g c.told-s c.args.j c.requires.j_bound taken.0 taken.1;
       bounded = begun _ (subst (λ n. nat_abs n ≤ 2) (sym (to_z-of_z c.ranges.j)) c.requires.j_bound);
     }
 
 pub returns : goal.returns
 returns c =
     -- the numbers of the layer
-    let taken : (c.lose.new.r ≡ c.args.s.now ⊖ c.args.j ⊙ get_or c.args.g.now 3 []) × (length c.lose.new.r ≡ 4) =
-    let f = simp (to_z-of_z, c.ranges.j) at c.lose.ensures in (f.r_after, f.r_len_2) in
-    best_of c.requires.layer_known c.requires.g_len c.requires.s_len c.args.j c.requires.j_bound taken.0 taken.1 (simp (to_z-of_z, c.ranges.j) at c.descend.ensures)
+    let taken : (c.lose.new.a ≡ c.args.s.now ⊖ c.args.j ⊙ get_or c.args.g.now 3 []) × (length c.lose.new.a ≡ 4) =
+    let f : c.lose.new.a ≡ c.args.s.now ⊖ c.args.j ⊙ get_or c.args.g.now 3 [] = simp (to_z-of_z, c.ranges.j) at c.lose.ensures in (f, search rules) in
+    best_of c.requires.layer_known c.told-g c.told-s c.args.j c.requires.j_bound taken.0 taken.1 (simp (to_z-of_z, c.ranges.j) at c.descend.ensures)

@@ -8,6 +8,7 @@ use mir.Facts.{to_z-of_z}
 use Rattle.nearest_steps.specs.Numbers.{gain_of, negative}
 use Rattle.nearest_steps.specs.State.{sized}
 use native.Mathlib.Omega.{arith}
+use borrow.Author.Rules.{rules}
 use Rattle.integers.specs.Size.{within-le}
 use Rattle.nearest_search.specs.Taking.{sum_is, sum_room, list-room, step_room, step-products}
 use Rattle.nearest_search.specs.Best.{Best, best_gain, best_better, best_none}
@@ -40,10 +41,7 @@ pub lose-requires : goal.lose-requires
 lose-requires c =
     let found : Best c.args.g.now c.args.r.now c.args.j c.best-e.result c.best-e.new.s =
     simp (to_z-of_z, c.ranges.j) at c.best-e.ensures in
-    record {
-      r_len = c.requires.x_len;
-      by_index = sum_room c.args.x.now c.best-e.result (list-room c.args.x.now c.best-e.result c.requires.bounded found.small);
-    }
+    (search rules, sum_room c.args.x.now c.best-e.result (list-room c.args.x.now c.best-e.result c.requires.bounded found.small))
 
 pub returns : goal.returns
 returns c =
@@ -58,4 +56,4 @@ returns c =
     let test : negative (c.gain-v.result ∷ c.best-e.result) ≡ c.improves.result =
     sym (c.improves.ensures ∙ ap (λ z. negative (z ∷ c.best-e.result)) (to_z-of_z number)) in
     simp (to_z-of_z, number)
-    (best_better found c.args.x.now c.requires.r_len change (test ∙ not-false _ c.if-not-improves.false-raw) (c.lose.ensures.r_after ∙ sum_is _ _))
+    (best_better found c.args.x.now c.told-r change (test ∙ not-false _ c.if-not-improves.false-raw) (c.lose.ensures ∙ sum_is _ _))

@@ -29,7 +29,7 @@ overflow_mul-j-2 c =
     let here : FarFits c.args.n c.args.j (nth (get_or c.args.g.now 3 []) 3) =
     far-fits (square-within c.requires.known_near.near c.args.n c.requires.known_near.square) c.requires.j_bound ((sized c.requires.known_near.near.meant).gram 3 3) in
     let entry : SFits w64 (nth (get_or c.args.g.now 3 []) 3) =
-    record { sfits = c.square-1.given } in
+    record { sfits = c.t12-1.given } in
     let f = here in simp (to_z-of_z, c.ranges.j, f.squared, entry) f.product
 
 pub returns-then-n-j : goal.returns-then-n-j
@@ -37,7 +37,7 @@ returns-then-n-j c =
     let here : FarFits c.args.n c.args.j (nth (get_or c.args.g.now 3 []) 3) =
     far-fits (square-within c.requires.known_near.near c.args.n c.requires.known_near.square) c.requires.j_bound ((sized c.requires.known_near.near.meant).gram 3 3) in
     let entry : SFits w64 (nth (get_or c.args.g.now 3 []) 3) =
-    record { sfits = c.square-1.given } in
+    record { sfits = c.t12-1.given } in
     let f = here in
     let h = lt_z_true (simp (to_z-of_z, c.ranges.n, c.ranges.j, f.sixteen, f.squared, f.product, entry) at c.if-n-j.true) in
     turned_none _ _ _ (λ F vs t m e. layer-far m c.args.n c.args.j e h)
@@ -45,14 +45,9 @@ returns-then-n-j c =
 pub layer-requires : goal.layer-requires
 layer-requires c = simp (to_z-of_z, c.ranges.j) (record {
   j_bound = c.requires.j_bound;
-  g_len = c.requires.g_len;
-  r_len = c.requires.r_len;
-  x_len = c.requires.x_len;
   bounded = c.requires.bounded;
   layer_known = layer-known c.requires.known_near;
 })
 
 pub returns : goal.returns
-returns c =
-    let v : SFits w64 c.layer.result = record { sfits = c.layer.type_inv } in
-    simp (to_z-of_z, v) (turned-other (passed-any c.args.n) (simp (to_z-of_z, c.ranges.j) at c.layer.ensures))
+returns c = turned-other (passed-any c.args.n) (simp (to_z-of_z, c.ranges.j) at c.layer.ensures)

@@ -25,7 +25,6 @@ returns c =
     let entry : SFits w64 (nth c.args.x.now c.args.i) =
     fits-within {B = room} (record { within = omega (arith, c.requires.q_bound) }) tt in
     simp (to_z-of_z, c.ranges.q, entry, sum) (record {
-      r_after = simp (to_z-of_z, c.ranges.q) at c.lose.ensures.r_after;
-      r_len_2 = c.lose.ensures.r_len_2;
+      r_after = simp (to_z-of_z, c.ranges.q) at c.lose.ensures;
       x_after = refl;
     })

@@ -24,22 +24,21 @@ use Rattle.nearest_search.specs.Near.{searchable, near-formed, near-known-formed
 use Rattle.nearest_vectors.specs.Numbers.{products_of}
 use Rattle.nearest_vectors.specs.Left.{left-of}
 use Rattle.solution_tenths.specs.Rest.{Rest}
+use Rattle.std.proofs.Common.{rules}
 use Rattle.nearest_vectors.proofs.lose_nearest.Goals as goal
 
-pub products-requires : goal.products-requires
-products-requires c =
+pub products-r-requires : goal.products-r-requires
+products-r-requires c =
     let enough : c.args.d ≤ length c.args.b.now =
-    omega (arith, c.requires.b_len, c.requires.d_bound) in
+    omega (arith, c.told-b, c.requires.d_bound) in
     let t : Vec =
     c.args.t.now in
     let wide : Bounded 100000 t =
     λ i. within-le (omega arith) (coordinates t c.requires.near.target i) in
     record {
       d_bound = c.requires.d_bound;
-      b_len = c.requires.b_len;
       by_index = λ i j h. rows-bounded (searchable enough c.requires.near) i h j;
       by_index_2 = wide;
-      r_value = refl;
     }
 
 pub solution-y-requires : goal.solution-y-requires
@@ -47,17 +46,15 @@ solution-y-requires c =
     let t : Vec =
     c.args.t.now in
     let enough : c.args.d ≤ length c.args.b.now =
-    omega (arith, c.requires.b_len, c.requires.d_bound) in
+    omega (arith, c.told-b, c.requires.d_bound) in
     -- the vectors and the target
     let bs : List Vec =
     take c.args.d c.args.b.now in
     let formed : List ℤ =
-    c.products.new.r in
+    c.products-r.result in
     let products-here : ProductsOf bs t formed =
-    products_of bs t (omega (arith, length-take c.args.d c.args.b.now, c.requires.d_bound)) c.products.ensures in
+    products_of bs t (omega (arith, length-take c.args.d c.args.b.now, c.requires.d_bound)) c.products-r.ensures in
     let m = sized (near-formed c.args.d c.args.b.now t enough c.requires.near c.requires.gram_of products-here).meant in record {
-      g_len = c.requires.gram_of.count;
-      c_len = products-here.long;
       by_index = m.gram;
       bounded = m.products;
     }
@@ -67,36 +64,34 @@ around-requires c =
     let t : Vec =
     c.args.t.now in
     let enough : c.args.d ≤ length c.args.b.now =
-    omega (arith, c.requires.b_len, c.requires.d_bound) in
+    omega (arith, c.told-b, c.requires.d_bound) in
     let formed : List ℤ =
-    c.products.new.r in
+    c.products-r.result in
     -- the vectors and the target
     let bs : List Vec =
     take c.args.d c.args.b.now in
     let products-here : ProductsOf bs t formed =
-    products_of bs t (omega (arith, length-take c.args.d c.args.b.now, c.requires.d_bound)) c.products.ensures in
+    products_of bs t (omega (arith, length-take c.args.d c.args.b.now, c.requires.d_bound)) c.products-r.ensures in
     simp (to_z-of_z, c.ranges.n) (record {
       d_bound = c.requires.d_bound;
-      g_len = c.requires.gram_of.count;
-      r_len = products-here.long;
       x_value = refl;
       known_near = subst (λ n. KnownNear c.args.d n c.args.g.now formed) (sym c.requires.n_value)
           (near-known-formed c.args.d c.args.b.now t enough c.requires.near c.requires.gram_of products-here);
     })
 
-pub minus_combination-requires : goal.minus_combination-requires
-minus_combination-requires c =
+pub lose_combination-requires : goal.lose_combination-requires
+lose_combination-requires c =
     -- the vectors and the target
     let bs : List Vec =
     take c.args.d c.args.b.now in
     let t : Vec =
     c.args.t.now in
     let enough : c.args.d ≤ length c.args.b.now =
-    omega (arith, c.requires.b_len, c.requires.d_bound) in
+    omega (arith, c.told-b, c.requires.d_bound) in
     let formed : List ℤ =
-    c.products.new.r in
+    c.products-r.result in
     let products-here : ProductsOf bs t formed =
-    products_of bs t (omega (arith, length-take c.args.d c.args.b.now, c.requires.d_bound)) c.products.ensures in
+    products_of bs t (omega (arith, length-take c.args.d c.args.b.now, c.requires.d_bound)) c.products-r.ensures in
     let meaning : MeantNear (pos 1) c.args.d bs t c.args.g.now formed =
     near-formed c.args.d c.args.b.now t enough c.requires.near c.requires.gram_of products-here in
     let again : take c.args.d bs ≡ bs =
@@ -109,12 +104,8 @@ minus_combination-requires c =
     (simp (to_z-of_z, c.ranges.n) at c.around.ensures.x_after) _ _ _ meaning (ap (λ n. pos 1 *ℤ n) c.requires.n_value ∙ pos-one-*ℤ (N t)) ∙ ap (λ vs. padded 4 (nearest vs t)) again in
     let coefficients-are : take c.args.d found-list ≡ nearest bs t =
     taken c.args.d c.args.b.now t c.requires.d_bound enough found in
-    let room = rest-room (nearest bs t) c.requires.d_bound enough c.requires.near small in record {
-      d_bound = c.requires.d_bound;
-      b_len = c.requires.b_len;
-      r_len = c.requires.t_len;
-      by_index = λ i. rw coefficients-are (room i);
-    }
+    let room = rest-room (nearest bs t) c.requires.d_bound enough c.requires.near small in
+    (search rules, (search rules, (c.requires.d_bound, λ i. rw coefficients-are (room i))))
 
 pub tenths-requires : goal.tenths-requires
 tenths-requires c =
@@ -124,11 +115,11 @@ tenths-requires c =
     let t : Vec =
     c.args.t.now in
     let enough : c.args.d ≤ length c.args.b.now =
-    omega (arith, c.requires.b_len, c.requires.d_bound) in
+    omega (arith, c.told-b, c.requires.d_bound) in
     let formed : List ℤ =
-    c.products.new.r in
+    c.products-r.result in
     let products-here : ProductsOf bs t formed =
-    products_of bs t (omega (arith, length-take c.args.d c.args.b.now, c.requires.d_bound)) c.products.ensures in
+    products_of bs t (omega (arith, length-take c.args.d c.args.b.now, c.requires.d_bound)) c.products-r.ensures in
     let found-list : List ℤ =
     c.around.new.x in
     let rest-long : length c.around.new.r ≡ 4 =
@@ -144,8 +135,6 @@ tenths-requires c =
     left-of c.args.d c.args.b.now t c.requires.d_bound enough c.requires.near c.requires.gram_of products-here found c.around.ensures.r_after in
     let r = left_here in record {
       d_bound = c.requires.d_bound;
-      g_len = c.requires.gram_of.count;
-      r_len = rest-long;
       rests = record { vectors = bs; target = t; rest = r };
     }
 
@@ -159,11 +148,11 @@ returns c =
     let found-list : List ℤ =
     c.around.new.x in
     let enough : c.args.d ≤ length c.args.b.now =
-    omega (arith, c.requires.b_len, c.requires.d_bound) in
+    omega (arith, c.told-b, c.requires.d_bound) in
     let formed : List ℤ =
-    c.products.new.r in
+    c.products-r.result in
     let products-here : ProductsOf bs t formed =
-    products_of bs t (omega (arith, length-take c.args.d c.args.b.now, c.requires.d_bound)) c.products.ensures in
+    products_of bs t (omega (arith, length-take c.args.d c.args.b.now, c.requires.d_bound)) c.products-r.ensures in
     let meaning : MeantNear (pos 1) c.args.d bs t c.args.g.now formed =
     near-formed c.args.d c.args.b.now t enough c.requires.near c.requires.gram_of products-here in
     let again : take c.args.d bs ≡ bs =
@@ -177,7 +166,6 @@ returns c =
     left-of c.args.d c.args.b.now t c.requires.d_bound enough c.requires.near c.requires.gram_of products-here found c.around.ensures.r_after in
     record {
       value = found;
-      t_len_2 = c.minus_combination.ensures.r_len_2;
-      t_after = c.minus_combination.ensures.r_after ∙ ap (λ y. t ⊖ comb y bs) coefficients-are;
+      t_after = c.lose_combination.ensures ∙ ap (λ y. t ⊖ comb y bs) coefficients-are;
       padded_tenths = c.tenths.ensures _ _ left_here;
     }

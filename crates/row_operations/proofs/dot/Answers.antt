@@ -11,25 +11,25 @@ use Rattle.row_operations.proofs.dot.Goals as goal
 
 pub loop-i-init : goal.loop-i-init
 unfolding dot
-loop-i-init c = (search rules, refl)
-
-turn : (c : goal.After-sum-in-loop-i-1) → DotTurn c.before.before.before.before.args.a c.before.before.before.before.args.b c.before.before.before.loop-i.i
-turn c = let s = c.before.before.before.before in dot-turn _ _ s.requires.by_index s.requires.by_index_2 _ (search rules)
+loop-i-init g c = refl
 
 pub overflow_mul-sum : goal.overflow_mul-sum
-overflow_mul-sum c = let f = turn c in simp (to_z-of_z, f.left, f.right) f.product
+overflow_mul-sum g c =
+    let turn : DotTurn c.args.a.now c.args.b.now c.loop-i.i = dot-turn _ _ c.requires _ (record { sfits = c.sum-1.given }) (record { sfits = c.sum-in-loop-i-1.given }) in
+    simp (to_z-of_z, turn.left, turn.right) turn.product
 
 pub overflow_add-sum : goal.overflow_add-sum
-overflow_add-sum c = let f = turn c in simp (c.before.before.before.loop-i.invariant.1, to_z-of_z, f.left, f.right, f.product) f.next
+overflow_add-sum g c =
+    let turn : DotTurn c.args.a.now c.args.b.now c.loop-i.i = dot-turn _ _ c.requires _ (record { sfits = c.sum-1.given }) (record { sfits = c.sum-in-loop-i-1.given }) in
+    simp (c.loop-i.invariant, to_z-of_z, turn.left, turn.right, turn.product, turn.sum) turn.next
 
 pub loop-i-preserved : goal.loop-i-preserved
-loop-i-preserved c = let f = turn c in (search rules, simp (c.before.before.before.loop-i.invariant.1, to_z-of_z, f.left, f.right, f.product, f.next, add-one, dot-suc))
+loop-i-preserved g c =
+    let turn : DotTurn c.args.a.now c.args.b.now c.loop-i.i = dot-turn _ _ c.requires _ (record { sfits = c.sum-1.given }) (record { sfits = c.sum-in-loop-i-1.given }) in
+    simp (c.loop-i.invariant, to_z-of_z, turn.left, turn.right, turn.product, turn.sum, turn.next, add-one, dot-suc)
 
 pub returns : goal.returns
-returns c =
-    let a = c.before.before.args.a in
-    let b = c.before.before.args.b in
-    let i = c.before.loop-i.i in
-    let p : length a ≤ i = search rules in
-    let q : length b ≤ i = search rules in
-    c.before.loop-i.invariant.1 ∙ ap₂ dot (take_all i a p) (take_all i b q)
+returns g c =
+    let p : length c.args.a.now ≤ c.loop-i.i = search rules in
+    let q : length c.args.b.now ≤ c.loop-i.i = search rules in
+    c.loop-i.invariant ∙ ap₂ dot (take_all c.loop-i.i c.args.a.now p) (take_all c.loop-i.i c.args.b.now q)

@@ -1,10 +1,8 @@
 -- `dot` is the inner product: after i turns the sum is that of the first i places.
 use mathlib.Core.Path.{◌≡◌}
-use Prim.Native.Nat.{◌≤◌}
 use lib.ListN.{take}
-use Rattle.lattices.specs.Refusal.{most_coordinates}
 use Rattle.lattices.specs.Vector.{dot}
 use Rattle.row_operations.proofs.dot.Given as goal
 
 abbrev pub invariant-loop-i : goal.invariant-loop-i
-invariant-loop-i l = (l.i ≤ most_coordinates) × (l.sum ≡ (dot (take l.i l.a) (take l.i l.b)))
+invariant-loop-i g l = l.sum ≡ dot (take l.i l.a) (take l.i l.b)

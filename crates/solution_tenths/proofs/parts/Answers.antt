@@ -22,5 +22,4 @@ returns c = record {
   bounded = four-within (back tt c.part.ensures.within) (back tt c.part-2.ensures.within) (back tt c.part-3.ensures.within) (back tt c.part-4.ensures.within);
   by_index = four (λ i z. c.args.d ≤ i → z ≡ pos 0)
       (λ l. zero-back (c.part.ensures.value l)) (λ l. zero-back (c.part-2.ensures.value l)) (λ l. zero-back (c.part-3.ensures.value l)) (λ l. zero-back (c.part-4.ensures.value l)) (λ i h l. refl);
-  result_len = refl;
 }

@@ -50,11 +50,11 @@ product-requires-4 c = record {
 
 pub returns : goal.returns
 returns c =
-    let read : (i : ℕ) → pos 8192 *ℤ to_z w64 (of_z w64 (nth c.args.r.now i)) -ℤ dot c.args.z (get_or c.args.g.now i []) ≡ pos 8192 *ℤ nth c.args.r.now i -ℤ dot c.args.z (get_or c.args.g.now i [])
-    = λ i. ap (λ y. pos 8192 *ℤ y -ℤ dot c.args.z (get_or c.args.g.now i [])) (to_z-of_z {w = w64} (fits-within (c.requires.bounded i) tt)) in
-    four (λ i h. h ≡ pos 8192 *ℤ nth c.args.r.now i -ℤ dot c.args.z (get_or c.args.g.now i []))
+    let read : (i : ℕ) → pos 8192 *ℤ to_z w64 (of_z w64 (nth c.args.r.now i)) -ℤ dot c.args.z.now (get_or c.args.g.now i []) ≡ pos 8192 *ℤ nth c.args.r.now i -ℤ dot c.args.z.now (get_or c.args.g.now i [])
+    = λ i. ap (λ y. pos 8192 *ℤ y -ℤ dot c.args.z.now (get_or c.args.g.now i [])) (to_z-of_z {w = w64} (fits-within (c.requires.bounded i) tt)) in
+    four (λ i h. h ≡ pos 8192 *ℤ nth c.args.r.now i -ℤ dot c.args.z.now (get_or c.args.g.now i []))
     (to_z-of_z {w = w64} (record { sfits = c.product.type_inv }) ∙ c.product.ensures ∙ read 0)
     (to_z-of_z {w = w64} (record { sfits = c.product-2.type_inv }) ∙ c.product-2.ensures ∙ read 1)
     (to_z-of_z {w = w64} (record { sfits = c.product-3.type_inv }) ∙ c.product-3.ensures ∙ read 2)
     (to_z-of_z {w = w64} (record { sfits = c.product-4.type_inv }) ∙ c.product-4.ensures ∙ read 3)
-    (product-behind c.args.g.now c.args.r.now c.args.z c.requires.g_len c.requires.r_len)
+    (product-behind c.args.g.now c.args.r.now c.args.z.now c.told-g c.told-r)

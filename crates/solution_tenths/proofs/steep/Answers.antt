@@ -24,16 +24,16 @@ level-requires c = record {
 pub returns-then-not-level : goal.returns-then-not-level
 returns-then-not-level c =
     -- the test, of numbers as they are
-    let tested : Level (nth (get_or c.args.g.now c.loop-i.i []) c.loop-i.i) (nth c.args.h c.loop-i.i) c.level.result =
+    let tested : Level (nth (get_or c.args.g.now c.loop-i.i []) c.loop-i.i) (nth c.args.h.now c.loop-i.i) c.level.result =
     subst₂ (λ n p. Level n p c.level.result) (to_z-of_z {w = w64} (fits-within (c.requires.by_index c.loop-i.i c.loop-i.i) tt)) (to_z-of_z {w = w64} (fits-within (c.requires.bounded c.loop-i.i) tt)) c.level.ensures in
-    steep-at _ _ _ (search rules) c.loop-i.invariant.1 (subst (Level _ _) (not-true _ c.if-not-level.true-raw) tested)
+    steep-at _ _ _ (search rules) (subst (Level _ _) (not-true _ c.if-not-level.true-raw) tested)
 
 pub loop-i-preserved : goal.loop-i-preserved
 loop-i-preserved c =
     -- the test, of numbers as they are
-    let tested : Level (nth (get_or c.args.g.now c.loop-i.i []) c.loop-i.i) (nth c.args.h c.loop-i.i) c.level.result =
+    let tested : Level (nth (get_or c.args.g.now c.loop-i.i []) c.loop-i.i) (nth c.args.h.now c.loop-i.i) c.level.result =
     subst₂ (λ n p. Level n p c.level.result) (to_z-of_z {w = w64} (fits-within (c.requires.by_index c.loop-i.i c.loop-i.i) tt)) (to_z-of_z {w = w64} (fits-within (c.requires.bounded c.loop-i.i) tt)) c.level.ensures in
-    (search rules, flat-next c.args.g.now c.args.h _ c.loop-i.invariant.1 (subst (Level _ _) (not-false _ c.if-not-level.false-raw) tested))
+    (search rules, flat-next c.args.g.now c.args.h.now _ c.loop-i.invariant.1 (subst (Level _ _) (not-false _ c.if-not-level.false-raw) tested))
 
 pub returns : goal.returns
-returns c = steep-none _ _ _ c.loop-i.invariant.0 (search rules) c.loop-i.invariant.1
+returns c = steep-none _ _ _ (search rules) c.loop-i.invariant.1

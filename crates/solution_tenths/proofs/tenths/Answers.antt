@@ -3,6 +3,7 @@ use mathlib.Core.Path.{◌≡◌, refl}
 use mathlib.Core.List.{List}
 use Prim.Native.Nat.{ℕ, ◌≤◌, ◌<◌, ◌^◌}
 use native.Mathlib.Omega.{arith}
+use borrow.Author.Rules.{rules}
 use lib.IntN.{ℤ, pos, ◌-ℤ◌, ◌*ℤ◌}
 use lib.Signed.{mag}
 use mir.Syntax.{w64}
@@ -19,18 +20,16 @@ use Rattle.solution_tenths.proofs.tenths.Goals as goal
 pub parts-z-requires : goal.parts-z-requires
 parts-z-requires c =
     -- what the caller knows
-    let known : Rest c.args.d c.requires.rests.vectors c.requires.rests.target c.args.g.now c.args.x c.args.r.now =
+    let known : Rest c.args.d c.requires.rests.vectors c.requires.rests.target c.args.g.now c.args.x.now c.args.r.now =
     c.requires.rests.rest in
     known.small
 
 pub products-requires : goal.products-requires
 products-requires c =
     -- what the caller knows
-    let known : Rest c.args.d c.requires.rests.vectors c.requires.rests.target c.args.g.now c.args.x c.args.r.now =
+    let known : Rest c.args.d c.requires.rests.vectors c.requires.rests.target c.args.g.now c.args.x.now c.args.r.now =
     c.requires.rests.rest in
     record {
-      g_len = c.requires.g_len;
-      r_len = c.requires.r_len;
       by_index = rest-gram c.requires.d_bound known;
       bounded = rest-products c.requires.d_bound known;
       bounded_2 = c.parts-z.ensures.bounded;
@@ -41,22 +40,19 @@ products-requires c =
 pub settled-w-requires : goal.settled-w-requires
 settled-w-requires c =
     -- what the caller knows
-    let known : Rest c.args.d c.requires.rests.vectors c.requires.rests.target c.args.g.now c.args.x c.args.r.now =
+    let known : Rest c.args.d c.requires.rests.vectors c.requires.rests.target c.args.g.now c.args.x.now c.args.r.now =
     c.requires.rests.rest in
-    let taken : (bs : List Vec) (t : Vec) → (m : Rest c.args.d bs t c.args.g.now c.args.x c.args.r.now) → Taken bs (fine c.requires.d_bound m) c.args.g.now c.products.result c.parts-z.result =
-    λ bs t m. taken_start c.requires.d_bound m c.products.result c.parts-z.result c.parts-z.ensures.result_len c.parts-z.ensures.bounded c.parts-z.ensures.by_index c.products.ensures in
-    record {
-      g_len = c.requires.g_len;
-      known = record { vectors = c.requires.rests.vectors; target = fine c.requires.d_bound known; taken = taken _ _ known };
-    }
+    let taken : (bs : List Vec) (t : Vec) → (m : Rest c.args.d bs t c.args.g.now c.args.x.now c.args.r.now) → Taken bs (fine c.requires.d_bound m) c.args.g.now c.products.result c.parts-z.result =
+    λ bs t m. taken_start c.requires.d_bound m c.products.result c.parts-z.result (search rules) c.parts-z.ensures.bounded c.parts-z.ensures.by_index c.products.ensures in
+    record { vectors = c.requires.rests.vectors; target = fine c.requires.d_bound known; taken = taken _ _ known }
 
 pub tenth-requires : goal.tenth-requires
 tenth-requires c =
     -- what the caller knows
-    let known : Rest c.args.d c.requires.rests.vectors c.requires.rests.target c.args.g.now c.args.x c.args.r.now =
+    let known : Rest c.args.d c.requires.rests.vectors c.requires.rests.target c.args.g.now c.args.x.now c.args.r.now =
     c.requires.rests.rest in
-    let taken : (bs : List Vec) (t : Vec) → (m : Rest c.args.d bs t c.args.g.now c.args.x c.args.r.now) → Taken bs (fine c.requires.d_bound m) c.args.g.now c.products.result c.parts-z.result =
-    λ bs t m. taken_start c.requires.d_bound m c.products.result c.parts-z.result c.parts-z.ensures.result_len c.parts-z.ensures.bounded c.parts-z.ensures.by_index c.products.ensures in
+    let taken : (bs : List Vec) (t : Vec) → (m : Rest c.args.d bs t c.args.g.now c.args.x.now c.args.r.now) → Taken bs (fine c.requires.d_bound m) c.args.g.now c.products.result c.parts-z.result =
+    λ bs t m. taken_start c.requires.d_bound m c.products.result c.parts-z.result (search rules) c.parts-z.ensures.bounded c.parts-z.ensures.by_index c.products.ensures in
     let small : Bounded 65000000000000 c.settled-w.result =
     (c.settled-w.ensures _ _ (taken _ _ known)).small in
     -- behind d nothing is taken
@@ -73,10 +69,10 @@ tenth-requires c =
 pub tenth-requires-2 : goal.tenth-requires-2
 tenth-requires-2 c =
     -- what the caller knows
-    let known : Rest c.args.d c.requires.rests.vectors c.requires.rests.target c.args.g.now c.args.x c.args.r.now =
+    let known : Rest c.args.d c.requires.rests.vectors c.requires.rests.target c.args.g.now c.args.x.now c.args.r.now =
     c.requires.rests.rest in
-    let taken : (bs : List Vec) (t : Vec) → (m : Rest c.args.d bs t c.args.g.now c.args.x c.args.r.now) → Taken bs (fine c.requires.d_bound m) c.args.g.now c.products.result c.parts-z.result =
-    λ bs t m. taken_start c.requires.d_bound m c.products.result c.parts-z.result c.parts-z.ensures.result_len c.parts-z.ensures.bounded c.parts-z.ensures.by_index c.products.ensures in
+    let taken : (bs : List Vec) (t : Vec) → (m : Rest c.args.d bs t c.args.g.now c.args.x.now c.args.r.now) → Taken bs (fine c.requires.d_bound m) c.args.g.now c.products.result c.parts-z.result =
+    λ bs t m. taken_start c.requires.d_bound m c.products.result c.parts-z.result (search rules) c.parts-z.ensures.bounded c.parts-z.ensures.by_index c.products.ensures in
     let small : Bounded 65000000000000 c.settled-w.result =
     (c.settled-w.ensures _ _ (taken _ _ known)).small in
     -- behind d nothing is taken
@@ -93,10 +89,10 @@ tenth-requires-2 c =
 pub tenth-requires-3 : goal.tenth-requires-3
 tenth-requires-3 c =
     -- what the caller knows
-    let known : Rest c.args.d c.requires.rests.vectors c.requires.rests.target c.args.g.now c.args.x c.args.r.now =
+    let known : Rest c.args.d c.requires.rests.vectors c.requires.rests.target c.args.g.now c.args.x.now c.args.r.now =
     c.requires.rests.rest in
-    let taken : (bs : List Vec) (t : Vec) → (m : Rest c.args.d bs t c.args.g.now c.args.x c.args.r.now) → Taken bs (fine c.requires.d_bound m) c.args.g.now c.products.result c.parts-z.result =
-    λ bs t m. taken_start c.requires.d_bound m c.products.result c.parts-z.result c.parts-z.ensures.result_len c.parts-z.ensures.bounded c.parts-z.ensures.by_index c.products.ensures in
+    let taken : (bs : List Vec) (t : Vec) → (m : Rest c.args.d bs t c.args.g.now c.args.x.now c.args.r.now) → Taken bs (fine c.requires.d_bound m) c.args.g.now c.products.result c.parts-z.result =
+    λ bs t m. taken_start c.requires.d_bound m c.products.result c.parts-z.result (search rules) c.parts-z.ensures.bounded c.parts-z.ensures.by_index c.products.ensures in
     let small : Bounded 65000000000000 c.settled-w.result =
     (c.settled-w.ensures _ _ (taken _ _ known)).small in
     -- behind d nothing is taken
@@ -113,10 +109,10 @@ tenth-requires-3 c =
 pub tenth-requires-4 : goal.tenth-requires-4
 tenth-requires-4 c =
     -- what the caller knows
-    let known : Rest c.args.d c.requires.rests.vectors c.requires.rests.target c.args.g.now c.args.x c.args.r.now =
+    let known : Rest c.args.d c.requires.rests.vectors c.requires.rests.target c.args.g.now c.args.x.now c.args.r.now =
     c.requires.rests.rest in
-    let taken : (bs : List Vec) (t : Vec) → (m : Rest c.args.d bs t c.args.g.now c.args.x c.args.r.now) → Taken bs (fine c.requires.d_bound m) c.args.g.now c.products.result c.parts-z.result =
-    λ bs t m. taken_start c.requires.d_bound m c.products.result c.parts-z.result c.parts-z.ensures.result_len c.parts-z.ensures.bounded c.parts-z.ensures.by_index c.products.ensures in
+    let taken : (bs : List Vec) (t : Vec) → (m : Rest c.args.d bs t c.args.g.now c.args.x.now c.args.r.now) → Taken bs (fine c.requires.d_bound m) c.args.g.now c.products.result c.parts-z.result =
+    λ bs t m. taken_start c.requires.d_bound m c.products.result c.parts-z.result (search rules) c.parts-z.ensures.bounded c.parts-z.ensures.by_index c.products.ensures in
     let small : Bounded 65000000000000 c.settled-w.result =
     (c.settled-w.ensures _ _ (taken _ _ known)).small in
     -- behind d nothing is taken
@@ -133,17 +129,17 @@ tenth-requires-4 c =
 pub returns : goal.returns
 returns c =
     -- what the caller knows
-    let known : Rest c.args.d c.requires.rests.vectors c.requires.rests.target c.args.g.now c.args.x c.args.r.now =
+    let known : Rest c.args.d c.requires.rests.vectors c.requires.rests.target c.args.g.now c.args.x.now c.args.r.now =
     c.requires.rests.rest in
-    let taken : (bs : List Vec) (t : Vec) → (m : Rest c.args.d bs t c.args.g.now c.args.x c.args.r.now) → Taken bs (fine c.requires.d_bound m) c.args.g.now c.products.result c.parts-z.result =
-    λ bs t m. taken_start c.requires.d_bound m c.products.result c.parts-z.result c.parts-z.ensures.result_len c.parts-z.ensures.bounded c.parts-z.ensures.by_index c.products.ensures in
+    let taken : (bs : List Vec) (t : Vec) → (m : Rest c.args.d bs t c.args.g.now c.args.x.now c.args.r.now) → Taken bs (fine c.requires.d_bound m) c.args.g.now c.products.result c.parts-z.result =
+    λ bs t m. taken_start c.requires.d_bound m c.products.result c.parts-z.result (search rules) c.parts-z.ensures.bounded c.parts-z.ensures.by_index c.products.ensures in
     let small : Bounded 65000000000000 c.settled-w.result =
     (c.settled-w.ensures _ _ (taken _ _ known)).small in
-    let entry : (i : ℕ) (y : ℤ) → mag y < 2 ^ 63 → Between (pos 4096) (pos 10 *ℤ to_z w64 (of_z w64 (nth c.settled-w.result i)) -ℤ pos 8192 *ℤ (y -ℤ pos 10 *ℤ to_z w64 (of_z w64 (nth c.args.x i)))) → Between (pos 4096) (pos 10 *ℤ nth c.settled-w.result i -ℤ pos 8192 *ℤ (to_z w64 (of_z w64 y) -ℤ pos 10 *ℤ nth c.args.x i))
-    = λ i y f. entry-back (nth c.args.x i) (nth c.settled-w.result i) y (fits-within (known.small i) tt) (fits-within (small i) tt) (record { sfits = f }) in
+    let entry : (i : ℕ) (y : ℤ) → mag y < 2 ^ 63 → Between (pos 4096) (pos 10 *ℤ to_z w64 (of_z w64 (nth c.settled-w.result i)) -ℤ pos 8192 *ℤ (y -ℤ pos 10 *ℤ to_z w64 (of_z w64 (nth c.args.x.now i)))) → Between (pos 4096) (pos 10 *ℤ nth c.settled-w.result i -ℤ pos 8192 *ℤ (to_z w64 (of_z w64 y) -ℤ pos 10 *ℤ nth c.args.x.now i))
+    = λ i y f. entry-back (nth c.args.x.now i) (nth c.settled-w.result i) y (fits-within (known.small i) tt) (fits-within (small i) tt) (record { sfits = f }) in
     λ bs t m.
     let e = c.settled-w.ensures bs _ (taken bs t m) in
     padded-tenths c.requires.d_bound m _ c.settled-w.result refl e
-    (four (λ i y. Between (pos 4096) (pos 10 *ℤ nth c.settled-w.result i -ℤ pos 8192 *ℤ (y -ℤ pos 10 *ℤ nth c.args.x i)))
+    (four (λ i y. Between (pos 4096) (pos 10 *ℤ nth c.settled-w.result i -ℤ pos 8192 *ℤ (y -ℤ pos 10 *ℤ nth c.args.x.now i)))
     (entry 0 c.tenth.result c.tenth.type_inv c.tenth.ensures) (entry 1 c.tenth-2.result c.tenth-2.type_inv c.tenth-2.ensures) (entry 2 c.tenth-3.result c.tenth-3.type_inv c.tenth-3.ensures) (entry 3 c.tenth-4.result c.tenth-4.type_inv c.tenth-4.ensures)
-    (tenth_behind c.args.x c.settled-w.result m.long e.long))
+    (tenth_behind c.args.x.now c.settled-w.result m.long e.long))

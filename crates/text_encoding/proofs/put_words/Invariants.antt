@@ -1,11 +1,7 @@
--- The first i words are stored.
-use Prim.Native.Nat.{◌-◌, ◌≤◌}
-use lib.ListN.{take}
+-- The words so far are stored.
+use Rattle.std.proofs.Common.{take}
 use Rattle.text_encoding.specs.Stores.{Stores}
 use Rattle.text_encoding.proofs.put_words.Given as goal
 
-abbrev pub invariant-loop-i : goal.invariant-loop-i
-invariant-loop-i l = (l.i ≤ l.i-end) × Stores (take l.i l.words) l.initial.out l.k l.out l.n
-
-abbrev pub decreases-loop-i : goal.decreases-loop-i
-decreases-loop-i l = l.i-end - l.i
+abbrev pub invariant-loop-w : goal.invariant-loop-w
+invariant-loop-w l = Stores (take l.w-index l.words) l.initial.out l.k l.out l.n

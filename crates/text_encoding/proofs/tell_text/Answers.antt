@@ -2,8 +2,7 @@
 use mathlib.Core.Path.{◌≡◌, sym, ap, ◌∙◌}
 use mathlib.Core.Bool.{true, false}
 use Prim.Native.Nat.{◌-◌}
-use native.Mathlib.Omega.{arith}
-use lib.ListN.{length, take, drop, length-drop}
+use lib.ListN.{length, take, drop}
 use Rattle.catalogue_rules.specs.Catalogue.{new}
 use Rattle.text_rules.specs.Encoding.{lines_of, any_wrong, entries_from}
 use Rattle.text_lines.specs.Fields.{to_end}
@@ -19,18 +18,12 @@ returns-then-not-opens_new c =
       words_in_bounds = c.tell_lines.ensures.words_in_bounds;
     }
 
-pub tell_lines-requires-2 : goal.tell_lines-requires-2
-tell_lines-requires-2 c =
-    let text = c.args.text.now in
-    let at = c.second_line-at.result in
-    omega (arith, c.requires, ap length (to_end at text), length-drop at text)
-
 pub returns : goal.returns
 returns c =
     let opened : opens_new c.args.text.now ≡ true = sym c.opens_new.ensures ∙ c.if-not-opens_new.false in
-    let rest : let text = c.args.text.now in let at = c.second_line-at.result in drop (second_line text) text ≡ take (length text - at) (drop at text) = let text = c.args.text.now in
-    let at = c.second_line-at.result in
-    ap (λ n. drop n text) (sym c.second_line-at.ensures.value) ∙ sym (to_end at text) in
+    let rest : let text = c.args.text.now in let at = c.second_line.result in drop (second_line text) text ≡ take (length text - at) (drop at text) = let text = c.args.text.now in
+    let at = c.second_line.result in
+    ap (λ n. drop n text) (sym c.second_line.ensures.value) ∙ sym (to_end at text) in
     let text = c.args.text.now in
     let entries = entries-new text opened ∙ ap (λ ls. entries_from new (lines_of ls)) rest in
     let wrong = wrong-new text opened ∙ ap (λ ls. any_wrong new (lines_of ls)) rest in record {

@@ -1,47 +1,23 @@
-use mathlib.Core.Path.{◌≡◌, refl, sym, ap, ap₂, ◌∙◌}
-use mathlib.Core.Bool.{false, true≢false}
+use mathlib.Core.Path.{◌≡◌, sym, ap, ap₂, ◌∙◌}
+use mathlib.Core.Bool.{false}
 use mathlib.Core.List.{[], ◌∷◌, ◌++◌}
-use Prim.Native.Nat.{suc, ◌-◌}
+use Prim.Native.Nat.{suc}
 use native.Mathlib.Numerals.{add-one}
 use native.Mathlib.Omega.{arith}
-use lib.IntN.{pos, nat_abs}
-use lib.ListN.{length, set, take, drop, replicate, length-set, take-append-drop}
-use lib.Seq.{take-suc-set, take_all, drop-set-lt, drop-drop}
+use lib.IntN.{pos}
+use lib.ListN.{set, take, drop, length-set}
+use lib.Seq.{take-suc-set, drop-set-lt, drop-drop}
 use mir.Syntax.{w64}
 use mir.Val.{to_z, of_z}
 use mir.Facts.{to_z-of_z}
 use borrow.Author.Rules.{rules}
-use borrow.Author.Tests.{ltb-false}
 use Rattle.lattices.specs.Vector.{nth}
 use Rattle.catalogue_rules.specs.Word.{encode}
-use Rattle.catalogue_rules.specs.Write.{coordinate_word, encoded_coordinates}
-use Rattle.input_checks.specs.Any.{beyond, any_here, any-later, any-end}
+use Rattle.catalogue_rules.specs.Write.{coordinate_word}
+use Rattle.input_checks.specs.Any.{beyond, any-later}
 use Rattle.catalogue_writer.specs.Loads.{encoded-more}
 use Rattle.text_lines.specs.Fields.{zeros-next}
 use Rattle.text_lines.proofs.coordinate_words.Goals as goal
-
-pub loop-i-init : goal.loop-i-init
-loop-i-init c = (search rules, (refl, (refl, (refl, refl))))
-
-pub returns-then-beyond : goal.returns-then-beyond
-returns-then-beyond c =
-    let tested : c.beyond.result ≡ beyond (nth c.args.z.now c.loop-i.i) = c.beyond.ensures ∙ ap beyond (to_z-of_z {w = w64} {z = nth c.args.z.now c.loop-i.i} (search rules)) in
-    let z = c.args.z.now in record {
-      beyond_value = sym (c.loop-i.invariant.1.1.0 ∙ any_here beyond z c.loop-i.i (pos 0) c.loop-i-test.true (sym tested ∙ c.if-beyond.true));
-      words_value = λ e. absurd (true≢false e);
-    }
-
-pub coordinate_word-requires : goal.coordinate_word-requires
-coordinate_word-requires c =
-    let tested : c.beyond.result ≡ beyond (nth c.args.z.now c.loop-i.i) = c.beyond.ensures ∙ ap beyond (to_z-of_z {w = w64} {z = nth c.args.z.now c.loop-i.i} (search rules)) in
-    let near : beyond (nth c.args.z.now c.loop-i.i) ≡ false = sym tested ∙ c.if-beyond.false in
-    let same : let x = nth c.args.z.now c.loop-i.i in to_z w64 (of_z w64 x) ≡ x = to_z-of_z {w = w64} {z = nth c.args.z.now c.loop-i.i} (search rules) in
-    let z = nth c.args.z.now c.loop-i.i in
-    omega (arith, ltb-false 20000 (nat_abs z) near, ap nat_abs same)
-
-pub bounds-words-i : goal.bounds-words-i
-bounds-words-i c =
-    omega (arith, c.requires, c.loop-i-test.true, c.loop-i.invariant.1.0)
 
 pub loop-i-preserved : goal.loop-i-preserved
 loop-i-preserved c =
@@ -73,12 +49,3 @@ loop-i-preserved c =
         ),
       ),
     )
-
-pub returns : goal.returns
-returns c =
-    let z = c.args.z.now in
-    let end : length z ≡ c.loop-i.i = omega (arith, c.loop-i.invariant.0, c.loop-i-test.false) in record {
-      beyond_value = sym (c.loop-i.invariant.1.1.0 ∙ any-end beyond z c.loop-i.i (omega arith));
-      words_value = λ e. sym (take-append-drop c.loop-i.i c.loop-i.words)
-          ∙ ap₂ ◌++◌ (c.loop-i.invariant.1.1.1.0 ∙ ap encoded_coordinates (take_all c.loop-i.i z (omega arith))) (c.loop-i.invariant.1.1.1.1 ∙ ap (λ k. replicate (225 - k) 0) (sym end));
-    }

@@ -1,57 +1,51 @@
-use mathlib.Core.Path.{◌≡◌, sym, ap, ◌∙◌, subst}
-use mathlib.Core.List.{List}
-use Prim.Native.Nat.{ℕ, ◌≤◌, ◌+◌, ◌-◌}
-use lib.ListN.{length, length-set, set, drop, length-drop}
-use lib.Seq.{take_all}
-use mir.Syntax.{w64}
-use mir.Val.{to_z, of_z}
-use mir.Facts.{to_z-of_z}
-use borrow.Author.Rules.{rules}
+use Rattle.std.proofs.Common.{rules, arith, ◌≡◌, refl, false, sym, ap, ◌∙◌, subst, List, ℕ, ℤ, ◌+◌, ◌-◌, length, set, take, drop, length-drop, take_all, to_z, of_z, to_z-of_z}
+use Rattle.std.specs.Int.{w64}
+use Rattle.text_parts.specs.declared.Kind.{Kind}
+use Rattle.text_parts.specs.declared.Kind.TheVariants.{Number, Semicolon, End, Unexpected, TooLarge, TooMany, NoCount}
+use Rattle.text_parts.specs.declared.Token.{Token}
 use Rattle.text_parts.specs.Tokens.{token_at}
-use native.Mathlib.Omega.{arith}
-use Rattle.text_parts.specs.PartLaws.{Reading, reading_begins, reading-stops, reading-full, reading-goes}
+use Rattle.text_parts.specs.Parts.{is_number, number_in}
+use Rattle.text_parts.specs.PartLaws.{Reading, reading-stops, reading-full, reading-goes}
 use Rattle.text_parts.proofs.read_part.Goals as goal
 
-pub loop-t-init : goal.loop-t-init
-loop-t-init c = reading_begins _ _
+-- the token behind the part so far
+token-is : (text : List ℕ) (at : ℕ) (t : Token) → t ≡ token_at (take (length text - at) (drop at text)) → t ≡ token_at (drop at text)
+token-is text at t e = e ∙ ap token_at (take_all (length text - at) (drop at text) (omega (arith, length-drop at text)))
 
-pub returns-then-not-is_number : goal.returns-then-not-is_number
-returns-then-not-is_number c =
-    let text : List ℕ = c.args.s.now in
-    let token-is : c.read_token-t.result ≡ token_at (drop c.loop-t.at text) = let at = c.loop-t.at in
-    c.read_token-t.ensures.value ∙ ap token_at (take_all (length text - at) (drop at text) (omega (arith, length-drop at text))) in
-    let token-within : c.loop-t.at + c.read_token-t.result.length ≤ length text = let r = c.loop-t.invariant in omega (arith, r.within, c.read_token-t.ensures.length_in_bounds, length-drop c.loop-t.at text) in
-    let r = c.loop-t.invariant in
-    let e = reading-stops r c.read_token-t.result token-is (sym c.is_number.ensures ∙ c.if-not-is_number.true) in record {
+no_number : (k : Kind) → ((z : ℤ) → k ≡ Number z → ⊥) → is_number k ≡ false
+no_number (Number z) h = absurd (h z refl)
+no_number Semicolon h = refl
+no_number End h = refl
+no_number Unexpected h = refl
+no_number TooLarge h = refl
+no_number TooMany h = refl
+no_number NoCount h = refl
+
+pub returns-in_default : goal.returns-in_default
+returns-in_default c =
+    let r = c.loop-z.invariant in
+    let e = reading-stops r c.read_token-t.result (token-is c.args.s.now c.loop-z.at _ c.read_token-t.ensures.value) (no_number c.read_token-t.result.kind c.in_default.not-Number) in record {
       value = sym e.0;
       out_after = sym e.1;
       count_in_bounds = r.few;
-      length_in_bounds = token-within;
+      length_in_bounds = omega (arith, r.within, c.read_token-t.ensures.length_in_bounds, length-drop c.loop-z.at c.args.s.now);
     }
 
 pub returns-then-n-out : goal.returns-then-n-out
 returns-then-n-out c =
-    let text : List ℕ = c.args.s.now in
-    let token-is : c.read_token-t.result ≡ token_at (drop c.loop-t.at text) = let at = c.loop-t.at in
-    c.read_token-t.ensures.value ∙ ap token_at (take_all (length text - at) (drop at text) (omega (arith, length-drop at text))) in
-    let r = c.loop-t.invariant in
-    let e = reading-full r c.read_token-t.result token-is c.if-n-out.true (sym c.is_number.ensures ∙ c.if-not-is_number.false) in record {
+    let r = c.loop-z.invariant in
+    let e = reading-full r c.read_token-t.result (token-is c.args.s.now c.loop-z.at _ c.read_token-t.ensures.value) c.if-n-out.true (ap is_number c.in-Number.is) in record {
       value = sym e.0;
       out_after = sym e.1;
       count_in_bounds = r.few;
       length_in_bounds = r.within;
     }
 
-pub loop-t-smaller : goal.loop-t-smaller
-loop-t-smaller c = simp length-set (omega arith)
-
-pub loop-t-preserved : goal.loop-t-preserved
-loop-t-preserved c =
-    let text : List ℕ = c.args.s.now in
-    let token-is : c.read_token-t.result ≡ token_at (drop c.loop-t.at text) = let at = c.loop-t.at in
-    c.read_token-t.ensures.value ∙ ap token_at (take_all (length text - at) (drop at text) (omega (arith, length-drop at text))) in
-    let token-within : c.loop-t.at + c.read_token-t.result.length ≤ length text = let r = c.loop-t.invariant in omega (arith, r.within, c.read_token-t.ensures.length_in_bounds, length-drop c.loop-t.at text) in
-    let x : to_z w64 (of_z w64 c.read_token-t.result.value) ≡ c.read_token-t.result.value = to_z-of_z {w = w64} (search rules) in
-    subst (λ z. Reading text c.args.out.now (set c.loop-t.out c.loop-t.n z) (c.loop-t.n + 1) (c.loop-t.at + c.read_token-t.result.length)) (sym x)
-    (reading-goes c.loop-t.invariant c.read_token-t.result token-is (omega (arith, c.loop-t.invariant.few)) token-within
-    (sym c.is_number.ensures ∙ c.if-not-is_number.false))
+pub loop-z-preserved : goal.loop-z-preserved
+loop-z-preserved c =
+    let t = c.read_token-t.result in
+    let r = c.loop-z.invariant in
+    let z : to_z w64 (of_z w64 c.in-Number.z) ≡ number_in t.kind = to_z-of_z {w = w64} (search rules) ∙ sym (ap number_in c.in-Number.is) in
+    subst (λ z. Reading c.args.s.now c.args.out.now (set c.loop-z.out c.loop-z.n z) (c.loop-z.n + 1) (c.loop-z.at + t.length)) (sym z)
+    (reading-goes r t (token-is c.args.s.now c.loop-z.at _ c.read_token-t.ensures.value) (omega (arith, r.few)) (omega (arith, r.within, c.read_token-t.ensures.length_in_bounds, length-drop c.loop-z.at c.args.s.now))
+    (ap is_number c.in-Number.is))

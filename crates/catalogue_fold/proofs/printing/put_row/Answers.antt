@@ -1,20 +1,11 @@
-use mathlib.Core.Path.{◌≡◌, ap₂, ◌∙◌}
-use Prim.Native.Nat.{◌+◌}
-use native.Mathlib.Omega.{arith}
-use lib.ListN.{length, get_or, set}
-use lib.IntN.{pos}
-use mir.Syntax.{w64}
-use mir.Val.{SFits}
-use mir.Facts.{to_z-of_z}
-use borrow.Author.Rules.{rules}
-use Rattle.catalogue_fold.specs.Spread.{sets_more}
+-- The coordinates stand where the part was.
+use Rattle.std.proofs.Common.{◌≡◌, ◌+◌, ◌-◌, length, take, arith, rules, length-take-le}
+use Rattle.integers.specs.Runs.{part-sets}
 use Rattle.lattices.specs.Refusal.{most_coordinates}
 use Rattle.catalogue_fold.proofs.printing.put_row.Goals as goal
 
-pub loop-j-preserved : goal.loop-j-preserved
-loop-j-preserved c =
-    let a = c.args in
-    let wide : length a.v ≡ most_coordinates = search rules in
-    let fits : SFits w64 (get_or a.v c.loop-j.j (pos 0)) = record { sfits = search rules } in
-    let next = sets_more a.out.now a.n a.v c.loop-j.j (omega (arith, wide, c.requires.m_le_most_coordinates, c.loop-j-test.true)) in
-    (search rules, ap₂ (λ o x. set o (a.n + c.loop-j.j) x) c.loop-j.invariant.1 (to_z-of_z {w = w64} fits) ∙ next)
+pub returns : goal.returns
+returns c =
+    let wide : length c.args.v.now ≡ most_coordinates = search rules in
+    let long : length (take c.args.m c.args.v.now) ≡ c.args.n + c.args.m - c.args.n = omega (arith, length-take-le c.args.m c.args.v.now (omega (arith, wide, c.requires.m_le_most_coordinates))) in
+    part-sets c.args.n (c.args.n + c.args.m - c.args.n) c.args.out.now c.copy_from_slice.new.self (take c.args.m c.args.v.now) c.copy_from_slice.ensures.after long (omega arith)

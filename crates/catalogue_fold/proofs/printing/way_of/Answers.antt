@@ -1,23 +1,18 @@
--- No word, a number that no entry has, the own number, another: each case says where the word leads.
-use mathlib.Core.Path.{sym, subst}
-use native.Mathlib.Omega.{arith}
-use borrow.Author.Tests.{not-false}
-use Rattle.catalogue_fold.specs.Printing.{Led, word-lost, word-own, word-other}
+-- A number that no entry has, the own number, another: each case says where the word leads.
+use Rattle.std.proofs.Common.{◌≡◌, refl, length, rules, None}
+use Rattle.catalogue_fold.specs.Printing.{sought, word-lost, word-own, word-other}
 use Rattle.catalogue_fold.proofs.printing.way_of.Goals as goal
 
-pub returns-then-k-count : goal.returns-then-k-count
-returns-then-k-count c =
-    let a = c.args in
-    subst (Led a.e a.own a.numbers.now a.standing.now a.count) (sym c.nowhere-then-k-count.ensures) (word-lost a.e a.own a.numbers.now a.standing.now a.count (not-false _ c.if-not-e.false) c.place_of-k.ensures c.if-k-count.true)
+pub returns-in_err-k : goal.returns-in_err-k
+returns-in_err-k c =
+    let lost = word-lost c.args.e.now c.args.own c.args.numbers.now c.args.standing.now (length c.args.numbers.now) c.in_ok-see.was (sought c.args.e.now c.args.own c.args.numbers.now c.args.standing.now (length c.args.numbers.now) c.in_ok-see.was refl c.in_err-k.ensures) in
+    let e : c.from_residual-in_err-k.result ≡ None = search rules in
+    rw e lost
 
--- a word that is given leads to another
-pub returns : goal.returns
-returns c =
-    let a = c.args in
-    word-other a.e a.own a.numbers.now a.standing.now a.count (not-false _ c.if-not-e.false) c.place_of-k.ensures (omega (arith, c.place_of-k.ensures.within, c.if-k-count.false)) c.if-there-own.false
-
--- and one that leads back is not given
+-- a word that leads back is not given
 pub returns-then-there-own : goal.returns-then-there-own
-returns-then-there-own c =
-    let a = c.args in
-    subst (Led a.e a.own a.numbers.now a.standing.now a.count) (sym c.nowhere-then-there-own.ensures) (word-own a.e a.own a.numbers.now a.standing.now a.count (not-false _ c.if-not-e.false) c.place_of-k.ensures (omega (arith, c.place_of-k.ensures.within, c.if-k-count.false)) c.if-there-own.true)
+returns-then-there-own c = word-own c.args.e.now c.args.own c.args.numbers.now c.args.standing.now (length c.args.numbers.now) c.in_ok-see.was (sought c.args.e.now c.args.own c.args.numbers.now c.args.standing.now (length c.args.numbers.now) c.in_ok-see.was refl c.in_ok-k.ensures) c.if-there-own.true
+
+-- and one that is given leads to another
+pub returns : goal.returns
+returns c = word-other c.args.e.now c.args.own c.args.numbers.now c.args.standing.now (length c.args.numbers.now) c.in_ok-see.was (sought c.args.e.now c.args.own c.args.numbers.now c.args.standing.now (length c.args.numbers.now) c.in_ok-see.was refl c.in_ok-k.ensures) c.if-there-own.false

@@ -2,5 +2,5 @@
 use Rattle.std.proofs.Common.{◌≤◌}
 use Rattle.catalogue_results.proofs.shown.digest.Given as goal
 
-abbrev pub invariant-loop-i : goal.invariant-loop-i
-invariant-loop-i l = l.s ≤ 65520
+abbrev pub invariant-loop-b : goal.invariant-loop-b
+invariant-loop-b l = l.s ≤ 65520

@@ -43,7 +43,7 @@ module _ (e : Entry) (fits : EntryFits (entry_in e)) (long : length e.coordinate
   limit = rows_short e.m few-coordinates (entry_in e).vectors full e.d count rows taken (all_imp (λ v f. short v f.short) (entry_in e).vectors fits.vectors)
 
 pub holds_all-requires-clause-by_index : goal.holds_all-requires-clause-by_index
-holds_all-requires-clause-by_index c = limit c.args.e c.requires.entry_fits (search rules) c.basis-vectors.ensures
+holds_all-requires-clause-by_index c = limit c.args.e.now c.requires.entry_fits (search rules) (c.basis-vectors.ensures)
 
 pub same_minor-requires-clause-by_index : goal.same_minor-requires-clause-by_index
-same_minor-requires-clause-by_index c = λ i h. limit c.args.e c.requires.entry_fits (search rules) c.basis-vectors.ensures i (omega arith)
+same_minor-requires-clause-by_index c = λ i h. limit c.args.e.now c.requires.entry_fits (search rules) c.basis-vectors.ensures i (omega arith)

@@ -1,42 +1,53 @@
-use mathlib.Core.Path.{sym, ap₂, ◌∙◌}
-use mathlib.Core.Bool.{◌&&◌}
-use Prim.Native.Nat.{◌≤◌}
-use native.Mathlib.Omega.{arith}
-use borrow.Author.Tests.{not-true, not-false}
+use Rattle.std.proofs.Common.{◌≡◌, ◌≤◌, true, false, length, take, arith, length-take-le, get_or-take, subst, sym, Some, None}
+use Rattle.catalogue_records.specs.EntriesIn.{entry_in}
+use Rattle.catalogue_records.specs.Entries.{beyond, entry_at}
+use Rattle.fold_rules.proofs.Laws.SameLattice.{Sound}
 use Rattle.catalogue_standing.specs.ReducedEntries.{ready-sound}
-use Rattle.catalogue_standing.specs.Standers.{searched-most, found-stands, none-stands, drafts_stand}
+use Rattle.catalogue_standing.specs.Standers.{searched-most, found-cut, found-stands, none-stands, drafts_stand}
 use Rattle.catalogue_standing.proofs.standing_entry.standing_place.Goals as goal
 
 pub lattice_of-l-requires : goal.lattice_of-l-requires
-lattice_of-l-requires c = ready-sound c.args.c c.requires.was_read c.args.k c.requires.k_lt_count
+lattice_of-l-requires c = ready-sound c.args.entries.now c.requires.was_read c.args.k c.requires.k_lt_len
 
-pub same_entry-requires-clause-sound : goal.same_entry-requires-clause-sound
-same_entry-requires-clause-sound c =
-    let most : c.searched-n.result ≤ c.args.c.count = searched-most c.args.c c.requires.was_read c.args.k c.requires.k_lt_count c.searched-n.ensures in
-    (ready-sound c.args.c c.requires.was_read c.loop-j.j (omega arith), ready-sound c.args.c c.requires.was_read c.args.k c.requires.k_lt_count)
+pub first_marked-requires-clause-sound : goal.first_marked-requires-clause-sound
+first_marked-requires-clause-sound c =
+    let l = c.args.entries.now in
+    let most : c.searched-n.result ≤ length l = searched-most l c.requires.was_read c.args.k c.requires.k_lt_len c.searched-n.ensures in
+    let n : length (take c.searched-n.result l) ≡ c.searched-n.result = length-take-le c.searched-n.result l most in (
+      λ j h. subst (λ e. Sound (entry_in e)) (sym (get_or-take c.searched-n.result l j beyond (omega (arith, n, h)))) (ready-sound l c.requires.was_read j (omega (arith, n, h, most))),
+      ready-sound l c.requires.was_read c.args.k c.requires.k_lt_len,
+    )
 
-pub returns-then-same_entry : goal.returns-then-same_entry
-returns-then-same_entry c =
-    found-stands c.args.c c.requires.was_read c.args.k c.requires.k_lt_count c.searched-n.ensures c.loop-j-test.true c.loop-j.invariant.1
-    (ap₂ ◌&&◌ c.if-not-f.true (sym c.same_entry.ensures ∙ c.if-same_entry.true))
+pub returns-in-Some : goal.returns-in-Some
+returns-in-Some c =
+    let l = c.args.entries.now in
+    let most : c.searched-n.result ≤ length l = searched-most l c.requires.was_read c.args.k c.requires.k_lt_len c.searched-n.ensures in
+    found-stands l c.requires.was_read c.args.k c.requires.k_lt_len c.searched-n.ensures c.in-Some.j
+    (found-cut false (entry_in (entry_at l c.args.k)) l c.searched-n.result most (Some c.in-Some.j) c.in-Some.ensures)
 
 pub returns-then-not-e : goal.returns-then-not-e
 returns-then-not-e c =
-    none-stands c.args.c c.requires.was_read c.args.k c.requires.k_lt_count c.searched-n.ensures
-    (λ j h. c.loop-j.invariant.1 j (omega arith)) (not-true _ c.if-not-e.true)
+    let l = c.args.entries.now in
+    let most : c.searched-n.result ≤ length l = searched-most l c.requires.was_read c.args.k c.requires.k_lt_len c.searched-n.ensures in
+    none-stands l c.requires.was_read c.args.k c.requires.k_lt_len c.searched-n.ensures
+    (found-cut false (entry_in (entry_at l c.args.k)) l c.searched-n.result most None c.in_default.ensures) c.if-not-e.true
 
-pub same_entry-requires-then-f-clause-sound : goal.same_entry-requires-then-f-clause-sound
-same_entry-requires-then-f-clause-sound c =
-    (ready-sound c.args.c c.requires.was_read c.loop-i.i (omega arith), ready-sound c.args.c c.requires.was_read c.args.k c.requires.k_lt_count)
-
-pub returns-then-same_entry-2 : goal.returns-then-same_entry-2
-returns-then-same_entry-2 c =
-    drafts_stand c.args.c c.requires.was_read c.args.k c.requires.k_lt_count c.searched-n.ensures
-    (λ j h. c.loop-j.invariant.1 j (omega arith)) (not-false _ c.if-not-e.false)
-    (record { within = c.loop-i.invariant.0; before = c.loop-i.invariant.1; here = λ h. ap₂ ◌&&◌ c.if-f.true (sym c.same_entry-then-f.ensures ∙ c.if-same_entry-2.true) })
+pub first_marked-requires-2-clause-sound : goal.first_marked-requires-2-clause-sound
+first_marked-requires-2-clause-sound c =
+    let l = c.args.entries.now in
+    let n : length (take c.args.k l) ≡ c.args.k = length-take-le c.args.k l (omega arith) in (
+      λ j h. subst (λ e. Sound (entry_in e)) (sym (get_or-take c.args.k l j beyond (omega (arith, n, h)))) (ready-sound l c.requires.was_read j (omega (arith, n, h))),
+      ready-sound l c.requires.was_read c.args.k c.requires.k_lt_len,
+    )
 
 pub returns : goal.returns
 returns c =
-    drafts_stand c.args.c c.requires.was_read c.args.k c.requires.k_lt_count c.searched-n.ensures
-    (λ j h. c.loop-j.invariant.1 j (omega arith)) (not-false _ c.if-not-e.false)
-    (record { within = omega arith; before = λ j h. c.loop-i.invariant.1 j (omega arith); here = λ h. absurd (omega arith) })
+    let l = c.args.entries.now in
+    let e = entry_in (entry_at l c.args.k) in
+    let most : c.searched-n.result ≤ length l = searched-most l c.requires.was_read c.args.k c.requires.k_lt_len c.searched-n.ensures in
+    let k : c.args.k ≤ length l = omega arith in
+    let stands =
+    drafts_stand l c.requires.was_read c.args.k c.requires.k_lt_len c.searched-n.ensures
+    (found-cut false e l c.searched-n.result most None c.in_default.ensures) c.if-not-e.false
+    c.first_marked-2.result (found-cut true e l c.args.k k c.first_marked-2.result c.first_marked-2.ensures) in
+    rw c.unwrap_or.ensures stands

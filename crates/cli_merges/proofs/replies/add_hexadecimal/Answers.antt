@@ -1,10 +1,5 @@
 -- The word, with nothing but blanks behind it.
-use Prim.Native.Nat.{◌-◌}
-use mathlib.Core.Path.{◌≡◌, sym, ap, ap₂, ◌∙◌}
-use mathlib.Core.Bool.{Bool, cond}
-use native.Mathlib.Omega.{arith}
-use borrow.Author.Tests.{not-true, not-false}
-use lib.ListN.{take, drop}
+use Rattle.std.proofs.Common.{◌≡◌, sym, ap, ap₂, ◌∙◌, arith, Bool, cond, take, drop, ◌-◌}
 use Rattle.text_parts.specs.Numbers.{leading}
 use Rattle.text_parts.specs.Tokens.{is_blank}
 use Rattle.text_rules.specs.Encoding.{is_empty}
@@ -18,31 +13,21 @@ use Rattle.cli_merges.proofs.replies.add_hexadecimal.Goals as goal
 
 pub returns-then-not-is_blank : goal.returns-then-not-is_blank
 returns-then-not-is_blank c =
-    let tested : Bool → Answered =
-    λ b. let M = merge_in c.args.merge in cond b (add_digits M c.args.line (first_word c.args.s.now)) (only M (error_text c.args.line no_digit)) in
-    let behind : let s = c.before.before.before.before.before.args.s.now in c.is_blank.result ≡ is_empty (drop (word_end s) s) =
-    let s = c.before.before.before.before.before.args.s.now in
-    let w = c.before.before in
-    c.is_blank.ensures ∙ ap is_empty (to_end w.first_word-word.result.end s) ∙ ap (λ k. is_empty (drop k s)) w.first_word-word.ensures.end_value in
-    let p = c.before.before in
-    let s = c.before.before.before.before.before.before.before.before.before.before.before in
-    let b = c.before.before.before.before.before.before in
-    gives_as (sym (ap (tested) (sym (behind) ∙ not-true b.is_blank.result c.before.before.before.before.before.if-not-is_blank.true-raw))) (gives-only s.requires.merge p.put_error.ensures.puts (omega (arith, p.put_error.ensures.upper_bound)))
+    let t = c.args.s.now in
+    let M = merge_in c.args.merge in
+    let tested : Bool → Answered = λ b. cond b (add_digits M c.args.line (first_word t)) (only M (error_text c.args.line no_digit)) in
+    let w = c.first_word-word in
+    let behind : c.is_blank.result ≡ is_empty (drop (word_end t) t) = c.is_blank.ensures ∙ ap is_empty (to_end w.result.end t) ∙ ap (λ k. is_empty (drop k t)) w.ensures.end_value in
+    gives_as (sym (ap tested (sym behind ∙ c.if-not-is_blank.true))) (gives-only c.requires.merge c.put_error.ensures.puts (omega (arith, c.put_error.ensures.upper_bound)))
 
 pub returns : goal.returns
 returns c =
-    let tested : Bool → Answered =
-    λ b. let M = merge_in c.args.merge in cond b (add_digits M c.args.line (first_word c.args.s.now)) (only M (error_text c.args.line no_digit)) in
-    let behind : let s = c.before.before.before.before.before.args.s.now in c.is_blank.result ≡ is_empty (drop (word_end s) s) =
-    let s = c.before.before.before.before.before.args.s.now in
-    let w = c.before.before in
-    c.is_blank.ensures ∙ ap is_empty (to_end w.first_word-word.result.end s) ∙ ap (λ k. is_empty (drop k s)) w.first_word-word.ensures.end_value in
-    let p = c.before.before in
-    let s = c.before.before.before.before.before.before.before.before.before.before.before in
-    let b = c.before.before.before.before.before.before in
-    let w = c.before.before.before.before.before.before.before.before in
-    let t = s.args.s.now in
+    let t = c.args.s.now in
+    let M = merge_in c.args.merge in
+    let tested : Bool → Answered = λ b. cond b (add_digits M c.args.line (first_word t)) (only M (error_text c.args.line no_digit)) in
+    let w = c.first_word-word in
+    let behind : c.is_blank.result ≡ is_empty (drop (word_end t) t) = c.is_blank.ensures ∙ ap is_empty (to_end w.result.end t) ∙ ap (λ k. is_empty (drop k t)) w.ensures.end_value in
     let n = leading is_blank t in
-    let long : w.first_word-word.result.end - w.first_word-word.result.from ≡ word_length (drop n t) = omega (arith, w.first_word-word.ensures.from_value, w.first_word-word.ensures.end_value) in
-    let word = ap₂ (λ k m. take k (drop m t)) long w.first_word-word.ensures.from_value in
-    gives_as (ap (add_digits (merge_in s.args.merge) s.args.line) word ∙ sym (ap (tested) (sym (behind) ∙ not-false b.is_blank.result c.before.before.before.before.before.if-not-is_blank.false-raw))) p.add_digits.ensures
+    let long : w.result.end - w.result.from ≡ word_length (drop n t) = omega (arith, w.ensures.from_value, w.ensures.end_value) in
+    let word = ap₂ (λ k m. take k (drop m t)) long w.ensures.from_value in
+    gives_as (ap (add_digits M c.args.line) word ∙ sym (ap tested (sym behind ∙ c.if-not-is_blank.false))) c.add_digits.ensures

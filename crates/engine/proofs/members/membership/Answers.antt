@@ -1,133 +1,63 @@
--- `membership` is the reduction, the checks of the target, the lattice and the test on it.
-use mathlib.Core.Path.{◌≡◌, sym, ap, ap₂, ◌∙◌, subst}
-use mathlib.Core.List.{[], map}
-use native.Mathlib.Omega.{arith}
-use lib.IntN.{pos}
-use lib.Signed.{◌≤ℤ◌}
-use lib.ListN.{take}
+-- `membership` is the reduction, the check of the target, the lattice and the test on it.
+use Rattle.std.specs.Prelude.{◌≡◌, refl, [], pos, ◌≤ℤ◌, take, Ok, Err}
+use Rattle.std.proofs.Common.{sym, ap, ap₂, ◌∙◌, subst, arith, rules}
 use Rattle.lattices.specs.Vector.{N}
-use Rattle.lattices.specs.Answer.{padded, reduction_of}
-use Rattle.lattices.specs.Refusal.{Input, first_of, vector_checks, target_checks, most_coordinates}
-use Rattle.successive_minima.specs.Member.{is_member}
+use Rattle.lattices.specs.Refusal.{Input, first_of, vector_checks, target_checks}
 use Rattle.greedy_reduction.specs.Accepted.{accepted}
-use Rattle.greedy_reduction.specs.Demand.{accepted-reduction, first-refused, first-passed}
+use Rattle.greedy_reduction.specs.Demand.{first-refused, first-passed}
+use Rattle.refusals.specs.Number.{number_of-nonzero}
+use Rattle.successive_minima.specs.Member.{is_member}
 use Rattle.lattice_membership.specs.Known.{ReducedBasis}
 use Rattle.lattice_membership.specs.Laws.Made.{vectors-left}
 use Rattle.lattice_membership.specs.Laws.Accepted.{accepted-basis}
-use Rattle.engine.specs.Laws.Answer.{vectors-back}
-use Rattle.engine.specs.Laws.Named.{refusal_is}
-use Rattle.engine.specs.Laws.Members.{member_given, refused-member, target-padded, target-short, member-answer}
+use Rattle.engine.specs.Answers.{membership_in}
+use Rattle.engine.specs.Laws.Begin.{first}
+use Rattle.engine.specs.Laws.Answer.{basis-is}
+use Rattle.engine.specs.Laws.Members.{refused-member, target-short, member-answer}
 use Rattle.engine.proofs.members.membership.Goals as goal
 
-pub returns-then-r-ne0 : goal.returns-then-r-ne0
-returns-then-r-ne0 c =
-    let input : Input =
-    record { numbers = c.args.numbers.now; d = c.args.d; m = c.args.m; target = c.args.target.now } in
-    -- without its target, as `reduce` has it
-    let untargeted : Input =
-    record { numbers = c.args.numbers.now; d = c.args.d; m = c.args.m; target = [] } in
-    -- the two refusals
-    let number : c.reduce-r.result.refusal ≡ first_of vector_checks input =
-    ap (λ r. r.refusal) c.reduce-r.ensures ∙ refusal_is untargeted in
-    let i = input in
-    let n = number in
-    c.no_member.ensures ∙ refused-member i _ (n ∙ sym (first-refused vector_checks target_checks i (λ h. c.if-r-ne0.true (n ∙ h)))) c.if-r-ne0.true
+pub returns-in_err-reduced : goal.returns-in_err-reduced
+returns-in_err-reduced c =
+    let i : Input = record { numbers = c.args.numbers.now; d = c.args.d; m = c.args.m; target = c.args.target.now } in
+    let h = c.in_err-reduced.ensures.value in
+    let q : c.from_residual.result ≡ Err c.in_err-reduced.field-0.0 = search rules in
+    ap membership_in q ∙ refused-member i _ (h ∙ sym (first-refused vector_checks target_checks i (λ z. number_of-nonzero _ (h ∙ z))))
 
-pub target_refusal-n-requires : goal.target_refusal-n-requires
-target_refusal-n-requires c =
-    let input : Input =
-    record { numbers = c.args.numbers.now; d = c.args.d; m = c.args.m; target = c.args.target.now } in
-    -- without its target, as `reduce` has it
-    let untargeted : Input =
-    record { numbers = c.args.numbers.now; d = c.args.d; m = c.args.m; target = [] } in
-    -- the two refusals
-    let number : c.reduce-r.result.refusal ≡ first_of vector_checks input =
-    ap (λ r. r.refusal) c.reduce-r.ensures ∙ refusal_is untargeted in
-    let first : first_of vector_checks input ≡ 0 =
-    sym number ∙ c.if-r-ne0.false in
-    (accepted input first).few
+pub target-requires : goal.target-requires
+target-requires c =
+    let i : Input = record { numbers = c.args.numbers.now; d = c.args.d; m = c.args.m; target = c.args.target.now } in
+    let e : first_of vector_checks i ≡ 0 = sym c.in_ok-reduced.ensures.value in
+    (accepted i e).few
 
-pub returns-then-n-ne0 : goal.returns-then-n-ne0
-returns-then-n-ne0 c =
-    let input : Input =
-    record { numbers = c.args.numbers.now; d = c.args.d; m = c.args.m; target = c.args.target.now } in
-    -- without its target, as `reduce` has it
-    let untargeted : Input =
-    record { numbers = c.args.numbers.now; d = c.args.d; m = c.args.m; target = [] } in
-    -- the two refusals
-    let number : c.reduce-r.result.refusal ≡ first_of vector_checks input =
-    ap (λ r. r.refusal) c.reduce-r.ensures ∙ refusal_is untargeted in
-    let first : first_of vector_checks input ≡ 0 =
-    sym number ∙ c.if-r-ne0.false in
-    let i = input in
-    c.no_member-then-n-ne0.ensures ∙ refused-member i _ (c.target_refusal-n.ensures.value ∙ sym (first-passed vector_checks target_checks i (omega arith) first)) c.if-n-ne0.true
+pub returns-in_err-t : goal.returns-in_err-t
+returns-in_err-t c =
+    let i : Input = record { numbers = c.args.numbers.now; d = c.args.d; m = c.args.m; target = c.args.target.now } in
+    let e : first_of vector_checks i ≡ 0 = sym c.in_ok-reduced.ensures.value in
+    let q : c.from_residual-in_err-t.result ≡ Err c.in_err-t.field-0.0 = search rules in
+    ap membership_in q ∙ refused-member i _ (c.in_err-t.ensures.value ∙ sym (first-passed vector_checks target_checks i (omega arith) e))
 
 pub lattice_of-l-requires : goal.lattice_of-l-requires
 lattice_of-l-requires c =
-    let input : Input =
-    record { numbers = c.args.numbers.now; d = c.args.d; m = c.args.m; target = c.args.target.now } in
-    -- without its target, as `reduce` has it
-    let untargeted : Input =
-    record { numbers = c.args.numbers.now; d = c.args.d; m = c.args.m; target = [] } in
-    -- the two refusals
-    let number : c.reduce-r.result.refusal ≡ first_of vector_checks input =
-    ap (λ r. r.refusal) c.reduce-r.ensures ∙ refusal_is untargeted in
-    let first : first_of vector_checks input ≡ 0 =
-    sym number ∙ c.if-r-ne0.false in
-    let one : first_of vector_checks input ≡ 0 =
-    first in
-    let vectors-are : c.vectors_of-b.result ≡ (reduction_of input).basis =
-    c.vectors_of-b.ensures ∙ ap (λ r. map (λ row. row.at) r.vectors) c.reduce-r.ensures
-    ∙ vectors-back _ ∙ ap (λ a. a.basis) (accepted-reduction untargeted one ∙ sym (accepted-reduction input one)) in
-    subst (ReducedBasis c.args.d) (sym vectors-are) (accepted-basis input one)
+    let i : Input = record { numbers = c.args.numbers.now; d = c.args.d; m = c.args.m; target = [] } in
+    let e : first_of vector_checks i ≡ 0 = sym c.in_ok-reduced.ensures.value in
+    subst (ReducedBasis c.args.d) (sym (basis-is i e _ _ (c.in_ok-reduced.ensures.reduced refl e))) (accepted-basis i e)
 
 pub member-requires : goal.member-requires
 member-requires c =
-    let input : Input =
-    record { numbers = c.args.numbers.now; d = c.args.d; m = c.args.m; target = c.args.target.now } in
-    -- without its target, as `reduce` has it
-    let untargeted : Input =
-    record { numbers = c.args.numbers.now; d = c.args.d; m = c.args.m; target = [] } in
-    -- the two refusals
-    let number : c.reduce-r.result.refusal ≡ first_of vector_checks input =
-    ap (λ r. r.refusal) c.reduce-r.ensures ∙ refusal_is untargeted in
-    let first : first_of vector_checks input ≡ 0 =
-    sym number ∙ c.if-r-ne0.false in
-    let one : first_of vector_checks input ≡ 0 =
-    first in
-    let second : first_of target_checks input ≡ 0 =
-    sym c.target_refusal-n.ensures.value ∙ c.if-n-ne0.false in
-    let two : first_of target_checks input ≡ 0 =
-    second in
-    let target_is : c.target_refusal-n.new.t ≡ padded most_coordinates c.args.target.now =
-    c.target_refusal-n.ensures.t_after c.if-n-ne0.false ∙ target-padded input one two in
+    let i : Input = record { numbers = c.args.numbers.now; d = c.args.d; m = c.args.m; target = c.args.target.now } in
+    let e : first_of vector_checks i ≡ 0 = sym c.in_ok-reduced.ensures.value in
+    let f : first_of target_checks i ≡ 0 = sym c.in_ok-t.ensures.value in
     record {
       known = c.lattice_of-l.ensures.known;
-      v_bound = subst (λ t. N t ≤ℤ pos 400000000) (sym target_is) (target-short input one two);
+      v_bound = subst (λ t. N t ≤ℤ pos 400000000) (sym c.in_ok-t.ensures.target) (target-short i e f);
     }
 
 pub returns : goal.returns
+unfolding first
 returns c =
-    let input : Input =
-    record { numbers = c.args.numbers.now; d = c.args.d; m = c.args.m; target = c.args.target.now } in
-    -- without its target, as `reduce` has it
-    let untargeted : Input =
-    record { numbers = c.args.numbers.now; d = c.args.d; m = c.args.m; target = [] } in
-    -- the two refusals
-    let number : c.reduce-r.result.refusal ≡ first_of vector_checks input =
-    ap (λ r. r.refusal) c.reduce-r.ensures ∙ refusal_is untargeted in
-    let first : first_of vector_checks input ≡ 0 =
-    sym number ∙ c.if-r-ne0.false in
-    let one : first_of vector_checks input ≡ 0 =
-    first in
-    let second : first_of target_checks input ≡ 0 =
-    sym c.target_refusal-n.ensures.value ∙ c.if-n-ne0.false in
-    let two : first_of target_checks input ≡ 0 =
-    second in
-    let vectors-are : c.vectors_of-b.result ≡ (reduction_of input).basis =
-    c.vectors_of-b.ensures ∙ ap (λ r. map (λ row. row.at) r.vectors) c.reduce-r.ensures
-    ∙ vectors-back _ ∙ ap (λ a. a.basis) (accepted-reduction untargeted one ∙ sym (accepted-reduction input one)) in
-    let target_is : c.target_refusal-n.new.t ≡ padded most_coordinates c.args.target.now =
-    c.target_refusal-n.ensures.t_after c.if-n-ne0.false ∙ target-padded input one two in
-    ap member_given (c.member.ensures ∙ ap₂ is_member (vectors-left c.lattice_of-l.result c.vectors_of-b.result c.lattice_of-l.ensures.result_value ∙ ap (take c.args.d) vectors-are) target_is)
-    ∙ member-answer input one two
+    let i : Input = record { numbers = c.args.numbers.now; d = c.args.d; m = c.args.m; target = c.args.target.now } in
+    let e : first_of vector_checks i ≡ 0 = sym c.in_ok-reduced.ensures.value in
+    let f : first_of target_checks i ≡ 0 = sym c.in_ok-t.ensures.value in
+    let vectors-are = basis-is i e _ _ (c.in_ok-reduced.ensures.reduced refl e) in
+    ap (λ b. membership_in (Ok b)) (c.member.ensures ∙ ap₂ is_member (vectors-left c.lattice_of-l.result _ c.lattice_of-l.ensures.result_value ∙ ap (take c.args.d) vectors-are) c.in_ok-t.ensures.target)
+    ∙ member-answer i e f

@@ -17,20 +17,20 @@ loop-k-init c = (search rules, (refl, (refl, refl)))
 
 pub offset_bounds-at-count : goal.offset_bounds-at-count
 offset_bounds-at-count c =
-    let small : c.before.loop-k.count ≤ c.before.loop-k.k =
-    let l = c.before.loop-k in let n = c.before.before.args.number in omega (arith, l.invariant.1.1.0, marks-≤ (choice l.k n), length-choice l.k n) in
+    let small : c.loop-k.count ≤ c.loop-k.k =
+    let l = c.loop-k in let n = c.args.number in omega (arith, l.invariant.1.1.0, marks-≤ (choice l.k n), length-choice l.k n) in
     let h = small in omega (arith, h)
 
 pub bounds-at-count : goal.bounds-at-count
 bounds-at-count c =
-    let small : c.before.loop-k.count ≤ c.before.loop-k.k =
-    let l = c.before.loop-k in let n = c.before.before.args.number in omega (arith, l.invariant.1.1.0, marks-≤ (choice l.k n), length-choice l.k n) in
+    let small : c.loop-k.count ≤ c.loop-k.k =
+    let l = c.loop-k in let n = c.args.number in omega (arith, l.invariant.1.1.0, marks-≤ (choice l.k n), length-choice l.k n) in
     let h = small in omega (arith, h)
 
 pub overflow_add-count : goal.overflow_add-count
 overflow_add-count c =
-    let small : c.before.loop-k.count ≤ c.before.loop-k.k =
-    let l = c.before.loop-k in let n = c.before.before.args.number in omega (arith, l.invariant.1.1.0, marks-≤ (choice l.k n), length-choice l.k n) in
+    let small : c.loop-k.count ≤ c.loop-k.k =
+    let l = c.loop-k in let n = c.args.number in omega (arith, l.invariant.1.1.0, marks-≤ (choice l.k n), length-choice l.k n) in
     record { fits = let h = small in omega (arith, h) }
 
 pub loop-k-preserved : goal.loop-k-preserved
@@ -56,7 +56,7 @@ loop-k-preserved c =
 
 pub returns : goal.returns
 returns c =
-    let n = c.before.before.args.number in
-    let l = c.before.loop-k in
+    let n = c.args.number in
+    let l = c.loop-k in
     let end : l.k ≡ most_coordinates = omega arith in
     (l.invariant.1.1.0 ∙ ap (λ k. marks (choice k n)) end, l.invariant.1.0 ∙ ap (λ k. filled 0 most_coordinates (places 0 (choice k n))) end)

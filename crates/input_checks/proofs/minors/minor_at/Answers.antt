@@ -12,34 +12,22 @@ use Rattle.input_checks.specs.Choices.{length-choice}
 use Rattle.input_checks.specs.FirstMinor.{places-below, places-taken}
 use Rattle.input_checks.proofs.minors.minor_at.Goals as goal
 
-pub returns-then-c-d : goal.returns-then-c-d
-returns-then-c-d c =
-    let f = c.before.before.before in
-    let s = f.before in
-    let a = s.args in
-    let k : length (take a.d a.b.now) ≡ a.d = omega (arith, length-take a.d a.b.now, s.requires.d_le_most_vectors, s.requires.b_len) in
-    (sym (volume_off (take a.d a.b.now) (choice most_coordinates a.number) (λ e. c.if-c-d.true (f.choice_of-c.ensures.0 ∙ e ∙ k))), f.choice_of-c.ensures.1)
+pub minor_of-minor-requires-clause-by_index_2 : goal.minor_of-minor-requires-clause-by_index_2
+minor_of-minor-requires-clause-by_index_2 c i h =
+    let s = choice most_coordinates c.args.number in
+    subst (λ l. get_or l i 0 < most_coordinates) (sym c.choice_of-count.ensures.1) (places-below s (length-choice most_coordinates c.args.number) i)
 
-pub minor_of-requires : goal.minor_of-requires
-minor_of-requires c =
-    let f = c.before.before.before in
-    let s = f.before in
-    let n = s.args.number in record {
-      d_le_most_vectors = s.requires.d_le_most_vectors;
-      b_len = s.requires.b_len;
-      by_index = s.requires.by_index;
-      by_index_2 = λ i h. subst (λ l. get_or l i 0 < most_coordinates) (sym f.choice_of-c.ensures.1) (places-below (choice most_coordinates n) (length-choice most_coordinates n) i);
-    }
-
-pub returns : goal.returns
-returns c =
-    let count : marks (choice most_coordinates c.before.before.before.before.args.number) ≡ c.before.before.before.before.args.d =
-    sym c.before.before.before.choice_of-c.ensures.0 ∙ c.if-c-d.false in
-    let e = c.before in
-    let f = e.before.before.before in
-    let a = f.before.args in
-    let s = choice most_coordinates a.number in (
-      to_z-of_z {w = w64} (record { sfits = c.minor_of.type_inv })
-          ∙ c.minor_of.ensures s (count) (ap (take a.d) f.choice_of-c.ensures.1 ∙ places-taken s (length-choice most_coordinates a.number) a.d (count)),
-      f.choice_of-c.ensures.1,
+pub returns-then-count-d : goal.returns-then-count-d
+returns-then-count-d c =
+    let s = choice most_coordinates c.args.number in
+    let count : marks s ≡ c.args.d = sym c.choice_of-count.ensures.0 ∙ c.if-count-d.true in (
+      to_z-of_z {w = w64} (record { sfits = c.minor_of-minor.type_inv })
+          ∙ c.minor_of-minor.ensures s count (ap (take c.args.d) c.choice_of-count.ensures.1 ∙ places-taken s (length-choice most_coordinates c.args.number) c.args.d count),
+      c.choice_of-count.ensures.1,
     )
+
+pub returns-else-count-d : goal.returns-else-count-d
+returns-else-count-d c =
+    let bs = take c.args.d c.args.b.now in
+    let k : length bs ≡ c.args.d = omega (arith, length-take c.args.d c.args.b.now, c.requires.d_le_most_vectors, c.told-b) in
+    (sym (volume_off bs (choice most_coordinates c.args.number) (λ e. c.if-count-d.false (c.choice_of-count.ensures.0 ∙ e ∙ k))), c.choice_of-count.ensures.1)

@@ -1,6 +1,6 @@
 -- Every minor before is zero.
 use mathlib.Core.Path.{◌≡◌}
-use Prim.Native.Nat.{ℕ, ◌-◌, ◌^◌, ◌≤◌, ◌<◌}
+use Prim.Native.Nat.{ℕ, ◌^◌, ◌≤◌, ◌<◌}
 use lib.IntN.{pos}
 use lib.ListN.{take}
 use Rattle.lattices.specs.Volume.{volume}
@@ -10,6 +10,3 @@ use Rattle.input_checks.proofs.minors.other_minor.Given as goal
 
 abbrev pub invariant-loop-number : goal.invariant-loop-number
 invariant-loop-number l = (l.number ≤ 2 ^ most_coordinates) × ((k : ℕ) → k < l.number → volume (take l.d l.b) (choice most_coordinates k) ≡ pos 0)
-
-abbrev pub decreases-loop-number : goal.decreases-loop-number
-decreases-loop-number l = 2 ^ most_coordinates - l.number

@@ -1,6 +1,6 @@
 -- After c turns the first c coordinates are picked.
 use mathlib.Core.Path.{◌≡◌}
-use Prim.Native.Nat.{◌≤◌, ◌-◌}
+use Prim.Native.Nat.{◌≤◌}
 use mathlib.Core.List.{map}
 use lib.ListN.{take}
 use Rattle.lattices.specs.Answer.{padded}
@@ -9,6 +9,3 @@ use Rattle.input_checks.proofs.minors.pick.Given as goal
 
 abbrev pub invariant-loop-c : goal.invariant-loop-c
 invariant-loop-c l = (l.c ≤ 4) × (l.p ≡ padded 4 (map (nth l.v) (take l.c l.at)))
-
-abbrev pub decreases-loop-c : goal.decreases-loop-c
-decreases-loop-c l = 4 - l.c

@@ -13,16 +13,16 @@ loop-i-init c = (search rules, refl)
 
 pub loop-i-preserved : goal.loop-i-preserved
 loop-i-preserved c =
-    let l = c.before.before.before in
-    let a = l.before.args in
-    let f = four_at a.at in (
+    let l = c in
+    let a = l.args in
+    let f = four_at a.at.now in (
       search rules,
-      ap₂ (λ t x. set t l.loop-i.i x) l.loop-i.invariant.1 c.pick.ensures ∙ put_next f [] a.b.now unit_rows l.loop-i.i (omega (arith, c.before.before.loop-i-test.true, l.before.requires)) (omega (arith, c.before.before.loop-i-test.true, l.before.requires.d_le_most_vectors)),
+      ap₂ (λ t x. set t l.loop-i.i x) l.loop-i.invariant.1 c.pick.ensures ∙ put_next f [] a.b.now unit_rows l.loop-i.i (omega (arith, c.loop-i-test.true, l.requires)) (omega (arith, c.loop-i-test.true, l.requires.d_le_most_vectors)),
     )
 
 pub returns : goal.returns
 returns c =
-    let l = c.before in
-    let a = l.before.args in
+    let l = c in
+    let a = l.args in
     let end : l.loop-i.i ≡ a.d = omega arith in
-    l.loop-i.invariant.1 ∙ ap (λ i. map (four_at a.at) (take i a.b.now) ++ drop i unit_rows) end
+    l.loop-i.invariant.1 ∙ ap (λ i. map (four_at a.at.now) (take i a.b.now) ++ drop i unit_rows) end

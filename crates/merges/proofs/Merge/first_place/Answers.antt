@@ -1,143 +1,60 @@
-use mathlib.Core.Path.{◌≡◌, refl, sym, ap, ap₂, ◌∙◌}
-use mathlib.Core.Bool.{false, ◌&&◌}
-use Prim.Native.Nat.{◌<◌}
-use native.Mathlib.Omega.{arith}
-use borrow.Author.Rules.{rules}
-use borrow.Author.Tests.{eq-eqb, ne_eqb}
-use Rattle.catalogue_records.specs.EntriesIn.{entry_in}
-use Rattle.catalogue_standing.specs.Places.{before_more}
-use Rattle.merges.specs.Entries.{few, sound-at}
-use Rattle.merges.specs.Growing.{is_first_of, sound-plain, plain-same, other-square}
-use Rattle.fold_rules.specs.Fold.{same_lattice}
-use Rattle.merges.specs.Stored.{item_at}
+use Rattle.std.proofs.Common.{◌≡◌, ◌<◌, false, true, ◌&&◌, sym, ap, ap₂, ◌∙◌, subst, ℕ, take, length, get_or, eqb, eq-eqb, ne_eqb, arith, get_or-take}
 use mir.Syntax.{w64}
 use mir.Val.{of_z}
+use Rattle.catalogue_records.specs.EntriesIn.{entry_in}
+use Rattle.catalogue_standing.specs.Places.{before_more}
+use Rattle.fold_rules.specs.Fold.{same_lattice}
+use Rattle.fold_rules.proofs.Laws.SameLattice.{Sound}
+use Rattle.merges.specs.declared.Item.{Item}
+use Rattle.merges.specs.declared.Merge.{Merge}
+use Rattle.merges.specs.Stored.{no_item, item_in}
+use Rattle.merges.specs.IsMerge.{item_at, IsMerge}
+use Rattle.merges.specs.Entries.{room, length_taken, sound-at}
+use Rattle.merges.specs.Growing.{is_first_of, other-square}
+use Rattle.merges.proofs.Merge.first_place.Goals.{else-i-j-via-then-i-j+then-i-square+else-same, else-i-j-via-then-i-j+else-i-square, else-i-j-via-else-i-j}
 use Rattle.merges.proofs.Merge.first_place.Goals as goal
-use Rattle.merges.proofs.Merge.first_place.Goals.{else-self-j-via-then-self-j+then-self-j-2+else-same, else-self-j-via-then-self-j+else-self-j-2, else-self-j-via-else-self-j}
 
-pub loop-j-init : goal.loop-j-init
-loop-j-init c = (search rules, refl, λ i h. absurd (omega arith))
+-- entry j
+module _ (s : Merge) (p : IsMerge s) (j : ℕ) (h : j < length (take s.count s.items)) where
+  below : j < s.count
+  below = omega (arith, length_taken s (room s p), h)
 
-pub offset_bounds-self-j : goal.offset_bounds-self-j
-offset_bounds-self-j c =
-    -- entry j
-    let below : c.loop-j.j < c.args.self.count =
-    omega (arith, c.loop-j-test.true, c.loop-j.invariant.1) in
-    let small : c.loop-j.j < 256 =
-    omega (arith, below, few _ c.requires.merge) in
-    omega (arith, small)
+  item_is : item_at s j ≡ get_or (take s.count s.items) j no_item
+  item_is = sym (get_or-take s.count s.items j no_item below)
 
-pub bounds-self-j : goal.bounds-self-j
-bounds-self-j c =
-    -- entry j
-    let below : c.loop-j.j < c.args.self.count =
-    omega (arith, c.loop-j-test.true, c.loop-j.invariant.1) in
-    let small : c.loop-j.j < 256 =
-    omega (arith, below, few _ c.requires.merge) in
-    small
-
-pub offset_bounds-self-j-in-loop-j : goal.offset_bounds-self-j-in-loop-j
-offset_bounds-self-j-in-loop-j c =
-    -- entry j
-    let below : c.loop-j.j < c.args.self.count =
-    omega (arith, c.loop-j-test.true, c.loop-j.invariant.1) in
-    let small : c.loop-j.j < 256 =
-    omega (arith, below, few _ c.requires.merge) in
-    omega (arith, small)
-
-pub bounds-self-j-in-loop-j : goal.bounds-self-j-in-loop-j
-bounds-self-j-in-loop-j c =
-    -- entry j
-    let below : c.loop-j.j < c.args.self.count =
-    omega (arith, c.loop-j-test.true, c.loop-j.invariant.1) in
-    let small : c.loop-j.j < 256 =
-    omega (arith, below, few _ c.requires.merge) in
-    small
-
-pub offset_bounds-self-j-then-self-j : goal.offset_bounds-self-j-then-self-j
-offset_bounds-self-j-then-self-j c =
-    -- entry j
-    let below : c.loop-j.j < c.args.self.count =
-    omega (arith, c.loop-j-test.true, c.loop-j.invariant.1) in
-    let small : c.loop-j.j < 256 =
-    omega (arith, below, few _ c.requires.merge) in
-    omega (arith, small)
-
-pub bounds-self-j-then-self-j : goal.bounds-self-j-then-self-j
-bounds-self-j-then-self-j c =
-    -- entry j
-    let below : c.loop-j.j < c.args.self.count =
-    omega (arith, c.loop-j-test.true, c.loop-j.invariant.1) in
-    let small : c.loop-j.j < 256 =
-    omega (arith, below, few _ c.requires.merge) in
-    small
-
-pub offset_bounds-self-j-then-self-j-2 : goal.offset_bounds-self-j-then-self-j-2
-offset_bounds-self-j-then-self-j-2 c =
-    -- entry j
-    let below : c.loop-j.j < c.args.self.count =
-    omega (arith, c.loop-j-test.true, c.loop-j.invariant.1) in
-    let small : c.loop-j.j < 256 =
-    omega (arith, below, few _ c.requires.merge) in
-    omega (arith, small)
-
-pub bounds-self-j-then-self-j-2 : goal.bounds-self-j-then-self-j-2
-bounds-self-j-then-self-j-2 c =
-    -- entry j
-    let below : c.loop-j.j < c.args.self.count =
-    omega (arith, c.loop-j-test.true, c.loop-j.invariant.1) in
-    let small : c.loop-j.j < 256 =
-    omega (arith, below, few _ c.requires.merge) in
-    small
-
-pub same-requires : goal.same-requires
-same-requires c =
-    -- entry j
-    let below : c.loop-j.j < c.args.self.count =
-    omega (arith, c.loop-j-test.true, c.loop-j.invariant.1) in
-    record {
-      sound = (sound-plain c.args.self c.loop-j.j (sound-at _ c.requires.merge _ below), c.requires.sound);
-      lattice_of = c.requires.lattice_of;
-      chosen = c.requires.chosen;
-    }
+pub same-requires-clause-sound : goal.same-requires-clause-sound
+same-requires-clause-sound c =
+    let s = c.args.self.now in
+    let p = c.requires.merge in
+    let j = c.loop-j.j in
+    let h = c.loop-j-test.true in
+    (subst (λ (i : Item). Sound (item_in i)) (item_is s p j h) (sound-at s p j (below s p j h)), c.requires.sound)
 
 pub returns-then-same : goal.returns-then-same
 returns-then-same c =
-    record { within = c.loop-j.invariant.0; before = c.loop-j.invariant.2; here = λ h. ap₂ ◌&&◌ (eq-eqb _ _ c.if-self-j.true) (plain-same c.args.self c.loop-j.j (entry_in c.args.e) ∙ sym c.same.ensures ∙ c.if-same.true) }
-
-pub overflow_step-j : goal.overflow_step-j
-overflow_step-j c =
-    -- entry j
-    let below : c.loop-j.j < c.args.self.count =
-    omega (arith, c.loop-j-test.true, c.loop-j.invariant.1) in
-    let small : c.loop-j.j < 256 =
-    omega (arith, below, few _ c.requires.merge) in
-    omega (arith, small)
-
-pub loop-j-smaller : goal.loop-j-smaller
-loop-j-smaller c =
-    -- entry j
-    let below : c.loop-j.j < c.args.self.count =
-    omega (arith, c.loop-j-test.true, c.loop-j.invariant.1) in
-    omega (arith, below)
+    let s = c.args.self.now in
+    let p = c.requires.merge in
+    let j = c.loop-j.j in
+    let x = entry_in c.args.e.now in
+    let h = c.loop-j-test.true in
+    let here : is_first_of c.args.self.now (entry_in c.args.e.now) c.loop-j.j ≡ true =
+    subst (λ (i : Item). (eqb i.first j && same_lattice (item_in i) x) ≡ true) (sym (item_is s p j h)) (ap₂ ◌&&◌ (eq-eqb _ _ c.if-i-j.true) (sym c.same.ensures ∙ c.if-same.true)) in
+    record { within = omega (arith, below s p j h); before = c.loop-j.invariant; here = λ _. here }
 
 pub loop-j-preserved : goal.loop-j-preserved
 loop-j-preserved c =
-    -- entry j
-    let below : c.loop-j.j < c.args.self.count =
-    omega (arith, c.loop-j-test.true, c.loop-j.invariant.1) in
-    let e = entry_in c.args.e in
-    let other : is_first_of c.args.self (entry_in c.args.e) c.loop-j.j ≡ false =
-    elim c.else-self-j.branch [
-      | else-self-j-via-then-self-j+then-self-j-2+else-same w ↦ ap₂ ◌&&◌ (eq-eqb _ _ w.if-self-j.true) (plain-same c.args.self c.loop-j.j e ∙ sym w.same.ensures ∙ w.if-same.false)
-      | else-self-j-via-then-self-j+else-self-j-2 w ↦ ap₂ ◌&&◌ (eq-eqb _ _ w.if-self-j.true) (other-square c.args.self c.requires.merge c.loop-j.j below e c.requires.sound (λ q. w.if-self-j-2.false (ap (of_z w64) (q ∙ sym c.requires.square_value))))
-      | else-self-j-via-else-self-j w ↦ ap (λ b. b && same_lattice (item_at c.args.self c.loop-j.j) e) (ne_eqb _ _ w.if-self-j.false)
-    ] in (
-      omega (arith, below),
-      refl,
-      before_more _ c.loop-j.j c.loop-j.invariant.2 other,
-    )
-
-pub returns : goal.returns
-returns c =
-    record { within = omega arith; before = λ j h. c.loop-j.invariant.2 j (omega (arith, c.loop-j.invariant.0, c.loop-j.invariant.1, c.loop-j-test.false)); here = λ h. absurd (omega arith) }
+    let s = c.args.self.now in
+    let p = c.requires.merge in
+    let j = c.loop-j.j in
+    let x = entry_in c.args.e.now in
+    let h = c.loop-j-test.true in
+    let i = item_is s p j h in
+    let other : is_first_of c.args.self.now (entry_in c.args.e.now) c.loop-j.j ≡ false = elim c.else-i-j.branch [
+      | else-i-j-via-then-i-j+then-i-square+else-same w ↦
+          subst (λ (i : Item). (eqb i.first j && same_lattice (item_in i) x) ≡ false) (sym i) (ap₂ ◌&&◌ (eq-eqb _ _ w.if-i-j.true) (sym w.same.ensures ∙ w.if-same.false))
+      | else-i-j-via-then-i-j+else-i-square w ↦
+          ap₂ ◌&&◌ (ap (λ i. eqb i.first j) i ∙ eq-eqb _ _ w.if-i-j.true)
+          (other-square s p j (below s p j h) x c.requires.sound (λ q. w.if-i-square.false (ap (of_z w64) (ap (λ i. i.shortest) (sym i) ∙ q ∙ sym c.requires.square_value))))
+      | else-i-j-via-else-i-j w ↦ ap (λ b. b && same_lattice (item_in (item_at s j)) x) (ap (λ i. eqb i.first j) i ∙ ne_eqb _ _ w.if-i-j.false)
+    ] in
+    before_more (is_first_of s x) j c.loop-j.invariant other

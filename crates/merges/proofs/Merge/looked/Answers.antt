@@ -1,82 +1,48 @@
 -- The place of the number, then that of its standing entry; or whether a see word names it.
-use mathlib.Core.Path.{ap, ◌∙◌}
-use Prim.Native.Nat.{◌<◌}
-use native.Mathlib.Omega.{arith}
-use Rattle.merges.specs.Stored.{answer_in}
-use Rattle.merges.specs.Entries.{few}
-use Rattle.merges.specs.Found.{first_below, first-own, standing-within, found-answer, missing-answer}
+use Rattle.std.proofs.Common.{ap, ◌∙◌, ◌<◌, take, length, arith, Some, None, Ok}
+use Rattle.integers.specs.AllLaws.{get_d_map}
+use Rattle.merges.specs.Stored.{no_item, answer_in}
+use Rattle.merges.specs.Entries.{room, length_taken}
+use Rattle.merges.specs.Found.{found_by, first_below, first-own, place-within, standing-within, found-answer, missing-answer}
 use Rattle.merges.proofs.Merge.looked.Goals as goal
 
-pub place_of-k-requires : goal.place_of-k-requires
-place_of-k-requires c = let s = c.before.before in omega (arith, few _ s.requires, s.requires.long.numbers)
+pub stander-s-requires-clause-by_index : goal.stander-s-requires-clause-by_index
+stander-s-requires-clause-by_index c = first_below c.args.self c.requires
 
-pub missing-requires : goal.missing-requires
-missing-requires c =
-    let s = c.before.before.before.before.before.before.before.before.before in
-    (omega (arith, few _ s.requires, s.requires.long.sees), omega (arith, few _ s.requires, s.requires.long.named))
+pub stander-s-requires-clause-f_lt_len : goal.stander-s-requires-clause-f_lt_len
+stander-s-requires-clause-f_lt_len c =
+    let s = c.args.self in
+    let k = c.in-Some.k in
+    let l = take c.args.self.count c.args.self.items in
+    let h : k < length (take c.args.self.count c.args.self.items) = place-within s c.requires c.args.number (found_by s c.requires c.args.number (Some k) c.in-Some.ensures) in
+    omega (arith, get_d_map (λ i. i.first) l no_item 0 k h, first_below s c.requires k h, h)
+
+pub stander-s-requires-clause-f_value : goal.stander-s-requires-clause-f_value
+stander-s-requires-clause-f_value c =
+    let s = c.args.self in
+    let first = found_by s c.requires c.args.number (Some c.in-Some.k) c.in-Some.ensures in
+    first-own s c.requires c.in-Some.k (place-within s c.requires c.args.number first)
+
+pub offset_bounds-items-s : goal.offset_bounds-items-s
+offset_bounds-items-s c =
+    let s = c.args.self in
+    let first = found_by s c.requires c.args.number (Some c.in-Some.k) c.in-Some.ensures in
+    omega (arith, standing-within s c.requires c.args.number first c.stander-s.ensures, length_taken s (room s c.requires), c.requires.few)
+
+pub bounds-items-s : goal.bounds-items-s
+bounds-items-s c =
+    let s = c.args.self in
+    let first = found_by s c.requires c.args.number (Some c.in-Some.k) c.in-Some.ensures in
+    standing-within s c.requires c.args.number first c.stander-s.ensures
+
+pub returns-in-Some : goal.returns-in-Some
+returns-in-Some c =
+    let s = c.args.self in
+    let first = found_by s c.requires c.args.number (Some c.in-Some.k) c.in-Some.ensures in
+    ap (λ a. answer_in (Ok a)) c.found.ensures ∙ found-answer s c.requires c.args.number first c.stander-s.ensures
 
 -- no entry has the number
-pub returns-then-k-self : goal.returns-then-k-self
-returns-then-k-self c =
-    let t = c.before.before.before.before.before in
-    let k = t.before.before in
-    let s = k.before.before.before in
-    missing-answer s.args.self s.requires s.args.number k.place_of-k.ensures t.if-k-self.true c.missing.ensures
-
-pub offset_bounds-firsts-k : goal.offset_bounds-firsts-k
-offset_bounds-firsts-k c =
-    let there : c.before.before.place_of-k.result < c.before.before.before.before.before.args.self.count =
-    omega (arith, c.before.before.place_of-k.ensures.within, c.if-k-self.false) in
-    let e = c.before.before in omega (arith, there, few _ e.before.before.before.before.before.requires)
-
-pub bounds-firsts-k : goal.bounds-firsts-k
-bounds-firsts-k c =
-    let there : c.before.before.place_of-k.result < c.before.before.before.before.before.args.self.count =
-    omega (arith, c.before.before.place_of-k.ensures.within, c.if-k-self.false) in
-    let e = c.before.before in omega (arith, there, few _ e.before.before.before.before.before.requires)
-
-pub stander-s-requires : goal.stander-s-requires
-stander-s-requires c =
-    let there : c.before.before.place_of-k.result < c.before.before.before.before.before.args.self.count =
-    omega (arith, c.before.before.place_of-k.ensures.within, c.if-k-self.false) in
-    let e = c.before.before.before.before in
-    let s = e.before.before.before.before.before in
-    let m = s.args.self in
-    let h = there in record {
-      count_in_bounds = (omega (arith, few m s.requires, s.requires.firsts.long), omega (arith, few m s.requires, s.requires.long.drafts));
-      by_index = first_below m s.requires;
-      f_lt_count = omega (arith, h, first_below m s.requires _ h);
-      f_value = first-own m s.requires _ h;
-    }
-
-pub offset_bounds-numbers-s : goal.offset_bounds-numbers-s
-offset_bounds-numbers-s c =
-    let there : c.before.before.place_of-k.result < c.before.before.before.before.before.args.self.count =
-    omega (arith, c.before.before.place_of-k.ensures.within, c.if-k-self.false) in
-    let within : c.stander-s.result < c.before.before.before.before.before.before.before.before.before.before.args.self.count =
-    let e = c.before.before.before.before.before in
-    let k = e.before.before in
-    let s = k.before.before.before in
-    standing-within s.args.self s.requires s.args.number k.place_of-k.ensures (there) c.stander-s.ensures in
-    omega (arith, within, few _ c.before.before.before.before.before.before.before.before.before.before.requires)
-
-pub bounds-numbers-s : goal.bounds-numbers-s
-bounds-numbers-s c =
-    let there : c.before.before.place_of-k.result < c.before.before.before.before.before.args.self.count =
-    omega (arith, c.before.before.place_of-k.ensures.within, c.if-k-self.false) in
-    let within : c.stander-s.result < c.before.before.before.before.before.before.before.before.before.before.args.self.count =
-    let e = c.before.before.before.before.before in
-    let k = e.before.before in
-    let s = k.before.before.before in
-    standing-within s.args.self s.requires s.args.number k.place_of-k.ensures (there) c.stander-s.ensures in
-    omega (arith, within, few _ c.before.before.before.before.before.before.before.before.before.before.requires)
-
-pub returns : goal.returns
-returns c =
-    let there : c.before.before.place_of-k.result < c.before.before.before.before.before.args.self.count =
-    omega (arith, c.before.before.place_of-k.ensures.within, c.if-k-self.false) in
-    let t = c.before in
-    let e = t.before.before.before.before.before in
-    let k = e.before.before in
-    let s = k.before.before.before in
-    ap answer_in c.found.ensures ∙ found-answer s.args.self s.requires s.args.number k.place_of-k.ensures (there) t.stander-s.ensures
+pub returns-in-None : goal.returns-in-None
+returns-in-None c =
+    let s = c.args.self in
+    ap answer_in c.missing.ensures ∙ missing-answer s c.requires c.args.number (found_by s c.requires c.args.number None c.in-None.ensures)

@@ -1,16 +1,13 @@
 -- The catalogue of the entries is that of the file.
-use mathlib.Core.Path.{◌∙◌}
-use Rattle.merges.specs.Closing.{was_read, separate_filed}
+use Rattle.std.proofs.Common.{◌∙◌}
+use Rattle.merges.specs.Closing.{few-filed, was_read, separate_filed}
 use Rattle.merges.proofs.Merge.separate.Goals as goal
 
-pub catalogue-requires : goal.catalogue-requires
-catalogue-requires c = c.requires.merge
+pub list-requires : goal.list-requires
+list-requires c = few-filed c.args.self c.requires.merge c.catalogue-c.ensures
 
 pub separate_read-requires : goal.separate_read-requires
-separate_read-requires c = let s = c.before in was_read s.args.self s.requires.merge c.catalogue.ensures s.requires.closed_value
+separate_read-requires c = was_read c.args.self c.requires.merge c.catalogue-c.ensures c.list.ensures c.requires.closed_value
 
 pub returns : goal.returns
-returns c =
-    let k = c.before in
-    let s = k.before in
-    c.separate_read.ensures ∙ separate_filed s.args.self s.requires.merge k.catalogue.ensures s.requires.closed_value _ _
+returns c = c.separate_read.ensures ∙ separate_filed c.args.self c.requires.merge c.catalogue-c.ensures c.list.ensures c.requires.closed_value c.args.first c.args.second

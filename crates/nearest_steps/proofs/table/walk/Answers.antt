@@ -20,7 +20,7 @@ returns-then-a-b c =
     record { sfits = c.a-1.given } in
     let sum : SFits w64 (nth c.args.l c.loop-i.i) =
     record { sfits = c.b-1.given } in
-    walked_first c.args.n _ _ _ c.requires.n_bound (search rules) (lt_z_true (simp (to_z-of_z, square, sum) at c.if-a-b.true))
+    walked_first c.args.n _ _ _ (search rules) (lt_z_true (simp (to_z-of_z, square, sum) at c.if-a-b.true))
 
 pub overflow_sub-a : goal.overflow_sub-a
 overflow_sub-a c =
@@ -40,7 +40,7 @@ returns-then-b-a c =
     record { sfits = c.b-1.given } in
     let opposite : SFits w64 (neg_ℤ (nth c.args.q c.loop-i.i)) =
     fits-within (within-neg (c.requires.bounded c.loop-i.i)) tt in
-    walked_opposite c.args.n _ _ _ c.requires.n_bound (search rules) (le_z_true (simp (to_z-of_z, square, sum, +ℤ_idl, opposite) at c.if-b-a.true))
+    walked_opposite c.args.n _ _ _ (search rules) (le_z_true (simp (to_z-of_z, square, sum, +ℤ_idl, opposite) at c.if-b-a.true))
 
 pub loop-i-preserved : goal.loop-i-preserved
 loop-i-preserved c =

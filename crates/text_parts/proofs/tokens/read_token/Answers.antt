@@ -1,49 +1,32 @@
--- Each way through the tests gives its case of the definition, and a token lies within its bytes.
-use mathlib.Core.Path.{◌≡◌, sym, ap, ◌∙◌}
-use mathlib.Core.Bool.{Bool, cond}
-use mathlib.Core.List.{List}
-use Prim.Native.Nat.{ℕ, ◌+◌, ◌-◌}
-use native.Mathlib.Omega.{arith}
-use lib.ListN.{length, drop, length-drop}
-use lib.Seq.{take_all}
+-- Each way through the tests gives its case of the definition.
+use Rattle.std.proofs.Common.{arith, ◌≡◌, sym, ap, ◌∙◌, Bool, cond, List, ℕ, ◌+◌, ◌-◌, ◌≤◌, length, get_or, take, drop, length-drop, take_all}
+use Rattle.text_parts.specs.declared.Token.{Token}
 use Rattle.text_parts.specs.declared.Kind.TheVariants.{Unexpected}
-use Rattle.text_parts.specs.Numbers.{wrong, number_at}
-use Rattle.text_parts.specs.Tokens.{ends, later, token_at}
+use Rattle.text_parts.specs.Numbers.{leading, wrong, number_at}
+use Rattle.text_parts.specs.Tokens.{is_blank, ends, later, token_at}
 use Rattle.text_parts.specs.TokenLaws.{token_end, token-semicolon, token-number}
 use Rattle.text_parts.proofs.tokens.read_token.Goals as goal
 
-pub returns-then-n-s : goal.returns-then-n-s
-returns-then-n-s c = record {
-  value = c.wrong.ensures ∙ sym (token_end c.args.s.now c.blanks-n.result c.blanks-n.ensures.value c.if-n-s.true);
-  length_in_bounds = rw c.wrong.ensures (omega arith);
-}
+pub returns-then-n-s-clause-value : goal.returns-then-n-s-clause-value
+returns-then-n-s-clause-value c = sym (token_end c.args.s.now c.blanks-n.result c.blanks-n.ensures.value c.if-n-s.true)
 
-pub returns-then-s-n-eq59 : goal.returns-then-s-n-eq59
-returns-then-s-n-eq59 c = record {
-  value = c.wrong-then-s-n-eq59.ensures ∙ sym (token-semicolon c.args.s.now c.blanks-n.result c.blanks-n.ensures.value (omega arith) c.if-s-n-eq59.true);
-  length_in_bounds = rw c.wrong-then-s-n-eq59.ensures (omega arith);
-}
+pub returns-then-s-n-eq59-clause-value : goal.returns-then-s-n-eq59-clause-value
+returns-then-s-n-eq59-clause-value c = sym (token-semicolon c.args.s.now c.blanks-n.result c.blanks-n.ensures.value (omega arith) c.if-s-n-eq59.true)
 
-pub returns-then-not-is_end : goal.returns-then-not-is_end
-returns-then-not-is_end c =
-    let text : List ℕ = c.args.s.now in
-    let skipped : ℕ = c.blanks-n.result in
-    let number_is : c.number-t.result ≡ number_at (drop skipped text) = c.number-t.ensures.value
-    ∙ ap number_at (take_all (length text - skipped) (drop skipped text) (omega (arith, length-drop skipped text))) in
-    let number-token : (b : Bool) → ends (drop (skipped + c.number-t.result.length) text) ≡ b → token_at text ≡ later skipped (cond b c.number-t.result (wrong Unexpected 0)) = λ b e. token-number text skipped c.blanks-n.ensures.value (omega arith)
-    c.if-s-n-eq59.false c.number-t.result number_is e in record {
-      value = c.wrong-then-not-is_end.ensures ∙ ap (wrong Unexpected) (omega arith) ∙ sym (number-token _ (sym c.is_end.ensures ∙ c.if-not-is_end.true));
-      length_in_bounds = rw c.wrong-then-not-is_end.ensures (omega arith);
-    }
+-- the number behind the blanks, and whether it may end where it does
+number-token : (text : List ℕ) (n : ℕ) (t : Token) (b : Bool) → n ≡ leading is_blank text → n ≤ length text → (n ≡ length text → ⊥)
+    → (get_or text n 0 ≡ 59 → ⊥) → t ≡ number_at (take (length text - n) (drop n text)) → b ≡ ends (take (length text - (n + t.length)) (drop (n + t.length) text))
+    → token_at text ≡ later n (cond b t (wrong Unexpected 0))
+number-token text n t b e h k f g w =
+    let all : (i : ℕ) → take (length text - i) (drop i text) ≡ drop i text = λ i. take_all (length text - i) (drop i text) (omega (arith, length-drop i text)) in
+    token-number text n e (omega arith) f t (g ∙ ap number_at (all n)) (sym (w ∙ ap ends (all (n + t.length))))
 
-pub returns : goal.returns
-returns c =
-    let text : List ℕ = c.args.s.now in
-    let skipped : ℕ = c.blanks-n.result in
-    let number_is : c.number-t.result ≡ number_at (drop skipped text) = c.number-t.ensures.value
-    ∙ ap number_at (take_all (length text - skipped) (drop skipped text) (omega (arith, length-drop skipped text))) in
-    let number-token : (b : Bool) → ends (drop (skipped + c.number-t.result.length) text) ≡ b → token_at text ≡ later skipped (cond b c.number-t.result (wrong Unexpected 0)) = λ b e. token-number text skipped c.blanks-n.ensures.value (omega arith)
-    c.if-s-n-eq59.false c.number-t.result number_is e in record {
-      value = sym (number-token _ (sym c.is_end.ensures ∙ c.if-not-is_end.false));
-      length_in_bounds = omega (arith, c.number-t.ensures.length_in_bounds);
-    }
+pub returns-then-not-ends-clause-value : goal.returns-then-not-ends-clause-value
+returns-then-not-ends-clause-value c =
+    ap (wrong Unexpected) (omega arith) ∙ sym (number-token c.args.s.now c.blanks-n.result c.number-t.result _ c.blanks-n.ensures.value c.blanks-n.ensures.upper_bound c.if-n-s.false
+    c.if-s-n-eq59.false c.number-t.ensures.value (sym c.if-not-ends.true ∙ c.ends.ensures))
+
+pub returns-clause-value : goal.returns-clause-value
+returns-clause-value c =
+    sym (number-token c.args.s.now c.blanks-n.result c.number-t.result _ c.blanks-n.ensures.value c.blanks-n.ensures.upper_bound c.if-n-s.false
+    c.if-s-n-eq59.false c.number-t.ensures.value (sym c.if-not-ends.false ∙ c.ends.ensures))

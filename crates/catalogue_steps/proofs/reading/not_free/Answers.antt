@@ -1,9 +1,0 @@
--- Zero, or used before.
-use borrow.Author.Tests.{eq-eqb, ne_eqb}
-use Rattle.catalogue_steps.proofs.reading.not_free.Goals as goal
-
-pub returns-then-n-eq0 : goal.returns-then-n-eq0
-returns-then-n-eq0 c = rw (eq-eqb _ 0 c.if-n-eq0.true)
-
-pub returns-else-n-eq0 : goal.returns-else-n-eq0
-returns-else-n-eq0 c = rw (ne_eqb _ 0 c.if-n-eq0.false) c.numbered.ensures

@@ -1,8 +1,0 @@
--- The code's sum is the definition's.
-use native.Mathlib.Omega.{arith}
-use Rattle.catalogue_rules.specs.Word.{encode}
-use Rattle.catalogue_writer.proofs.head_word.Goals as goal
-
-pub returns : goal.returns
-unfolding encode
-returns c = omega arith

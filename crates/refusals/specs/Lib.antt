@@ -1,0 +1,2 @@
+-- The refusals of document 01 with their numbers.
+pub mod Number

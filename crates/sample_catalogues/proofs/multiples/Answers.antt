@@ -1,6 +1,0 @@
-use borrow.Author.Rules.{rules}
-use Rattle.text_output.specs.Within.{counts-within}
-use Rattle.sample_catalogues.proofs.multiples.Goals as goal
-
-pub returns : goal.returns
-returns c = counts-within _ _ (search rules)
