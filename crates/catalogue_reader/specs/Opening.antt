@@ -21,6 +21,6 @@ module _ (f : Form) where
   pub opens-first : (bytes : List ℕ) → 4 ≤ length bytes → {w : Word} → w ≡ decode (get_or (words_of bytes) 0 0) → opens f w ≡ opens_in f (words_of bytes)
   opens-first bytes h is =
       ap (opens f) is
-      ∙ opens_by-kind f (decode (get_or (words_of bytes) 0 0)) (decode_range _)
+      ∙ opens_by-kind f (decode (get_or (words_of bytes) 0 0))
       ∙ ap (λ k. eqb k (head_kind f)) (kind-decode (get_or (words_of bytes) 0 0))
       ∙ opens-kind bytes h

@@ -48,11 +48,16 @@ module _ (l : List Entry) (r : WasRead l) where
     by_place : (draft : Bool) {n i : ℕ} → n ≤ length l → First (marked_like draft) n i → First (λ j. marked_of draft (entry k) (entry j)) n i
     by_place draft m found = first-like (λ j s. ap₂ (marked_of draft) (sym (at_place l k h)) (sym (at_place l j (omega arith)))) found
 
-    plain-stands : (entry_at l k).draft ≡ false → {i : ℕ} → First (marked_like false) k i → StandsAt es o k i
+    pub plain-stands : (entry_at l k).draft ≡ false → {i : ℕ} → First (marked_like false) k i → StandsAt es o k i
     plain-stands e found = alike-before es o r.formed k (inside k h) (ap (λ e. e.draft) (at_place l k h) ∙ e) (by_place false (omega arith) found)
 
-    checked-stands : {i : ℕ} → First (marked_like false) (length l) i → i < length l → StandsAt es o k i
+    pub checked-stands : {i : ℕ} → First (marked_like false) (length l) i → i < length l → StandsAt es o k i
     checked-stands found m = alike-checked es o r.formed k (inside k h) (counted (by_place false (omega arith) found)) (inside _ m)
+
+    pub draft-stands : ((j : ℕ) → j < length l → marked_like false j ≡ false) → {i : ℕ} → First (marked_like true) k i → StandsAt es o k i
+    draft-stands none found =
+        alike-drafts es o r.formed k (inside k h) (counted (by_place false (omega arith) (record { within = omega arith; before = none; here = λ m. absurd (omega arith) })))
+        (omega (arith, ready-length l r)) (by_place true (omega arith) found)
 
     -- the first loop looks for one that is no draft: among n entries
     module _ {n : ℕ} (is : n ≡ searched (entry_at l k).draft k (length l)) where
@@ -80,14 +85,12 @@ module _ (l : List Entry) (r : WasRead l) where
         pub none-stands : (entry_at l k).draft ≡ false → StandsAt es o k k
         none-stands e = plain-stands e (subst (λ m. First (marked_like false) m m) (those_before e) none)
 
-        draft-stands : (entry_at l k).draft ≡ true → {i : ℕ} → First (marked_like true) k i → StandsAt es o k i
-        draft-stands e found =
-            alike-drafts es o r.formed k (inside k h) (counted (by_place false (omega arith) (subst (λ m. First (marked_like false) m m) (all-searched e) none)))
-            (omega (arith, ready-length l r)) (by_place true (omega arith) found)
+        none-checked : (entry_at l k).draft ≡ true → (j : ℕ) → j < length l → marked_like false j ≡ false
+        none-checked e = (subst (λ m. First (marked_like false) m m) (all-searched e) none).before
 
         pub drafts_stand : (entry_at l k).draft ≡ true → (found : Option ℕ) → FirstFound (marked_like true) k found → StandsAt es o k (unwrap_or found k)
-        drafts_stand e (Some i) found = draft-stands e found.0
-        drafts_stand e None found = draft-stands e found
+        drafts_stand e (Some i) found = draft-stands (none-checked e) found.0
+        drafts_stand e None found = draft-stands (none-checked e) found
 
 -- ---- one lattice after the other, from the first entries and the marks
 

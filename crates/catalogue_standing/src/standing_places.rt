@@ -28,7 +28,7 @@ fn marks(entries: &[Entry]) -> [bool; Catalogue::MOST_ENTRIES]
 
 // The place of the first entry that is no draft, of the lattice whose first entry is at place f. Two lists are read from f on.
 fn checked_place(firsts: &[usize], marks: &[bool], f: usize) -> Option<usize>
-    requires one_len { length marks.now ≡ length firsts.now }
+    requires marks_len { length firsts.now ≤ length marks.now }
     requires by_index { (k : ℕ) → k < length firsts.now → get_or firsts.now k 0 ≤ k }
     requires f_lt_len { f < length firsts.now }
     ensures { FirstFound (checked_at firsts.now marks.now f) (length firsts.now) result }
@@ -43,7 +43,7 @@ fn checked_place(firsts: &[usize], marks: &[bool], f: usize) -> Option<usize>
 
 // The place of the standing entry of the lattice whose first entry is at place f.
 pub fn stander(firsts: &[usize], marks: &[bool], f: usize) -> usize
-    requires one_len { length marks.now ≡ length firsts.now }
+    requires marks_len { length firsts.now ≤ length marks.now }
     requires by_index { (k : ℕ) → k < length firsts.now → get_or firsts.now k 0 ≤ k }
     requires f_lt_len { f < length firsts.now }
     requires f_value { get_or firsts.now f 0 ≡ f }
@@ -54,7 +54,7 @@ pub fn stander(firsts: &[usize], marks: &[bool], f: usize) -> usize
 
 // The places of the standing entries: for each lattice it is looked for once, at its first entry.
 fn standers(firsts: &[usize], marks: &[bool]) -> [usize; Catalogue::MOST_ENTRIES]
-    requires one_len { length marks.now ≡ length firsts.now }
+    requires marks_len { length firsts.now ≤ length marks.now }
     requires by_index { (k : ℕ) → k < length firsts.now → get_or firsts.now k 0 ≤ k }
     requires firsts_len { length firsts.now ≤ most_entries }
     ensures { Standers firsts.now marks.now (length firsts.now) (length firsts.now) result }

@@ -1,10 +1,9 @@
 -- The code's words as the words of the definition, and a word out of four bytes.
 use Rattle.std.specs.Prelude.{◌≡◌, refl, Bool, true, false, eqb, List, [], ◌∷◌, ℕ, zero, suc, ◌+◌, ◌*◌, ◌≤◌, length, get_or}
-use Rattle.std.proofs.Common.{sym, ap, arith, ne_eqb}
+use Rattle.std.proofs.Common.{ap, arith}
 use Rattle.catalogue_rules.specs.Word as words
 use Rattle.catalogue_rules.specs.Word.{words_of}
 use Rattle.catalogue_rules.specs.Catalogue.{Form, old, new, head_kind}
-use Rattle.catalogue_rules.proofs.Laws.Word.{InRange}
 use Rattle.catalogue_steps.specs.declared.words.Word.{Word}
 use Rattle.catalogue_steps.specs.declared.words.Word.TheVariants.{Head, Coordinate, See, End, Draft, HeadNumber, HeadSize, Other}
 
@@ -18,30 +17,31 @@ word_in (HeadNumber number) = words.head_number number
 word_in (HeadSize high d m) = words.head_size high d m
 word_in (Other k l) = words.other k l
 
--- the first word of a head in a form
+-- the first word of a head in a form; of other words the kind tells it
 abbrev pub opens : Form → words.Word → Bool
 opens old (words.head number d m) = true
 opens new (words.head_number number) = true
+opens f (words.other k l) = eqb k (head_kind f)
 opens _ _ = false
 
 -- it is told by its kind
-pub opens_by-kind : (f : Form) (w : words.Word) → InRange w → opens f w ≡ eqb (words.kind_of w) (head_kind f)
-opens_by-kind old (words.head number d m) r = refl
-opens_by-kind old (words.coordinate l) r = refl
-opens_by-kind old (words.see number) r = refl
-opens_by-kind old (words.end count) r = refl
-opens_by-kind old (words.draft l) r = refl
-opens_by-kind old (words.head_number number) r = refl
-opens_by-kind old (words.head_size high d m) r = refl
-opens_by-kind old (words.other k l) r = sym (ne_eqb k 1 r.0)
-opens_by-kind new (words.head number d m) r = refl
-opens_by-kind new (words.coordinate l) r = refl
-opens_by-kind new (words.see number) r = refl
-opens_by-kind new (words.end count) r = refl
-opens_by-kind new (words.draft l) r = refl
-opens_by-kind new (words.head_number number) r = refl
-opens_by-kind new (words.head_size high d m) r = refl
-opens_by-kind new (words.other k l) r = sym (ne_eqb k 6 r.5)
+pub opens_by-kind : (f : Form) (w : words.Word) → opens f w ≡ eqb (words.kind_of w) (head_kind f)
+opens_by-kind old (words.head number d m) = refl
+opens_by-kind old (words.coordinate l) = refl
+opens_by-kind old (words.see number) = refl
+opens_by-kind old (words.end count) = refl
+opens_by-kind old (words.draft l) = refl
+opens_by-kind old (words.head_number number) = refl
+opens_by-kind old (words.head_size high d m) = refl
+opens_by-kind old (words.other k l) = refl
+opens_by-kind new (words.head number d m) = refl
+opens_by-kind new (words.coordinate l) = refl
+opens_by-kind new (words.see number) = refl
+opens_by-kind new (words.end count) = refl
+opens_by-kind new (words.draft l) = refl
+opens_by-kind new (words.head_number number) = refl
+opens_by-kind new (words.head_size high d m) = refl
+opens_by-kind new (words.other k l) = refl
 
 -- the word that four bytes make
 abbrev pub word_from : List ℕ → ℕ → ℕ

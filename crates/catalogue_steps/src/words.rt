@@ -21,13 +21,13 @@ pub enum Word {
 }
 
 impl Word {
-    // Whether it is the first word of a head in this form.
+    // Whether it is the first word of a head in this form; of `Other` the kind tells it.
     pub fn opens(self, form: Form) -> bool
         ensures { result ≡ opens (form_in form) (word_in self) }
     {
         match form {
-            Form::Old => matches!(self, Word::Head { .. }),
-            Form::New => matches!(self, Word::HeadNumber(_)),
+            Form::Old => matches!(self, Word::Head { .. } | Word::Other { kind: 1, .. }),
+            Form::New => matches!(self, Word::HeadNumber(_) | Word::Other { kind: 6, .. }),
         }
     }
 }

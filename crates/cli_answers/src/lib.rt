@@ -69,9 +69,9 @@ fn put_reduced(out: &mut [u8], at: usize, a: &Reduction, d: usize, m: usize) -> 
     let first = text_output::put_bytes(out, at, b"reduced ");
     let second = cli_output::put_number(out, first, a.passes);
     let third = cli_output::put_numbers(out, second, a.squares, d);
-    let fourth = cli_output::put_vectors(out, third, unpacked(a.vectors), d, m);
-    let fifth = cli_output::put_table(out, fourth, b'U', unpacked(a.u), d);
-    cli_output::put_table(out, fifth, b'V', unpacked(a.v), d)
+    let fourth = cli_output::put_vectors(out, third, unpacked(&a.vectors), d, m);
+    let fifth = cli_output::put_table(out, fourth, b'U', unpacked(&a.u), d);
+    cli_output::put_table(out, fifth, b'V', unpacked(&a.v), d)
 }
 
 // The answer to a reduction of d vectors of m coordinates.
@@ -98,7 +98,7 @@ pub fn put_basis(out: &mut [u8], at: usize, a: &Reduction, d: usize, m: usize) -
     ensures puts { Puts (basis_text d m (reduction_in (Ok a.now))) out.old at out.new result }
     ensures upper_bound { result ≤ at + lines_room }
 {
-    cli_output::put_vectors(out, at, unpacked(a.vectors), d, m)
+    cli_output::put_vectors(out, at, unpacked(&a.vectors), d, m)
 }
 
 // The squared distance, then a line with the coefficients, one with the solution in tenths and one with the vector.

@@ -3,8 +3,8 @@ use catalogue_records::Form;
 use cli_output::Say;
 use text_lines::Mistake;
 
-// Says what a mistake is.
-fn report(rt: &impl Say, line: u64, mistake: Mistake) {
+// Says what a mistake is; nothing where nothing is wrong.
+fn report(rt: &impl Say, line: u64, mistake: Option<Mistake>) {
     let mut text = [0; cli_entries::MOST_MISTAKE];
     let n = cli_entries::put_mistake(&mut text, 0, line, mistake);
     rt.say(&text[..n]);
@@ -16,9 +16,7 @@ fn check(rt: &impl Say, form: Form, s: &[u8], line: u64) {
         cli_answers::sentences::say_error(rt, line, b"new on another line than the first");
         return;
     }
-    if let Err(mistake) = text_lines::read_line(form, s) {
-        report(rt, line, mistake);
-    }
+    report(rt, line, text_lines::read_line(form, s).err());
 }
 
 // Says what is wrong with each of the lines, the first of which has this number.

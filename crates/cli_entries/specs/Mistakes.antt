@@ -1,5 +1,5 @@
 -- What is said of a line that tells no entry.
-use Rattle.std.specs.Prelude.{List, [], ◌∷◌, ℕ, ◌+◌}
+use Rattle.std.specs.Prelude.{List, [], ◌∷◌, ℕ, ◌+◌, Option, Some, None}
 use Rattle.text_lines.specs.declared.Mistake.{Mistake}
 use Rattle.text_lines.specs.declared.Mistake.TheVariants.{PartMissing, TooLarge, TooMany, NoNumber, NotThree, NoHead, NotAll, Beyond, NoSee}
 use Rattle.cli_answers.specs.Answers.{error_text}
@@ -25,9 +25,10 @@ sentence Beyond = 97 ∷ 32 ∷ 99 ∷ 111 ∷ 111 ∷ 114 ∷ 100 ∷ 105 ∷ 1
 -- "neither draft nor the number of an entry behind the coordinates"
 sentence NoSee = 110 ∷ 101 ∷ 105 ∷ 116 ∷ 104 ∷ 101 ∷ 114 ∷ 32 ∷ 100 ∷ 114 ∷ 97 ∷ 102 ∷ 116 ∷ 32 ∷ 110 ∷ 111 ∷ 114 ∷ 32 ∷ 116 ∷ 104 ∷ 101 ∷ 32 ∷ 110 ∷ 117 ∷ 109 ∷ 98 ∷ 101 ∷ 114 ∷ 32 ∷ 111 ∷ 102 ∷ 32 ∷ 97 ∷ 110 ∷ 32 ∷ 101 ∷ 110 ∷ 116 ∷ 114 ∷ 121 ∷ 32 ∷ 98 ∷ 101 ∷ 104 ∷ 105 ∷ 110 ∷ 100 ∷ 32 ∷ 116 ∷ 104 ∷ 101 ∷ 32 ∷ 99 ∷ 111 ∷ 111 ∷ 114 ∷ 100 ∷ 105 ∷ 110 ∷ 97 ∷ 116 ∷ 101 ∷ 115 ∷ []
 
--- the line's number and a sentence
-abbrev pub mistake_text : ℕ → Mistake → List ℕ
-mistake_text line mistake = error_text line (sentence mistake)
+-- the line's number and a sentence; nothing where nothing is wrong
+abbrev pub mistake_text : ℕ → Option Mistake → List ℕ
+mistake_text line None = []
+mistake_text line (Some mistake) = error_text line (sentence mistake)
 
 -- the longest sentence has 63 bytes
 abbrev pub mistake_room : ℕ

@@ -57,11 +57,14 @@ fn sentence(mistake: Mistake) -> &'static [u8]
     }
 }
 
-// The line that says what a mistake is.
-pub fn put_mistake(out: &mut [u8], at: usize, line: u64, mistake: Mistake) -> usize
+// The line that says what a mistake is; nothing where nothing is wrong.
+pub fn put_mistake(out: &mut [u8], at: usize, line: u64, mistake: Option<Mistake>) -> usize
     requires { at + mistake_room ≤ length out.old }
     ensures puts { Puts (mistake_text line mistake) out.old at out.new result }
     ensures upper_bound { result ≤ at + mistake_room }
 {
-    cli_answers::put_error(out, at, line, sentence(mistake))
+    match mistake {
+        Some(m) => cli_answers::put_error(out, at, line, sentence(m)),
+        None => at,
+    }
 }

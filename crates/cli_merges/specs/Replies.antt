@@ -75,8 +75,8 @@ add_bytes M bytes = called added_text (add_to M bytes)
 -- a blank line tells no entry
 abbrev pub add_line : Merge → ℕ → Result (Option Line) Mistake → Answered
 add_line M line (Ok (Some l)) = add_bytes M (bytes_of (words_in l))
-add_line M line (Ok None) = only M (mistake_text line PartMissing)
-add_line M line (Err mistake) = only M (mistake_text line mistake)
+add_line M line (Ok None) = only M (mistake_text line (Some PartMissing))
+add_line M line (Err mistake) = only M (mistake_text line (Some mistake))
 
 -- as a line of a text in the new form tells it
 abbrev pub add_text : Merge → ℕ → List ℕ → Answered

@@ -51,12 +51,10 @@ fn answer_lines(
         }
         let at = cli_lines::make_room(rt, out, p.at, replies::MOST_BYTES)?;
         let r = replies::answer(p.merge, &bytes[p.from..end], p.line, out, at);
-        p = Place {
-            merge: r.merge,
-            from: end + 1,
-            line: cli_lines::next(p.line),
-            at: r.at,
-        };
+        p.merge = r.merge;
+        p.from = end + 1;
+        p.line = cli_lines::next(p.line);
+        p.at = r.at;
     }
     Some(p)
 }

@@ -94,7 +94,7 @@ fn add_text(merge: Merge, line: u64, s: &[u8], out: &mut [u8], at: usize) -> Rep
     };
     Reply {
         merge,
-        at: cli_entries::put_mistake(out, at, line, mistake),
+        at: cli_entries::put_mistake(out, at, line, Some(mistake)),
     }
 }
 

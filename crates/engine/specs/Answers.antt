@@ -6,6 +6,8 @@ use Rattle.lattices.specs.Answer as Definition
 use Rattle.lattices.specs.Answer.{padded, no_reduction, no_nearest}
 use Rattle.refusals.specs.declared.Refusal.{Refusal}
 use Rattle.refusals.specs.Number.{number_of}
+use Rattle.gram_matrix.specs.declared.work.Work.{Work}
+use Rattle.gram_matrix.specs.Work.{diagonal_of}
 use Rattle.engine.specs.declared.Reduction.{Reduction}
 use Rattle.engine.specs.declared.NearestVector.{NearestVector}
 
@@ -21,6 +23,14 @@ reduction_in (Ok a) = record {
   passes = a.passes;
 }
 reduction_in (Err e) = no_reduction (number_of e)
+
+-- the same of a reduction that leaves its answer in lent places: the tables, and the squared lengths on the diagonal of the Gram matrix
+abbrev pub answer_of : List (List ℤ) → Work → Definition.Reduction
+answer_of g w = record { refusal = 0; place = 0; basis = w.vectors; u = w.u; v = w.v; squares = diagonal_of g; passes = w.passes }
+
+abbrev pub left_in : {T : Type 0} → Result T Refusal → List (List ℤ) → Work → Definition.Reduction
+left_in (Ok t) g w = answer_of g w
+left_in (Err e) g w = no_reduction (number_of e)
 
 -- R5.2, R5.4
 abbrev pub nearest_in : Result NearestVector Refusal → Definition.Nearest

@@ -4,6 +4,7 @@
 ghost use Rattle.std.specs.Prelude.{◌≡◌, [], ◌≤◌, pos, take};
 ghost use Rattle.std.specs.Int.Signed.{lt_z};
 ghost use Rattle.lattices.specs.Vector.{N};
+ghost use Rattle.lattices.specs.Greedy.{units};
 ghost use Rattle.lattices.specs.Answer.{reduction_of, nearest_of, table};
 ghost use Rattle.solutions.specs.Solution.{TenthsFor};
 ghost use Rattle.lattices.specs.Refusal.{most_vectors, most_coordinates, most_square, vectors_of, first_of, vector_checks};
@@ -12,7 +13,8 @@ ghost use Rattle.refusals.specs.Number.{refusal_in};
 ghost use Rattle.gram_matrix.specs.Formed.{formed};
 ghost use Rattle.nearest_steps.specs.Formed.{GramOf};
 ghost use Rattle.nearest_search.specs.Near.{Near};
-ghost use Rattle.engine.specs.Answers.{reduction_in, nearest_in, tenths_in};
+ghost use Rattle.engine.specs.Answers.{left_in, reduction_in, nearest_in, tenths_in};
+ghost use Rattle.greedy_steps.specs.Repeat.{Reducible, Outcome};
 ghost use Rattle.engine.specs.Laws.Answer.{Left, finished};
 ghost use Rattle.engine.specs.Laws.Nearest.{Answered};
 
@@ -76,8 +78,10 @@ fn begun(numbers: &[i64], d: usize, m: usize, b: &mut Basis, g: &mut Table) -> R
     Ok(())
 }
 
-// No vectors and no tables.
-fn nothing() -> Work {
+// No vectors and no tables: room for what the steps leave.
+pub fn nothing() -> Work
+    ensures { result ≡ record { vectors = table most_vectors most_coordinates []; u = table most_vectors most_vectors []; v = table most_vectors most_vectors []; passes = 0 } }
+{
     Work {
         vectors: [[0; WIDTH]; 4],
         u: [[0; 4]; 4],
@@ -86,28 +90,51 @@ fn nothing() -> Work {
     }
 }
 
-// What the steps leave of d vectors of m coordinates, vector by vector, or the first refusal that applies. The Gram matrix is formed once.
-fn reduced(numbers: &[i64], d: usize, m: usize, g: &mut Table, w: &mut Work) -> Result<(), Refusal>
-    ensures value { refusal_in result ≡ first_of vector_checks (record { numbers = numbers.entry.now; d = d; m = m; target = [] }) }
-    ensures reduced { refusal_in result ≡ 0 → Left (record { numbers = numbers.entry.now; d = d; m = m; target = [] }) g.new w.new }
+// The steps on the first d vectors of w, whose Gram matrix is g: the tables begin as units.
+fn take_steps(g: &mut Table, w: &mut Work, d: usize)
+    requires d_bound { d ≤ 4 }
+    requires reducible { Reducible d 0 g.old w.old.vectors (table 4 4 (units d)) (table 4 4 (units d)) }
+    ensures { (p : Reducible d 0 g.old w.old.vectors (table 4 4 (units d)) (table 4 4 (units d))) → Outcome p.kind d 0 p.rows g.new w.new }
 {
-    begun(numbers, d, m, &mut w.vectors, g)?;
     let e = row_operations::unit_table(d);
     w.u = e;
     w.v = e;
     w.passes = 0;
     *w = greedy_steps::reduce_first(g, *w, d);
+}
+
+// What the steps leave of d vectors of m coordinates, vector by vector, or the first refusal that applies. The Gram matrix is formed once.
+fn stepped(numbers: &[i64], d: usize, m: usize, g: &mut Table, w: &mut Work) -> Result<(), Refusal>
+    ensures value { refusal_in result ≡ first_of vector_checks (record { numbers = numbers.entry.now; d = d; m = m; target = [] }) }
+    ensures reduced { refusal_in result ≡ 0 → Left (record { numbers = numbers.entry.now; d = d; m = m; target = [] }) g.new w.new }
+{
+    begun(numbers, d, m, &mut w.vectors, g)?;
+    take_steps(g, w, d);
     Ok(())
 }
 
+// A reduction that leaves its answer in lent places: the tables in w, the squared lengths on the diagonal of g. On a refusal what stands there is no
+// answer.
+pub fn reduced(
+    numbers: &[i64],
+    d: usize,
+    m: usize,
+    g: &mut Table,
+    w: &mut Work,
+) -> Result<(), Refusal>
+    ensures { left_in result g.new w.new ≡ reduction_of (record { numbers = numbers.entry.now; d = d; m = m; target = [] }) }
+{
+    stepped(numbers, d, m, g, w)
+}
+
 // The answer from the finished work: the squared lengths are the diagonal of the Gram matrix.
-fn finished(g: &Table, w: Work) -> Reduction
-    ensures { reduction_in (Ok result) ≡ finished g.now w }
+fn finished(g: &Table, w: &Work) -> Reduction
+    ensures { reduction_in (Ok result) ≡ finished g.now w.now }
 {
     Reduction {
-        vectors: packed(w.vectors),
-        u: packed(w.u),
-        v: packed(w.v),
+        vectors: packed(&w.vectors),
+        u: packed(&w.u),
+        v: packed(&w.v),
         squares: gram_matrix::diagonal(g),
         passes: w.passes,
     }
@@ -120,7 +147,7 @@ pub fn reduce(numbers: &[i64], d: usize, m: usize) -> Result<Reduction, Refusal>
     let mut g = [[0; 4]; 4];
     let mut w = nothing();
     reduced(numbers, d, m, &mut g, &mut w)?;
-    Ok(finished(&g, w))
+    Ok(finished(&g, &w))
 }
 
 // The vector nearest to t in the lattice of the first d vectors of b, found on their Gram matrix g. n is the squared length of t.
@@ -147,8 +174,8 @@ fn searched(g: &Table, b: &Basis, d: usize, n: i64, t: &Vector) -> NearestVector
     }
 }
 
-// Nearest: d vectors of m coordinates each, vector by vector, and a target of m coordinates. The basis is reduced first, and the search goes
-// on the Gram matrix that the reduction leaves.
+// Nearest: d vectors of m coordinates each, vector by vector, and a target of m coordinates. Where neither is refused, the basis is reduced, and
+// the search goes on the Gram matrix that the reduction leaves.
 pub fn nearest(
     numbers: &[i64],
     d: usize,
@@ -160,7 +187,8 @@ pub fn nearest(
 {
     let mut g = [[0; 4]; 4];
     let mut w = nothing();
-    reduced(numbers, d, m, &mut g, &mut w)?;
+    begun(numbers, d, m, &mut w.vectors, &mut g)?;
     let t = input_checks::target(target, m)?;
+    take_steps(&mut g, &mut w, d);
     Ok(searched(&g, &w.vectors, d, dot(&t, &t), &t))
 }

@@ -1,9 +1,11 @@
 -- Step 5 on the vectors, U and V, one row before row k after the other: row k loses multiples of them, their columns of V gain.
-use Rattle.std.specs.Prelude.{◌≡◌, List, [], ◌∷◌, map, ℕ, zero, suc, ◌+◌, ◌≤◌, ◌<◌, ℤ, nat_abs, ◌*ℤ◌, length, get_or, take}
+use Rattle.std.specs.Prelude.{◌≡◌, List, [], ◌∷◌, map, ℕ, zero, suc, ◌+◌, ◌≤◌, ◌<◌, ℤ, pos, nat_abs, ◌*ℤ◌, length, get_or, set, take}
 use Rattle.std.proofs.Common.{ap, ◌∙◌, arith}
+use Rattle.std.proofs.lemmas.List.{set-get_or}
 use Rattle.integers.specs.Size.{load}
-use Rattle.lattices.specs.Vector.{nth}
+use Rattle.lattices.specs.Vector.{nth, ◌⊖◌, ◌⊙◌}
 use Rattle.greedy_reduction.specs.Start.{Coordinates}
+use Rattle.row_operations.specs.Loss.{⊖-nothing}
 use Rattle.row_operations.specs.Minus.{room}
 use Rattle.gram_matrix.specs.Columns.{gained_at, gained_columns, columns-suc, entry_kept}
 
@@ -31,3 +33,16 @@ module _ (k : ℕ) (x : List ℤ) (t : List (List ℤ)) (three : k ≤ 3) (count
 
   pub gained-next : map (gained_at j (nth x j) k) s ≡ gained_columns (take (suc j) x) k t
   gained-next = ap (map (gained_at j (nth x j) k)) e ∙ columns-suc j k x t (omega (arith, count)) h
+
+-- ---- one multiple; by 0 it changes nothing
+abbrev pub lost : ℕ → ℕ → ℤ → List (List ℤ) → List (List ℤ)
+lost k j q t = set t k (get_or t k [] ⊖ q ⊙ get_or t j [])
+
+pub lost-nothing : (k j : ℕ) (t : List (List ℤ)) → length (get_or t j []) ≤ length (get_or t k []) → lost k j (pos 0) t ≡ t
+lost-nothing k j t h = ap (set t k) (⊖-nothing (get_or t k []) (get_or t j []) h) ∙ set-get_or t k []
+
+-- the first rows are as wide as all are
+pub take-wide : (w j : ℕ) (t : List (List ℤ)) → Coordinates w t → Coordinates w (take j t)
+take-wide w zero t c = tt
+take-wide w (suc j) [] c = tt
+take-wide w (suc j) (r ∷ t) c = (c.0, take-wide w j t c.1)

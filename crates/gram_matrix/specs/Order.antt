@@ -1,6 +1,6 @@
 -- Rows ordered by length in place: by insertion, where neighbours change places.
 use Rattle.std.specs.List.{swap}
-use Rattle.std.specs.Prelude.{◌≡◌, Bool, true, false, length, get_or, take, drop, set}
+use Rattle.std.specs.Prelude.{◌≡◌, Bool, true, false, ℤ, length, get_or, take, drop, set}
 use Rattle.std.proofs.Math.Path.{refl, ap}
 use Rattle.std.proofs.Common.{sym, ◌∙◌, arith, add-one, length-take-le}
 use mathlib.Core.List.{List, [], ◌∷◌, ◌++◌}
@@ -8,6 +8,7 @@ use Prim.Native.Nat.{ℕ, zero, suc, ◌+◌, ◌-◌, ◌≤◌, ◌<◌}
 use Rattle.std.specs.Int.Signed.{lt_z}
 use Rattle.lattices.specs.Vector.{N}
 use Rattle.lattices.specs.Greedy.{Row, insert, order, insert_by, order_by}
+use Rattle.greedy_reduction.specs.Start.{Coordinates}
 
 -- ---- neighbours that change places
 
@@ -111,3 +112,11 @@ ordered_from-begin zero l h = ordered_from-last 0 l h
 ordered_from-begin (suc n) l h =
     let e : suc n - 1 ≡ n = omega arith in
     rw e (sym (ordered_from-next n 0 (suc n) l (omega arith) h) ∙ ordered_from-last (suc n) l h)
+
+-- rows that change places stay as wide as they are
+pub exchanged-wide : (w j : ℕ) (t : List (List ℤ)) → Coordinates w t → Coordinates w (exchanged j t)
+unfolding exchanged
+exchanged-wide w j [] c = tt
+exchanged-wide w zero (p ∷ []) c = c
+exchanged-wide w zero (p ∷ q ∷ t) c = (c.1.0, (c.0, c.1.1))
+exchanged-wide w (suc j) (p ∷ t) c = (c.0, exchanged-wide w j t c.1)

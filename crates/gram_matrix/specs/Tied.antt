@@ -133,3 +133,11 @@ pub record Left (K : Kind) (i j n : ℕ) (rows : List Row) (g b u v : List (List
   pub now : List Row
   pub tied : Tied K now g b u v
   pub same : insert_at j (n - suc j) now ≡ insert_at i (n - suc i) rows
+
+-- every row of V has a number for each row
+pub tied-wide : {K : Kind} {rows : List Row} {g b u v : List (List ℤ)} → Tied K rows g b u v → Coordinates (length rows) v
+unfolding transposed
+tied-wide {rows = rows} t = subst (Coordinates (length rows)) t.vs (column 0, (column 1, (column 2, (column 3, tt))))
+  where
+    column : (i : ℕ) → length (map (λ r. nth r i) (map (λ r. r.v) rows)) ≡ length rows
+    column i = length-map (map (λ r. r.v) rows) (λ r. nth r i) ∙ length-map rows (λ r. r.v)

@@ -15,7 +15,8 @@ ghost use Rattle.gram_matrix.specs.Order.{exchanged, insert_at};
 ghost use Rattle.gram_matrix.specs.Tied.{Kind, shorter_in};
 ghost use Rattle.gram_matrix.specs.Work.{Belongs};
 
-use row_operations::{Basis, Table, Vector, dot};
+pub use row_operations::Table;
+use row_operations::{Basis, Vector, dot};
 pub use work::{Work, diagonal};
 
 pub mod work;

@@ -25,21 +25,17 @@ fn pass(g: &mut Table, w: &mut Work, k: usize)
     gram_matrix::cross(g, k, &r, &x);
 }
 
-// Steps 1 to 6 for the first n rows, on one vector fewer at each call of itself. The passes are counted on from those made so far. The Gram
-// matrix is lent to each call.
-pub fn reduce_first(g: &mut Table, work: Work, n: usize) -> Work
-    requires n_bound { n ≤ 4 }
-    requires reducible { Reducible n work.passes g.old work.vectors work.u work.v }
-    ensures { (p : Reducible n work.passes g.old work.vectors work.u work.v) → Outcome p.kind n work.passes p.rows g.new result }
+// Steps 2 to 6 for the first n rows, of two or more, on one vector fewer at each call of itself. The passes are counted on from those made so far.
+// The Gram matrix is lent to each call.
+fn turns(g: &mut Table, mut w: Work, n: usize) -> Work
+    requires n_bound { (2 ≤ n) × (n ≤ 4) }
+    requires reducible { Reducible n w.passes g.old w.vectors w.u w.v }
+    ensures { (p : Reducible n w.passes g.old w.vectors w.u w.v) → Outcome p.kind n w.passes p.rows g.new result }
 {
-    let mut w = work;
-    if n < 2 {
-        return w;
-    }
     loop {
         gram_matrix::order(g, &mut w, n);
         if 2 < n {
-            w = reduce_first(g, w, n - 1);
+            w = turns(g, w, n - 1);
         }
         pass(g, &mut w, n - 1);
         w.passes += 1;
@@ -47,4 +43,16 @@ pub fn reduce_first(g: &mut Table, work: Work, n: usize) -> Work
             break w;
         }
     }
+}
+
+// Steps 1 to 6 for the first n rows.
+pub fn reduce_first(g: &mut Table, w: Work, n: usize) -> Work
+    requires n_bound { n ≤ 4 }
+    requires reducible { Reducible n w.passes g.old w.vectors w.u w.v }
+    ensures { (p : Reducible n w.passes g.old w.vectors w.u w.v) → Outcome p.kind n w.passes p.rows g.new result }
+{
+    if n < 2 {
+        return w;
+    }
+    turns(g, w, n)
 }

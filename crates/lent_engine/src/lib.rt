@@ -6,15 +6,16 @@ ghost use Rattle.std.proofs.lemmas.List.Edits.{sets};
 ghost use Rattle.lattices.specs.Answer.{reduction_of, nearest_of, membership_of};
 ghost use Rattle.solutions.specs.Solution.{TenthsFor};
 ghost use Rattle.refusals.specs.Number.{number_of};
-ghost use Rattle.engine.specs.Answers.{reduction_in, nearest_in};
+ghost use Rattle.engine.specs.Answers.{answer_of, nearest_in};
 ghost use Rattle.lent_numbers.specs.Layout.{reduction_count, nearest_count, head, layout, layout_nearest, tenths_in, layout_membership, written};
 ghost use Rattle.lent_engine.specs.Shape.{Shape};
 ghost use Rattle.lent_engine.specs.NearestShape.{NearestShape};
 
-use engine::{NearestVector, Reduction};
+use engine::NearestVector;
+use gram_matrix::Work;
 use lent_numbers::{put_head, put_rows, put_run};
 use refusals::Refusal;
-use row_operations::{WIDTH, unpacked};
+use row_operations::{Table, WIDTH};
 
 // Where the parts of a reduction's answer begin, and how many numbers it takes.
 const VECTORS_AT: usize = 7;
@@ -40,20 +41,21 @@ fn put_refusal(out: &mut [i64], count: usize, e: Refusal)
     out[3..count].fill(0);
 }
 
-// Writes a reduction: the passes, the squared lengths, the vectors, U and V.
-fn put_reduction(out: &mut [i64], a: Reduction)
+// Writes what a reduction leaves: the passes, the squared lengths, the vectors, U and V.
+fn put_reduction(out: &mut [i64], g: &Table, w: &Work)
     requires room { reduction_count ≤ length out.old }
-    requires shape { Shape (reduction_in (Ok a)) }
-    ensures { out.new ≡ sets out.old 0 (layout (reduction_in (Ok a))) }
+    requires shape { Shape (answer_of g.now w.now) }
+    ensures { out.new ≡ sets out.old 0 (layout (answer_of g.now w.now)) }
 {
-    put_head(out, 0, 0, a.passes as i64);
-    put_run(out, 3, &a.squares);
-    put_rows(out, VECTORS_AT, &unpacked(a.vectors));
-    put_rows(out, U_AT, &unpacked(a.u));
-    put_rows(out, V_AT, &unpacked(a.v));
+    put_head(out, 0, 0, w.passes as i64);
+    put_run(out, 3, &gram_matrix::diagonal(g));
+    put_rows(out, VECTORS_AT, &w.vectors);
+    put_rows(out, U_AT, &w.u);
+    put_rows(out, V_AT, &w.v);
 }
 
-// Reduces d vectors of m coordinates each. The answer is written to the first numbers of `out`; one with too few stays as it is.
+// Reduces d vectors of m coordinates each. The answer is written to the first numbers of `out`; one with too few stays as it is. It is written from
+// the lent places where the steps leave it: handed out in a Result the arrays are copied three times more.
 pub fn reduce(numbers: &[i64], d: usize, m: usize, out: &mut [i64]) -> bool
     ensures value { result ≡ leb reduction_count (length out.old) }
     ensures out_after { out.new ≡ written out.old reduction_count (layout (reduction_of (record { numbers = numbers.entry.now; d = d; m = m; target = [] }))) }
@@ -61,8 +63,10 @@ pub fn reduce(numbers: &[i64], d: usize, m: usize, out: &mut [i64]) -> bool
     if out.len() < REDUCTION {
         return false;
     }
-    match engine::reduce(numbers, d, m) {
-        Ok(a) => put_reduction(out, a),
+    let mut g = [[0; 4]; 4];
+    let mut w = engine::nothing();
+    match engine::reduced(numbers, d, m, &mut g, &mut w) {
+        Ok(()) => put_reduction(out, &g, &w),
         Err(e) => put_refusal(out, REDUCTION, e),
     }
     true

@@ -93,7 +93,7 @@ module _ (es : List definition.Entry) (few : length es ≤ most_entries) (ns : L
   word = decoded ∙ ap decode at
 
   turned : turn_in x ≡ step_of (add_step (length es) r.state i w)
-  turned = read ∙ ap (λ x. add_read ns (length es) x i w) r.held.shown ∙ add-shown es few ns noted e r.state i w (word_range _ word) r.stage (held-fine r.state r.held)
+  turned = read ∙ ap (λ x. add_read ns (length es) x i w) r.held.shown ∙ add-shown es few ns noted e r.state i w r.stage (held-fine r.state r.held)
 
   outcome : after-step (length es) i (drop (suc i) words) (add_step (length es) r.state i w) ≡ add_words (length es) (outside es) 0 words
   unfolding add_words

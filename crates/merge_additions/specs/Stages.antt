@@ -10,7 +10,6 @@ use Rattle.catalogue_rules.specs.Word.{Word, head, coordinate, see, end, draft, 
 use Rattle.catalogue_rules.specs.Catalogue as definition
 use Rattle.catalogue_rules.specs.Catalogue.{Head, See, coordinates, most_entries}
 use Rattle.catalogue_rules.specs.Read.{State, outside, numbered, inside, after, closed, stop, coordinate_of, with_entry, with_vector, with_coordinate, step}
-use Rattle.catalogue_rules.proofs.Laws.Word.{InRange}
 use Rattle.catalogue_rules.proofs.Laws.Moves.{Moves, by-head, by_number, by_size, by-coordinate, by-draft, by-see, by_end, between, unreferred}
 use Rattle.catalogue_records.specs.declared.Entry.{Entry}
 use Rattle.catalogue_records.specs.Stored.{entry_of}
@@ -112,8 +111,8 @@ module _ (es : List definition.Entry) (few : length es ≤ most_entries) (ns : L
   step-numbers e (after fs h vs marked) i (other k l) q may = refl
   step-numbers e (closed fs) i w q may = refl
 
-  pub add-shown : (e : Option Entry) (s : State) (i : ℕ) (w : Word) → InRange w → Stage es e s → Fine s → add_read ns (length es) (reading_of s) i w ≡ step_of (add_step (length es) s i w)
-  add-shown e s i w r q fine = ap (λ t. cond t (step_read ns (reading_of s) i w) (stopped 10)) (stands-shown (length es) s w r) ∙ go (may_stand (length es) s w) refl
+  pub add-shown : (e : Option Entry) (s : State) (i : ℕ) (w : Word) → Stage es e s → Fine s → add_read ns (length es) (reading_of s) i w ≡ step_of (add_step (length es) s i w)
+  add-shown e s i w q fine = ap (λ t. cond t (step_read ns (reading_of s) i w) (stopped 10)) (stands-shown (length es) s w) ∙ go (may_stand (length es) s w) refl
     where
       go : (t : Bool) → may_stand (length es) s w ≡ t → cond t (step_read ns (reading_of s) i w) (stopped 10) ≡ step_of (elim t [ true ↦ step s i w | false ↦ stop 10 ])
       go true may = step-numbers e s i w q may ∙ step-shown s i w fine

@@ -1,11 +1,10 @@
 -- What a word of an addition does to the stored state, and what is left at the end.
 use Rattle.std.specs.Prelude.{◌≡◌, refl, Bool, true, false, cond, ◌&&◌, ◌||◌, List, [], ◌∷◌, ◌++◌, ℕ, ltb, eqb, ℤ, pos, length, take, Option, Some, None}
-use Rattle.std.proofs.Common.{sym, ap, ap₂, ne_eqb}
+use Rattle.std.proofs.Common.{ap}
 use Rattle.integers.specs.Every.{any}
 use Rattle.integers.specs.Filled.{filled}
 use Rattle.catalogue_rules.specs.Word.{Word, head, coordinate, see, end, draft, head_number, head_size, other, kind_of}
 use Rattle.catalogue_rules.specs.Catalogue.{new, most_numbers}
-use Rattle.catalogue_rules.proofs.Laws.Word.{InRange}
 use Rattle.catalogue_steps.specs.Words.{opens, opens_by-kind}
 use Rattle.catalogue_rules.specs.Read.{State, outside, numbered, inside, after, closed, checked, size_rows}
 use Rattle.catalogue_records.specs.declared.Form.{Form}
@@ -29,10 +28,11 @@ start_read n = going Outside n (form_before n) no_part
 
 -- ---- a word
 
--- the mark of a draft or a see word
+-- the mark of a draft or a see word; of other words the kind tells it
 abbrev pub is_late : Word → Bool
 is_late (see number) = true
 is_late (draft l) = true
+is_late (other k l) = eqb k 5 || eqb k 3
 is_late _ = false
 
 -- whether no entry came since, and the word
@@ -62,22 +62,22 @@ last_read o s l = last_in s.phase o s l
 
 -- ---- a word is judged as the definition judges it
 
-late-shown : (w : Word) → InRange w → is_late w ≡ (eqb (kind_of w) 5 || eqb (kind_of w) 3)
-late-shown (head number d m) r = refl
-late-shown (coordinate l) r = refl
-late-shown (see number) r = refl
-late-shown (end count) r = refl
-late-shown (draft l) r = refl
-late-shown (head_number number) r = refl
-late-shown (head_size high d m) r = refl
-late-shown (other k l) r = sym (ap₂ (λ t u. t || u) (ne_eqb k 5 r.4) (ne_eqb k 3 r.2))
+late-shown : (w : Word) → is_late w ≡ (eqb (kind_of w) 5 || eqb (kind_of w) 3)
+late-shown (head number d m) = refl
+late-shown (coordinate l) = refl
+late-shown (see number) = refl
+late-shown (end count) = refl
+late-shown (draft l) = refl
+late-shown (head_number number) = refl
+late-shown (head_size high d m) = refl
+late-shown (other k l) = refl
 
-pub stands-shown : (n : ℕ) (s : State) (w : Word) → InRange w → stands_in (reading_of s).phase (eqb (reading_of s).count n) w ≡ may_stand n s w
-stands-shown n (outside es) w r = ap (λ t. eqb (length es) n && t) (opens_by-kind new w r)
-stands-shown n (numbered es k p) w r = refl
-stands-shown n (inside es h vs v) w r = refl
-stands-shown n (after es h vs marked) w r = late-shown w r
-stands-shown n (closed es) w r = refl
+pub stands-shown : (n : ℕ) (s : State) (w : Word) → stands_in (reading_of s).phase (eqb (reading_of s).count n) w ≡ may_stand n s w
+stands-shown n (outside es) w = ap (λ t. eqb (length es) n && t) (opens_by-kind new w)
+stands-shown n (numbered es k p) w = refl
+stands-shown n (inside es h vs v) w = refl
+stands-shown n (after es h vs marked) w = late-shown w
+stands-shown n (closed es) w = refl
 
 -- numbers are looked at where a head may stand, and only those of the entries before
 pub outside-numbers : (ns ms : List ℕ) (s : Reading) (i : ℕ) (w : Word) → take s.count ns ≡ take s.count ms → outside_read ns s i w ≡ outside_read ms s i w

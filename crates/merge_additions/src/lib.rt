@@ -46,7 +46,10 @@ fn may_stand(phase: Phase, first: bool, w: Word) -> bool
         Phase::Outside => first && w.opens(Form::New),
         Phase::Numbered => true,
         Phase::Inside => true,
-        Phase::After => matches!(w, Word::Draft(_) | Word::See(_)),
+        Phase::After => matches!(
+            w,
+            Word::Draft(_) | Word::See(_) | Word::Other { kind: 3 | 5, .. }
+        ),
         Phase::Closed => false,
     }
 }

@@ -103,23 +103,9 @@ impl Merge {
         ensures merge { IsMerge result.merge }
         ensures result_value { said_in result ≡ add_to (merge_in self) bytes.now }
     {
-        if self.closed {
-            return Said {
-                merge: self,
-                answer: Err(looking::CLOSED),
-            };
-        }
-        let numbers = rows::numbers(&self.items[..self.count]);
-        match merge_additions::read_addition(bytes, &numbers, self.count) {
-            Ok(e) => Said {
-                merge: self.with_entry(&e),
-                answer: Ok(Answer::Done),
-            },
-            Err(refused) => Said {
-                merge: self,
-                answer: Err(refused),
-            },
-        }
+        let mut merge = self;
+        let answer = merge.take_in(bytes);
+        Said { merge, answer }
     }
 
     // The answer to a lookup, without handing the merge back.
@@ -252,18 +238,35 @@ impl Merge {
     }
 
     // One entry more, as it was read.
-    fn with_entry(self, e: &Entry) -> Merge
-        requires merge { IsMerge self }
-        requires count_lt_most_entries { self.count < most_entries }
+    fn put(&mut self, e: &Entry)
+        requires merge { IsMerge self.old }
+        requires count_lt_most_entries { self.old.count < most_entries }
         requires readable { Readable e.now }
-        ensures { Grown self e.now result }
+        ensures { Grown self.old e.now self.new }
     {
         let l = lattice_of(e);
         let square = l.squares[0];
         let first = self.first_place(e, &l, square);
-        let mut m = self;
-        m.items[self.count] = rows::item(e, square, first);
-        m.count += 1;
-        m
+        self.items[self.count] = rows::item(e, square, first);
+        self.count += 1;
+    }
+
+    // Adds the entry of these bytes where the merge lies: handed on by value it is copied at each step.
+    fn take_in(&mut self, bytes: &[u8]) -> Result<Answer, Refused>
+        requires { IsMerge self.old }
+        ensures merge { IsMerge self.new }
+        ensures value { said (merge_in self.new) (answer_in result) ≡ add_to (merge_in self.old) bytes.now }
+    {
+        if self.closed {
+            return Err(looking::CLOSED);
+        }
+        let numbers = rows::numbers(&self.items[..self.count]);
+        match merge_additions::read_addition(bytes, &numbers, self.count) {
+            Ok(e) => {
+                self.put(&e);
+                Ok(Answer::Done)
+            }
+            Err(refused) => Err(refused),
+        }
     }
 }

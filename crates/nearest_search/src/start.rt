@@ -60,11 +60,10 @@ pub fn jump(g: &Table, d: usize, y: &[f64; 4], r: &mut [i64; 4], x: &mut [i64; 4
 
 // Whether 2·|<b_i, t>| is no more than the squared length for each of the first d vectors, of at most three.
 pub fn level(g: &Table, d: usize, r: &[i64; 4]) -> bool
-    requires d_bound { d ≤ 4 }
     requires by_index { (i j : ℕ) → Within 400000000 (nth (get_or g.now i []) j) }
     requires bounded { Bounded 2000000000 r.now }
 {
-    for i in 0..d {
+    for i in 0..d.min(3) {
         let n = g[i][i];
         let p = 2 * r[i];
         if n < p || p < -n {

@@ -16,7 +16,8 @@ ghost use Rattle.nearest_steps.specs.Stepped.{Stepped, Descends};
 
 mod table;
 
-use row_operations::{Table, lose};
+use row_operations::Table;
+pub use row_operations::lose;
 
 // The multiple of a vector nearest to what is left, of two equally near the smaller: n is the vector's squared length, p its inner product with
 // what is left.

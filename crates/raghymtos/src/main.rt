@@ -1,10 +1,14 @@
 // The command line: the first word says what to do.
 #![tactic(auto)]
 
+ghost use Rattle.std.specs.Prelude.{◌≤◌, length};
+
 use std::env::{Env, FillError};
 
 // An argument, empty where there is none or the buffer has no room for it.
-fn argument<'a>(rt: &impl Env, i: usize, buffer: &'a mut [u8]) -> &'a [u8] {
+fn argument<'a>(rt: &impl Env, i: usize, buffer: &'a mut [u8]) -> &'a [u8]
+    ensures { length result.now ≤ length buffer.old }
+{
     let n = rt.arg(i, buffer).unwrap_or(0);
     &buffer[..n]
 }

@@ -1,6 +1,6 @@
 -- The number that the documents give each refusal, as the code names them.
-use Rattle.std.specs.Prelude.{◌≢◌, ℕ, Ok, Err}
-use Rattle.std.proofs.Common.{arith}
+use Rattle.std.specs.Prelude.{◌≡◌, refl, ◌≢◌, List, [], ◌∷◌, ℕ, Ok, Err, get_or}
+use Rattle.std.proofs.Common.{sym, ap, ◌∙◌, arith}
 use Rattle.std.specs.declared.result.Result.{Result}
 use Rattle.refusals.specs.declared.Refusal.{Refusal}
 use Rattle.refusals.specs.declared.Refusal.TheVariants.{VectorCount, CoordinateCount, NumberCount, TooLong, Dependent, TargetCount, TargetTooLong, PartOfAWord, TooManyBytes, WordOutOfPlace, NumberNotFree, SeesNoEntry, WrongEnd, WordBehindEnd, TooManyEntries, OutputTooShort, NoSuchEntry, WrongMark, NumberTooLarge, HighBits, MergeClosed}
@@ -57,3 +57,34 @@ number_of-nonzero WrongMark e = absurd (omega arith)
 number_of-nonzero NumberTooLarge e = absurd (omega arith)
 number_of-nonzero HighBits e = absurd (omega arith)
 number_of-nonzero MergeClosed e = absurd (omega arith)
+
+-- the refusals by their numbers; at 0, which is no number of one, stands the first too
+abbrev by_number : List Refusal
+by_number = VectorCount ∷ VectorCount ∷ CoordinateCount ∷ NumberCount ∷ TooLong ∷ Dependent ∷ TargetCount ∷ TargetTooLong ∷ PartOfAWord ∷ TooManyBytes ∷ WordOutOfPlace ∷ NumberNotFree ∷ SeesNoEntry ∷ WrongEnd ∷ WordBehindEnd ∷ TooManyEntries ∷ OutputTooShort ∷ NoSuchEntry ∷ WrongMark ∷ NumberTooLarge ∷ HighBits ∷ MergeClosed ∷ []
+
+by_number-back : (e : Refusal) → get_or by_number (number_of e) VectorCount ≡ e
+by_number-back VectorCount = refl
+by_number-back CoordinateCount = refl
+by_number-back NumberCount = refl
+by_number-back TooLong = refl
+by_number-back Dependent = refl
+by_number-back TargetCount = refl
+by_number-back TargetTooLong = refl
+by_number-back PartOfAWord = refl
+by_number-back TooManyBytes = refl
+by_number-back WordOutOfPlace = refl
+by_number-back NumberNotFree = refl
+by_number-back SeesNoEntry = refl
+by_number-back WrongEnd = refl
+by_number-back WordBehindEnd = refl
+by_number-back TooManyEntries = refl
+by_number-back OutputTooShort = refl
+by_number-back NoSuchEntry = refl
+by_number-back WrongMark = refl
+by_number-back NumberTooLarge = refl
+by_number-back HighBits = refl
+by_number-back MergeClosed = refl
+
+-- no two refusals share a number
+pub number_of-once : (e f : Refusal) → number_of e ≡ number_of f → e ≡ f
+number_of-once e f h = sym (by_number-back e) ∙ ap (λ n. get_or by_number n VectorCount) h ∙ by_number-back f

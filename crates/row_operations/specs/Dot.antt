@@ -5,6 +5,7 @@ use Rattle.std.proofs.Math.IntN.{+ℤ_assoc, +ℤ_comm, *ℤ-zero, zero-*ℤ}
 use Rattle.std.proofs.Math.Seq.{take-nil}
 use Rattle.std.specs.Int.{w64}
 use Rattle.integers.specs.Size.{Within, size-add, within-add, within-mul, within-le, fits-within}
+use Rattle.lattices.specs.Refusal.{most_coordinates}
 use Rattle.row_operations.specs.Minus.{room}
 use Rattle.lattices.specs.Vector.{nth, dot}
 use Rattle.lattices.specs.Laws.Vector.{dot-nil}
@@ -74,11 +75,27 @@ pub record DotTurn (a b : List ℤ) (i : ℕ) : Type 0 where
   pub sum : SFits w64 (dot (take i a) (take i b))
   pub next : SFits w64 (dot (take i a) (take i b) +ℤ nth a i *ℤ nth b i)
 
-pub dot-turn : (a b : List ℤ) → weight a b ≤ room → (i : ℕ) → SFits w64 (nth a i) → SFits w64 (nth b i) → DotTurn a b i
-dot-turn a b h i p q = record {
+pub dot-turn_of_weight : (a b : List ℤ) → weight a b ≤ room → (i : ℕ) → SFits w64 (nth a i) → SFits w64 (nth b i) → DotTurn a b i
+dot-turn_of_weight a b h i p q = record {
   left = p;
   right = q;
   product = fits-within {B = room} (record { within = omega (arith, weight-term i a b) }) tt;
   sum = fits-within {B = room} (record { within = omega (arith, weight-take i a b) }) tt;
   next = subst (λ z. SFits w64 z) (dot-suc i a b) (fits-within {B = room} (record { within = omega (arith, weight-take (suc i) a b) }) tt);
 }
+
+-- and where the entries are small
+pub dot-turn : (a b : List ℤ) → ((k : ℕ) → Within 100000 (nth a k)) → ((k : ℕ) → Within 100000 (nth b k)) → (i : ℕ) → i ≤ most_coordinates → DotTurn a b i
+dot-turn a b f g i h = record {
+  left = fits-within (f i) tt;
+  right = fits-within (g i) tt;
+  product = fits-within product tt;
+  sum = fits-within sum tt;
+  next = fits-within (within-add sum product) tt;
+}
+  where
+    product : Within (100000 * 100000) (nth a i *ℤ nth b i)
+    product = within-mul (f i) (g i)
+
+    sum : Within (most_coordinates * (100000 * 100000)) (dot (take i a) (take i b))
+    sum = within-le (omega arith) (dot-within i a b f g)

@@ -42,11 +42,14 @@ pub fn dot<const N: usize>(a: &[i64; N], b: &[i64; N]) -> i64
     sum
 }
 
-// a loses q times b.
+// a loses q times b. Most multiples are by 0.
 pub fn lose<const N: usize>(a: &mut [i64; N], q: i64, b: &[i64; N])
     requires { (i : ℕ) → nat_abs (nth a.old i) + nat_abs (q *ℤ nth b.now i) ≤ room }
     ensures { a.new ≡ a.old ⊖ q ⊙ b.now }
 {
+    if q == 0 {
+        return;
+    }
     for i in 0..N {
         a[i] -= q * b[i];
     }
@@ -76,8 +79,8 @@ pub fn unit_table(d: usize) -> Table
 }
 
 // The rows of a table, each in a struct.
-pub fn packed<const N: usize>(t: [[i64; N]; 4]) -> [Row<N>; 4]
-    ensures { map (λ row. row.at) result ≡ t.entry }
+pub fn packed<const N: usize>(t: &[[i64; N]; 4]) -> [Row<N>; 4]
+    ensures { map (λ row. row.at) result ≡ t.now }
 {
     [
         Row { at: t[0] },
@@ -88,8 +91,8 @@ pub fn packed<const N: usize>(t: [[i64; N]; 4]) -> [Row<N>; 4]
 }
 
 // The rows out of their structs.
-pub fn unpacked<const N: usize>(rows: [Row<N>; 4]) -> [[i64; N]; 4]
-    ensures { result ≡ map (λ row. row.at) rows.entry }
+pub fn unpacked<const N: usize>(rows: &[Row<N>; 4]) -> [[i64; N]; 4]
+    ensures { result ≡ map (λ row. row.at) rows.now }
 {
     [rows[0].at, rows[1].at, rows[2].at, rows[3].at]
 }

@@ -1,6 +1,6 @@
 -- The tests of a step, on numbers: n is the squared length of a vector, p its inner product with what is left.
 use Rattle.std.specs.Prelude.{Option, Some, None, IsNone, ◌≡◌, refl, ◌⊎◌, Bool, true, false, List, [], ◌∷◌, ℕ, ◌+◌, ◌≤◌, ◌<◌, ℤ, pos, negsuc, ◌-ℤ◌, ◌*ℤ◌, ◌≤ℤ◌, ◌<ℤ◌, get_or}
-use Rattle.std.proofs.Common.{sym, subst, ⊎_elim, le_refl, arith, SFits, to_z, of_z, to_z-of_z}
+use Rattle.std.proofs.Common.{sym, subst, subst₂, ⊎_elim, le_refl, arith, SFits, to_z, of_z, to_z-of_z}
 use Rattle.std.proofs.lemmas.Bool.{false≢true}
 use Rattle.std.proofs.Math.Decide.{dec_lt}
 use Rattle.std.specs.Int.{w64}
@@ -60,14 +60,19 @@ tested f g = record {
     literal : (n : ℕ) → Within n (pos n)
     literal n = record { within = le_refl n }
 
--- ---- a place that is not level
+-- the test, of numbers as they are stored
+pub level-stored : {n p : ℤ} {t : Bool} → Within 400000000 n → Within 4000000000000000 p → Level (to_z w64 (of_z w64 n)) (to_z w64 (of_z w64 p)) t → Level n p t
+level-stored {t = t} f g = subst₂ (λ n p. Level n p t) (to_z-of_z {w = w64} (fits-within f tt)) (to_z-of_z {w = w64} (fits-within g tt))
+
+-- ---- the first place that is not level
 
 abbrev pub AllFlat : List (List ℤ) → List ℤ → ℕ → Type 0
 AllFlat g h i = (j : ℕ) → j < i → Flat (nth (get_or g j []) j) (nth h j)
 
--- a place where more is left, or none
+-- the first place where more is left, or none
 pub record Steep (g : List (List ℤ)) (h : List ℤ) (o : Option ℕ) : Type 0 where
   pub flat : IsNone o → AllFlat g h 4
+  pub first : {p : ℕ} → o ≡ Some p → AllFlat g h p
   pub steep : {p : ℕ} → o ≡ Some p → (p < 4) × (¬ (Flat (nth (get_or g p []) p) (nth h p)))
 
 module _ (g : List (List ℤ)) (h : List ℤ) (i : ℕ) where
@@ -80,11 +85,15 @@ module _ (g : List (List ℤ)) (h : List ℤ) (i : ℕ) where
           let same : i ≡ j = omega (arith, e) in
           subst (λ k. Flat (nth (get_or g k []) k) (nth h k)) same (l.yes refl)
 
-  pub steep-at : i < 4 → Level (nth (get_or g i []) i) (nth h i) false → Steep g h (Some i)
-  steep-at k l = record { flat = λ e. absurd cc; steep = λ {p} e. let same : i ≡ p = cc in subst (λ (p : ℕ). (p < 4) × (¬ (Flat (nth (get_or g p []) p) (nth h p)))) same (k, l.no refl) }
+  pub steep-at : i < 4 → AllFlat g h i → Level (nth (get_or g i []) i) (nth h i) false → Steep g h (Some i)
+  steep-at k f l = record {
+    flat = λ e. absurd cc;
+    first = λ {p} e. let same : i ≡ p = cc in subst (λ (p : ℕ). AllFlat g h p) same f;
+    steep = λ {p} e. let same : i ≡ p = cc in subst (λ (p : ℕ). (p < 4) × (¬ (Flat (nth (get_or g p []) p) (nth h p)))) same (k, l.no refl);
+  }
 
   pub steep-none : 4 ≤ i → AllFlat g h i → Steep g h None
-  steep-none m f = record { flat = λ e j l. f j (omega arith); steep = λ e. absurd cc }
+  steep-none m f = record { flat = λ e j l. f j (omega arith); first = λ e. absurd cc; steep = λ e. absurd cc }
 
 -- ---- the side
 

@@ -1,5 +1,5 @@
 -- How many words a line tells, and how many lines are passed before the one that holds a word.
-use Rattle.std.specs.Prelude.{◌≡◌, refl, false, cond, List, [], ◌++◌, map, ℕ, zero, suc, ◌+◌, ◌-◌, ◌≤◌, ◌<◌, ltb, length, take, drop}
+use Rattle.std.specs.Prelude.{◌≡◌, refl, true, false, cond, List, [], ◌++◌, map, ℕ, zero, suc, ◌+◌, ◌-◌, ◌≤◌, ◌<◌, ltb, length, take, drop}
 use Rattle.std.proofs.Common.{sym, ap, ◌∙◌, append-nil, arith, length-append, drop_of_length-le, drop-drop, length-take-le, lt-ltb, le-ltb}
 use Rattle.std.proofs.Math.Option.{Option, none, some, some-ne-none}
 use Rattle.std.proofs.lemmas.List.{length-map}
@@ -11,6 +11,9 @@ use Rattle.text_lines.specs.Told.{word_told, draft_told, words_in, encoded_line}
 use Rattle.text_encoding.specs.Splits.{line_length, holding-split, nothing-holds}
 
 -- ---- of a line
+
+pub blank-words : (f : Form) (s : List ℕ) → is_empty (content s) ≡ true → 0 ≡ line_words f s
+blank-words f s e = sym (ap (λ b. length (joined (cond b [] (listed (line_from f (content s)))))) e)
 
 pub wrong-words : (f : Form) (s : List ℕ) → is_empty (content s) ≡ false → none ≡ encoded_line (line_from f (content s)) → 0 ≡ line_words f s
 wrong-words f s e h = go (line_from f (content s)) refl
@@ -60,6 +63,13 @@ pub record Passing (f : Form) (text : List ℕ) (k from passed left : ℕ) : Typ
   pub few : passed ≤ from
   pub same : line_holding f (lines_of text) k ≡ counted passed (line_holding f (lines_of (drop from text)) left)
 
+counted_none : (n : ℕ) → n ≡ counted 0 n
+counted_none zero = refl
+counted_none (suc n) = omega arith
+
+pub passing_begins : (f : Form) (text : List ℕ) (k : ℕ) → Passing f text k 0 0 k
+passing_begins f text k = record { few = omega arith; same = counted_none (line_holding f (lines_of text) k) }
+
 module _ {f : Form} {text : List ℕ} {k from passed left n : ℕ} (p : Passing f text k from passed left) (is : n ≡ line_length (drop from text)) {here : ℕ} (words : here ≡ line_words f (take n (drop from text))) where
   abbrev others : ℕ
   others = line_holding f (lines_of (drop (n + 1) (drop from text))) (left - here)
@@ -91,6 +101,10 @@ module _ {f : Form} {text : List ℕ} {k from passed left n : ℕ} (p : Passing 
       sym (past h
       ∙ ap (λ s. counted (passed + 1) (line_holding f (lines_of s) (left - here))) (next ∙ drop_of_length-le text {i = from + n + 1} l)
       ∙ ap (counted (passed + 1)) (sym (nothing-holds f (left - here))))
+
+pub passing-none : {f : Form} {text : List ℕ} {k from passed left : ℕ} → Passing f text k from passed left → length text ≤ from → 0 ≡ line_holding f (lines_of text) k
+passing-none {f} {text} {k} {from} {passed} {left} p h =
+    sym (p.same ∙ ap (λ s. counted passed (line_holding f (lines_of s) left)) (drop_of_length-le text {i = from} h) ∙ ap (counted passed) (sym (nothing-holds f left)))
 
 -- ---- a line more
 

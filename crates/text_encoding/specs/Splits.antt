@@ -1,9 +1,14 @@
 -- A text line by line: what stands before the first newline, and what stands behind it; and a first line that is `new`.
 use Rattle.std.specs.Prelude.{◌≡◌, refl, Bool, true, false, cond, not, ◌||◌, List, [], ◌∷◌, ◌++◌, ℕ, suc, ◌+◌, ◌-◌, ◌≤◌, eqb, ltb, length, take, drop}
-use Rattle.std.proofs.Common.{sym, ap, ◌∙◌, add-one, arith, drop_of_length-le, eqb-true, le-ltb}
+use Rattle.std.proofs.Common.{sym, ap, ◌∙◌, add-one, arith, length-take, drop_of_length-le, eqb-true, le-ltb}
+use Rattle.integers.specs.Tests.{both}
 use Rattle.catalogue_rules.specs.Catalogue.{Form, old, new}
-use Rattle.text_rules.specs.Encoding.{lines_of, onto, is_new, form_told, entry_lines, line_wrong, line_entry, any_wrong, entries_from, told_wrong, told_entries, line_words, further, line_holding, told_holding}
+use Rattle.text_parts.specs.Numbers.{leading}
+use Rattle.text_parts.specs.Tokens.{is_blank}
+use Rattle.text_rules.specs.Text.{new_word}
+use Rattle.text_rules.specs.Encoding.{begins_with, lines_of, onto, is_text, content, is_empty, is_new, form_told, entry_lines, line_wrong, line_entry, any_wrong, entries_from, told_wrong, told_entries, line_words, further, line_holding, told_holding}
 use Rattle.text_lines.specs.Lengths.{length_before}
+use Rattle.text_lines.specs.Begins.{new-long}
 
 abbrev pub line_length : List ℕ → ℕ
 line_length s = length_before 10 s
@@ -73,6 +78,20 @@ drop-second s = go (eqb (line_length s) (length s)) refl
         let all : length s ≤ n = omega (arith, eqb-true n (length s) e) in
         drop_of_length-le s {i = n + 1} (omega arith) ∙ sym (drop_of_length-le s {i = n} all)
     go false e = refl
+
+-- a line `new` has bytes
+pub new-second : (s : List ℕ) → opens_new s ≡ true → 1 ≤ second_line s
+new-second s e =
+    let l = take (line_length s) s in
+    let t = content l in
+    let n = leading is_blank t in
+    let word = (both (begins_with new_word (drop n t)) (is_empty (drop (n + 3) t)) e).0 in
+    let far : 3 ≤ line_length s = omega (arith, new-long t word, length-take (leading is_text l) l, length-take (line_length s) s) in
+    go (eqb (line_length s) (length s)) far
+  where
+    go : (b : Bool) → 3 ≤ line_length s → 1 ≤ cond b (line_length s) (line_length s + 1)
+    go true h = omega arith
+    go false h = omega arith
 
 -- what f gives of the form and the lines that a text tells
 module _ {X : Type 0} (f : Form → List (List ℕ) → X) (s : List ℕ) where

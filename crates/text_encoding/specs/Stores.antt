@@ -60,6 +60,14 @@ module _ {ws before after : List ℕ} {k end : ℕ} (room : Room before k) (p : 
 
 -- ---- one word
 
+pub stores-full : (w : ℕ) (before : List ℕ) {k : ℕ} → room_in before ≤ k → Stores (w ∷ []) before k before k
+stores-full w before {k} h =
+    let none : room_in before - k ≡ 0 = omega arith in
+    record {
+      bytes = sym (ap (λ n. over_words before k (take n (w ∷ []))) none ∙ over_none before k);
+      place = omega (arith, ap (λ n. length (take n (w ∷ []))) none);
+    }
+
 pub stores_one : {w : ℕ} {before : List ℕ} {k : ℕ} {after : List ℕ} → suc k ≤ room_in before → after ≡ over_words before k (w ∷ []) → Stores (w ∷ []) before k after (k + 1)
 stores_one {w} {before} {k} h e =
     let some : room_in before - k ≡ suc (room_in before - k - 1) = omega arith in

@@ -1,6 +1,6 @@
 -- How far a text is told: the words of its first lines, and what the others will add.
-use Rattle.std.specs.Prelude.{◌≡◌, refl, Bool, true, false, cond, ◌||◌, List, [], ◌∷◌, ◌++◌, map, ℕ, ◌+◌, ◌≤◌, length, take, drop}
-use Rattle.std.proofs.Common.{sym, ap, ◌∙◌, subst, append-nil, append_assoc, arith, drop_of_length-le, length-append, drop-drop, le-ltb}
+use Rattle.std.specs.Prelude.{◌≡◌, refl, Bool, true, false, cond, ◌||◌, List, [], ◌∷◌, ◌++◌, map, ℕ, ◌+◌, ◌≤◌, ◌<◌, length, take, drop}
+use Rattle.std.proofs.Common.{sym, ap, ◌∙◌, subst, append-nil, append_assoc, arith, drop_of_length-le, length-append, drop-drop, lt-ltb, le-ltb}
 use Rattle.std.proofs.lemmas.List.{map-append}
 use Rattle.std.proofs.Math.Option.{Option, none, some, some-ne-none}
 use Rattle.catalogue_rules.specs.Catalogue.{Form}
@@ -37,6 +37,15 @@ or_false false = refl
 or_true : (b : Bool) → true ≡ b || true
 or_true true = refl
 or_true false = refl
+
+pub adds-nothing : (f : Form) (line before : List ℕ) (e : Told) → is_empty (content line) ≡ true → Adds f line before e before e
+adds-nothing f line before e h =
+    let entry : line_entry f line ≡ [] = ap (λ b. cond b [] (listed (line_from f (content line)))) h in
+    record {
+      stored = subst (λ es. Stores (numbers es) before e.words before e.words) (sym entry) (stores-none before e.words);
+      counted = omega (arith, ap length entry);
+      wrong = or_false e.wrong ∙ ap (λ b. e.wrong || cond b false (is_wrong (line_from f (content line)))) (sym h);
+    }
 
 nothing-told : (o : Option (List Word)) → none ≡ encoded_line o → o ≡ none
 nothing-told none e = refl
@@ -88,6 +97,9 @@ pub record Going (f : Form) (text before : List ℕ) (from : ℕ) (out : List �
   pub few : e.entries ≤ from
   pub told : entries_from f (lines_of text) ≡ entries ++ entries_from f (lines_of (drop from text))
   pub wrong : any_wrong f (lines_of text) ≡ e.wrong || any_wrong f (lines_of (drop from text))
+
+pub going-begins : (f : Form) (text before : List ℕ) → Going f text before 0 before (record { words = 0; entries = 0; wrong = false })
+going-begins f text before = record { entries = []; stored = stores-none before 0; counted = refl; few = omega arith; told = refl; wrong = refl }
 
 or_assoc : (a b c : Bool) → a || (b || c) ≡ (a || b) || c
 or_assoc true b c = refl
@@ -158,6 +170,18 @@ text_tells text {before} {after} {r} small entries wrong t =
       lent = stored_bytes stored;
       counted = t.counted ∙ ap length (sym entries) ∙ sym (ap (λ b. length (cond b [] (told_entries (lines_of text)))) short);
       wrong = t.wrong ∙ sym wrong ∙ sym (ap (λ b. cond b true (told_wrong (lines_of text))) short);
+    }
+
+pub tells_nothing : (text before : List ℕ) → most_text < length text → Tells text before before (record { words = 0; entries = 0; wrong = true })
+tells_nothing text before h =
+    let long : is_long text ≡ true = lt-ltb most_text (length text) h in
+    let words : text_words text ≡ [] = ap (λ b. cond b [] (map encode (ended (told_entries (lines_of text))))) long in
+    let stored = subst (λ ws. Stores ws before 0 before 0) (sym words) (stores-none before 0) in
+    record {
+      stored = stored-count stored;
+      lent = stored_bytes stored;
+      counted = sym (ap (λ b. length (cond b [] (told_entries (lines_of text)))) long);
+      wrong = sym (ap (λ b. cond b true (told_wrong (lines_of text))) long);
     }
 
 -- ---- as the rules of text have it

@@ -137,6 +137,18 @@ abbrev pub told : Result Line Mistake → Option (List ℕ)
 told (Ok l) = some (words_in l)
 told (Err mistake) = none
 
+-- the same of a line that may be blank
+abbrev pub words_told : Result (Maybe Line) Mistake → Option (List ℕ)
+words_told (Ok (Some l)) = some (words_in l)
+words_told (Ok None) = none
+words_told (Err mistake) = none
+
+-- whether it was
+abbrev pub blank_told : Result (Maybe Line) Mistake → Bool
+blank_told (Ok (Some l)) = false
+blank_told (Ok None) = true
+blank_told (Err mistake) = false
+
 abbrev pub encoded_line : Option (List Word) → Option (List ℕ)
 encoded_line none = none
 encoded_line (some ws) = some (map encode ws)

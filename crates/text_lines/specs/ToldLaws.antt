@@ -1,8 +1,8 @@
 -- What is read of a line is what the rules of text say.
-use Rattle.std.specs.Prelude.{◌≡◌, refl, Bool, true, false, not, ◌&&◌, List, ◌++◌, map, ℕ, ◌-◌, ◌*◌, eqb, ℤ, length, drop, replicate, None, Some, Result, Ok, Err}
+use Rattle.std.specs.Prelude.{◌≡◌, refl, Bool, true, false, not, ◌&&◌, List, ◌++◌, map, ℕ, ◌-◌, ◌*◌, eqb, ℤ, length, drop, replicate, None, Some, Result, Ok, Err, is_ok}
 use Rattle.std.specs.Prelude.{Option as Maybe}
 use Rattle.std.proofs.Math.Path.{sym}
-use Rattle.std.proofs.Common.{ap, ◌∙◌, take_at}
+use Rattle.std.proofs.Common.{ap, ◌∙◌, take_at, true≢false}
 use Rattle.std.proofs.Math.Bool.{cond}
 use Rattle.std.proofs.Math.Option.{Option, none, some}
 use Rattle.std.proofs.lemmas.List.{length-map}
@@ -19,7 +19,7 @@ use Rattle.text_lines.specs.declared.Mistake.TheVariants.{NotThree, NoHead, NotA
 use Rattle.text_lines.specs.declared.Head.{Head}
 use Rattle.text_lines.specs.declared.Line.{Line}
 use Rattle.text_lines.specs.declared.Rest.{Rest}
-use Rattle.text_lines.specs.Told.{right_line, stop_mistake, head_checked, head_told, is_last, rest_read, followed_read, parts_read, head_read, content_read, shown, line_read, word_told, draft_told, words_in, told, encoded_line, behind}
+use Rattle.text_lines.specs.Told.{right_line, stop_mistake, head_checked, head_told, is_last, rest_read, followed_read, parts_read, head_read, content_read, shown, line_read, word_told, draft_told, words_in, told, words_told, blank_told, encoded_line, behind}
 use Rattle.text_lines.specs.Parts.{head_numbers, rest_told, told-before, head-told, rest-told, rest-wrong}
 
 -- ---- the other parts
@@ -92,15 +92,15 @@ module _ (f : Form) (s : List ℕ) where
   abbrev pub asked : ℕ
   asked = at first.numbers 1 * at first.numbers 2
 
-  -- a head that is checked is one
-  pub is-head : checked ≡ Ok (tt {0}) → is_head f first ≡ true
+  -- a first part is a head exactly where nothing is wrong with it
+  pub is-head : is_ok checked ≡ is_head f first
   is-head = go (is_semicolon first.stop) (eqb (length first.numbers) 3) (fits (most_number f) (nth first.numbers 0) && (fits 15 (nth first.numbers 1) && fits 15 (nth first.numbers 2)))
     where
-      go : (a b c : Bool) → cond a (cond b (cond c (Ok (tt {0})) (Err NoHead)) (Err NotThree)) (Err (stop_mistake first.stop)) ≡ Ok (tt {0}) → a && (b && c) ≡ true
-      go true true true e = refl
-      go true true false e = absurd (cc)
-      go true false c e = absurd (cc)
-      go false b c e = absurd (cc)
+      go : (a b c : Bool) → is_ok (cond a (cond b (cond c (Ok (tt {0})) (Err NoHead)) (Err NotThree)) (Err (stop_mistake first.stop))) ≡ a && (b && c)
+      go true true true = refl
+      go true true false = refl
+      go true false c = refl
+      go false b c = refl
 
   pub content-wrong : {mistake : Mistake} → checked ≡ Err mistake → Err mistake ≡ content_read f s
   unfolding content_read
@@ -147,11 +147,27 @@ module _ (f : Form) (s : List ℕ) where
       go false e (Ok l) t = record { blank = λ h. absurd (cc); right = λ h. (e, cc); wrong = λ h. absurd (cc) }
       go false e (Err mistake) t = record { blank = λ h. absurd (cc); right = λ h. absurd (cc); wrong = λ h. (e, t) }
 
-  pub line-blank : line_read f s ≡ Ok None → is_empty (content s) ≡ true
-  line-blank = read-line.blank
+  pub line-none : line_read f s ≡ Ok None → is_empty (content s) ≡ true
+  line-none = read-line.blank
 
   pub line-right : {l : Line} → line_read f s ≡ Ok (Some l) → (is_empty (content s) ≡ false) × (some (words_in l) ≡ encoded_line (line_from f (content s)))
   line-right = read-line.right
 
   pub line-wrong : {mistake : Mistake} → line_read f s ≡ Err mistake → (is_empty (content s) ≡ false) × (none ≡ encoded_line (line_from f (content s)))
   line-wrong = read-line.wrong
+
+  pub line-blank : blank_told (line_read f s) ≡ is_empty (content s)
+  line-blank = go (line_read f s) refl
+    where
+      go : (r : Result (Maybe Line) Mistake) → line_read f s ≡ r → blank_told r ≡ is_empty (content s)
+      go (Ok (Some l)) e = sym (line-right e).0
+      go (Ok None) e = sym (line-none e)
+      go (Err mistake) e = sym (line-wrong e).0
+
+  pub line-told : is_empty (content s) ≡ false → words_told (line_read f s) ≡ encoded_line (line_from f (content s))
+  line-told h = go (line_read f s) refl
+    where
+      go : (r : Result (Maybe Line) Mistake) → line_read f s ≡ r → words_told r ≡ encoded_line (line_from f (content s))
+      go (Ok (Some l)) e = (line-right e).1
+      go (Ok None) e = absurd (true≢false (sym (line-none e) ∙ h))
+      go (Err mistake) e = (line-wrong e).1

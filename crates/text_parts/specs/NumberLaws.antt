@@ -1,11 +1,12 @@
--- Why digits and values may be read from left to right, and why a value may be cut off at the largest number of 64 bits.
+-- Why digits and values may be read from left to right, and why a value may be cut off, at the first number that no i64 has or at the largest
+-- of 64 bits.
 use Rattle.std.specs.Prelude.{◌≡◌, refl, Bool, true, false, cond, List, [], ◌∷◌, ◌++◌, ℕ, suc, ◌+◌, ◌-◌, ◌*◌, ◌≤◌, ◌<◌, min, length, get_or, drop, take, leb, ltb, eqb, not, Option, None, Some, unwrap_or, position, nat_lt}
 use Rattle.std.specs.List.{position_or_len}
 use Rattle.std.proofs.lemmas.List.Recursion.{is_position_or_len}
 use Rattle.std.proofs.Common.{sym, ap, ◌∙◌, arith, drop_of_length-le, length-drop, drop-cons, take-suc, leb-true, ne_eqb, ltb-false}
 use Rattle.integers.specs.Tests.{both}
 use Rattle.text_parts.specs.declared.Token.{Token}
-use Rattle.text_parts.specs.Numbers.{is_digit, leading, digits, value, largest, sized, signed_at, minus_at, number_at}
+use Rattle.text_parts.specs.Numbers.{is_digit, leading, digits, value, beyond, largest, sized, signed_at, minus_at, number_at}
 
 pub leading-bound : (f : ℕ → Bool) (s : List ℕ) → leading f s ≤ length s
 leading-bound f [] = omega arith
@@ -55,14 +56,19 @@ value-last : (n : ℕ) (s : List ℕ) (b : ℕ) → value n (s ++ (b ∷ [])) �
 value-last n [] b = refl
 value-last n (a ∷ s) b = value-last (n * 10 + (a - 48)) s b
 
+value-longer : (s : List ℕ) (i : ℕ) → i < length s → value 0 (take (i + 1) s) ≡ value 0 (take i s) * 10 + (get_or s i 0 - 48)
+value-longer s i h =
+    let e : i + 1 ≡ suc i = omega arith in
+    ap (λ j. value 0 (take j s)) e ∙ ap (value 0) (take-suc s i 0 h) ∙ value-last 0 (take i s) (get_or s i 0)
+
 -- a value that is cut off on the way is cut off with one digit more
-pub value-more : (s : List ℕ) (i n : ℕ) → i < length s → n ≡ min largest (value 0 (take i s))
+pub value-more : (s : List ℕ) (i n : ℕ) → i < length s → n ≡ min beyond (value 0 (take i s)) → min beyond (n * 10 + (get_or s i 0 - 48)) ≡ min beyond (value 0 (take (i + 1) s))
+value-more s i n h e = omega (arith, value-longer s i h, e)
+
+-- the same of one that is cut off at the largest number of 64 bits, after the product and after the sum
+pub value-more-largest : (s : List ℕ) (i n : ℕ) → i < length s → n ≡ min largest (value 0 (take i s))
     → min (min (n * 10) largest + (get_or s i 0 - 48)) largest ≡ min largest (value 0 (take (i + 1) s))
-value-more s i n h e =
-    let e' : i + 1 ≡ suc i = omega arith in
-    let more : value 0 (take (i + 1) s) ≡ value 0 (take i s) * 10 + (get_or s i 0 - 48)
-    = ap (λ j. value 0 (take j s)) e' ∙ ap (value 0) (take-suc s i 0 h) ∙ value-last 0 (take i s) (get_or s i 0) in
-    omega (arith, more, e)
+value-more-largest s i n h e = omega (arith, value-longer s i h, e)
 
 either-bound : (t : Bool) (a b : Token) (k : ℕ) → a.length ≤ k → b.length ≤ k → (cond t a b).length ≤ k
 either-bound true a b k h j = h

@@ -21,6 +21,10 @@ abbrev pub value : ℕ → List ℕ → ℕ
 value n [] = n
 value n (b ∷ bs) = value (n * 10 + (b - 48)) bs
 
+-- the least number whose size no i64 has
+abbrev pub beyond : ℕ
+beyond = 9223372036854775809
+
 -- the largest number of 64 bits
 abbrev pub largest : ℕ
 largest = 18446744073709551615

@@ -11,5 +11,5 @@ returns c = λ k. record {
   u = c.packed-2.ensures k;
   v = c.packed-3.ensures k;
   squares = c.diagonal.ensures k;
-  passes = c.args.w.passes;
+  passes = c.args.w.now.passes;
 }

@@ -1,10 +1,8 @@
 -- The parts are stored one after another.
-use Rattle.std.specs.Prelude.{◌+◌, ◌*◌}
 use Rattle.std.proofs.Common.{ap, ◌∙◌, arith, w64}
 use mir.Facts.{to_z_pos}
 use Rattle.std.proofs.lemmas.List.Edits.{sets}
-use Rattle.lattices.specs.Refusal.{most_vectors, most_coordinates}
-use Rattle.lent_numbers.specs.Layout.{flat, head}
+use Rattle.lent_numbers.specs.Layout.{head}
 use Rattle.lent_engine.specs.Shape.{answer-stored}
 use Rattle.lent_engine.proofs.put_reduction.Goals as goal
 
@@ -12,7 +10,7 @@ pub returns : goal.returns
 returns c =
     answer-stored c.requires.shape c.args.out.now
     (c.put_head.ensures ∙ ap (λ n. sets c.args.out.now 0 (head 0 0 n)) (to_z_pos w64 (omega (arith, c.requires.shape.passes))))
-    c.put_run.ensures
-    (c.put_rows.ensures ∙ ap (λ t. sets c.put_run.new.out 7 (flat t)) c.unpacked.ensures)
-    (c.put_rows-2.ensures ∙ ap (λ t. sets c.put_rows.new.out (7 + most_vectors * most_coordinates) (flat t)) c.unpacked-2.ensures)
-    (c.put_rows-3.ensures ∙ ap (λ t. sets c.put_rows-2.new.out (7 + most_vectors * most_coordinates + most_vectors * most_vectors) (flat t)) c.unpacked-3.ensures)
+    (c.put_run.ensures ∙ ap (sets c.put_head.new.out 3) c.diagonal.ensures)
+    c.put_rows.ensures
+    c.put_rows-2.ensures
+    c.put_rows-3.ensures

@@ -57,7 +57,6 @@ level-requires c =
     let size : Sized c.args.g.now c.args.r.now =
     sized c.requires.known_near.near.meant in
     record {
-      d_bound = omega (arith, c.requires.d_nonzero.1);
       by_index = size.gram;
       bounded = size.products;
     }

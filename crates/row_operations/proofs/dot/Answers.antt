@@ -6,7 +6,7 @@ use lib.ListN.{length}
 use lib.Seq.{take_all}
 use mir.Facts.{to_z-of_z}
 use Rattle.lattices.specs.Vector.{dot}
-use Rattle.row_operations.specs.Dot.{DotTurn, dot-suc, dot-turn}
+use Rattle.row_operations.specs.Dot.{DotTurn, dot-suc, dot-turn_of_weight}
 use Rattle.row_operations.proofs.dot.Goals as goal
 
 pub loop-i-init : goal.loop-i-init
@@ -15,17 +15,17 @@ loop-i-init g c = refl
 
 pub overflow_mul-sum : goal.overflow_mul-sum
 overflow_mul-sum g c =
-    let turn : DotTurn c.args.a.now c.args.b.now c.loop-i.i = dot-turn _ _ c.requires _ (record { sfits = c.sum-1.given }) (record { sfits = c.sum-in-loop-i-1.given }) in
+    let turn : DotTurn c.args.a.now c.args.b.now c.loop-i.i = dot-turn_of_weight _ _ c.requires _ (record { sfits = c.sum-1.given }) (record { sfits = c.sum-in-loop-i-1.given }) in
     simp (to_z-of_z, turn.left, turn.right) turn.product
 
 pub overflow_add-sum : goal.overflow_add-sum
 overflow_add-sum g c =
-    let turn : DotTurn c.args.a.now c.args.b.now c.loop-i.i = dot-turn _ _ c.requires _ (record { sfits = c.sum-1.given }) (record { sfits = c.sum-in-loop-i-1.given }) in
+    let turn : DotTurn c.args.a.now c.args.b.now c.loop-i.i = dot-turn_of_weight _ _ c.requires _ (record { sfits = c.sum-1.given }) (record { sfits = c.sum-in-loop-i-1.given }) in
     simp (c.loop-i.invariant, to_z-of_z, turn.left, turn.right, turn.product, turn.sum) turn.next
 
 pub loop-i-preserved : goal.loop-i-preserved
 loop-i-preserved g c =
-    let turn : DotTurn c.args.a.now c.args.b.now c.loop-i.i = dot-turn _ _ c.requires _ (record { sfits = c.sum-1.given }) (record { sfits = c.sum-in-loop-i-1.given }) in
+    let turn : DotTurn c.args.a.now c.args.b.now c.loop-i.i = dot-turn_of_weight _ _ c.requires _ (record { sfits = c.sum-1.given }) (record { sfits = c.sum-in-loop-i-1.given }) in
     simp (c.loop-i.invariant, to_z-of_z, turn.left, turn.right, turn.product, turn.sum, turn.next, add-one, dot-suc)
 
 pub returns : goal.returns

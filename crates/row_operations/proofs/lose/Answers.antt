@@ -1,4 +1,4 @@
-use mathlib.Core.Path.{◌≡◌, ap, ◌∙◌}
+use mathlib.Core.Path.{◌≡◌, sym, ap, ◌∙◌}
 use Prim.Native.Nat.{◌≤◌}
 use native.Mathlib.Numerals.{add-one}
 use native.Mathlib.Omega.{arith}
@@ -9,9 +9,15 @@ use mir.Syntax.{w64}
 use mir.Val.{SFits, of_z, to_z}
 use mir.Facts.{to_z-of_z}
 use Rattle.lattices.specs.Vector.{◌⊖◌, ◌⊙◌}
+use Rattle.row_operations.specs.Loss.{⊖-nothing}
 use Rattle.row_operations.specs.Front.{front-all}
 use Rattle.row_operations.specs.Minus.{MinusTurn, minus-turn, minus-entry, minus-next, length-minus}
 use Rattle.row_operations.proofs.lose.Goals as goal
+
+pub returns-then-q-eq0 : goal.returns-then-q-eq0
+returns-then-q-eq0 g c =
+    let zero : c.args.q ≡ pos 0 = sym (to_z-of_z c.ranges.q) ∙ ap (to_z w64) c.if-q-eq0.true in
+    rw zero (sym (⊖-nothing c.args.a.now c.args.b.now (omega (arith, c.told-a, c.told-b))))
 
 pub overflow_mul-a : goal.overflow_mul-a
 overflow_mul-a g c =

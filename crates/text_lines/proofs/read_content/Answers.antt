@@ -1,5 +1,5 @@
 -- Each way through the tests gives its case of the definition.
-use Rattle.std.proofs.Common.{◌≡◌, sym, ap, ◌∙◌, rules, ℕ, List, ℤ, pos, get_or, [], ◌∷◌, ◌++◌, length, drop, ◌*◌, to_z-of_z, Ok}
+use Rattle.std.proofs.Common.{◌≡◌, sym, ap, ◌∙◌, rules, ℕ, List, ℤ, pos, get_or, [], ◌∷◌, ◌++◌, length, drop, ◌*◌, to_z-of_z, Ok, is_ok}
 use Rattle.std.specs.Int.{w64}
 use Rattle.std.proofs.lemmas.Result.{err_from_is_err_and}
 use Rattle.lattices.specs.Vector.{nth}
@@ -39,7 +39,7 @@ returns-clause-value c =
     ∙ (λ i. head_checked f (c.read_part-part.ensures.value i).stop (c.read_part-part.ensures.value i).count
     ((to_z-of_z {w = w64} (search rules) ∙ number_at 0) i) ((to_z-of_z {w = w64} (search rules) ∙ number_at 1) i) ((to_z-of_z {w = w64} (search rules) ∙ number_at 2) i)) in
     let right : checked f s ≡ Ok tt = sym tested ∙ c.in_ok-check_head.was in
-    let heads = head-fits f p (is-head f s right) in
+    let heads = head-fits f p (sym (is-head f s) ∙ ap is_ok right) in
     let number : c.count.result ≡ at p.numbers 0 = c.count.ensures ∙ ap count_of (to_z-of_z {w = w64} (search rules) ∙ number_at 0) ∙ fits-size (most_number f) (nth p.numbers 0) heads.0 in
     let d : c.count-d.result ≡ at p.numbers 1 = c.count-d.ensures ∙ ap count_of (to_z-of_z {w = w64} (search rules) ∙ number_at 1) ∙ fits-size 15 (nth p.numbers 1) heads.1.0 in
     let m : c.count-m.result ≡ at p.numbers 2 = c.count-m.ensures ∙ ap count_of (to_z-of_z {w = w64} (search rules) ∙ number_at 2) ∙ fits-size 15 (nth p.numbers 2) heads.1.1 in

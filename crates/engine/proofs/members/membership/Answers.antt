@@ -16,36 +16,36 @@ use Rattle.engine.specs.Laws.Answer.{basis-is}
 use Rattle.engine.specs.Laws.Members.{refused-member, target-short, member-answer}
 use Rattle.engine.proofs.members.membership.Goals as goal
 
-pub returns-in_err-reduced : goal.returns-in_err-reduced
-returns-in_err-reduced c =
+pub returns-in_err-stepped : goal.returns-in_err-stepped
+returns-in_err-stepped c =
     let i : Input = record { numbers = c.args.numbers.now; d = c.args.d; m = c.args.m; target = c.args.target.now } in
-    let h = c.in_err-reduced.ensures.value in
-    let q : c.from_residual.result ≡ Err c.in_err-reduced.field-0.0 = search rules in
+    let h = c.in_err-stepped.ensures.value in
+    let q : c.from_residual.result ≡ Err c.in_err-stepped.field-0.0 = search rules in
     ap membership_in q ∙ refused-member i _ (h ∙ sym (first-refused vector_checks target_checks i (λ z. number_of-nonzero _ (h ∙ z))))
 
 pub target-requires : goal.target-requires
 target-requires c =
     let i : Input = record { numbers = c.args.numbers.now; d = c.args.d; m = c.args.m; target = c.args.target.now } in
-    let e : first_of vector_checks i ≡ 0 = sym c.in_ok-reduced.ensures.value in
+    let e : first_of vector_checks i ≡ 0 = sym c.in_ok-stepped.ensures.value in
     (accepted i e).few
 
 pub returns-in_err-t : goal.returns-in_err-t
 returns-in_err-t c =
     let i : Input = record { numbers = c.args.numbers.now; d = c.args.d; m = c.args.m; target = c.args.target.now } in
-    let e : first_of vector_checks i ≡ 0 = sym c.in_ok-reduced.ensures.value in
+    let e : first_of vector_checks i ≡ 0 = sym c.in_ok-stepped.ensures.value in
     let q : c.from_residual-in_err-t.result ≡ Err c.in_err-t.field-0.0 = search rules in
     ap membership_in q ∙ refused-member i _ (c.in_err-t.ensures.value ∙ sym (first-passed vector_checks target_checks i (omega arith) e))
 
 pub lattice_of-l-requires : goal.lattice_of-l-requires
 lattice_of-l-requires c =
     let i : Input = record { numbers = c.args.numbers.now; d = c.args.d; m = c.args.m; target = [] } in
-    let e : first_of vector_checks i ≡ 0 = sym c.in_ok-reduced.ensures.value in
-    subst (ReducedBasis c.args.d) (sym (basis-is i e _ _ (c.in_ok-reduced.ensures.reduced refl e))) (accepted-basis i e)
+    let e : first_of vector_checks i ≡ 0 = sym c.in_ok-stepped.ensures.value in
+    subst (ReducedBasis c.args.d) (sym (basis-is i e _ _ (c.in_ok-stepped.ensures.reduced refl e))) (accepted-basis i e)
 
 pub member-requires : goal.member-requires
 member-requires c =
     let i : Input = record { numbers = c.args.numbers.now; d = c.args.d; m = c.args.m; target = c.args.target.now } in
-    let e : first_of vector_checks i ≡ 0 = sym c.in_ok-reduced.ensures.value in
+    let e : first_of vector_checks i ≡ 0 = sym c.in_ok-stepped.ensures.value in
     let f : first_of target_checks i ≡ 0 = sym c.in_ok-t.ensures.value in
     record {
       known = c.lattice_of-l.ensures.known;
@@ -56,8 +56,8 @@ pub returns : goal.returns
 unfolding first
 returns c =
     let i : Input = record { numbers = c.args.numbers.now; d = c.args.d; m = c.args.m; target = c.args.target.now } in
-    let e : first_of vector_checks i ≡ 0 = sym c.in_ok-reduced.ensures.value in
+    let e : first_of vector_checks i ≡ 0 = sym c.in_ok-stepped.ensures.value in
     let f : first_of target_checks i ≡ 0 = sym c.in_ok-t.ensures.value in
-    let vectors-are = basis-is i e _ _ (c.in_ok-reduced.ensures.reduced refl e) in
+    let vectors-are = basis-is i e _ _ (c.in_ok-stepped.ensures.reduced refl e) in
     ap (λ b. membership_in (Ok b)) (c.member.ensures ∙ ap₂ is_member (vectors-left c.lattice_of-l.result _ c.lattice_of-l.ensures.result_value ∙ ap (take c.args.d) vectors-are) c.in_ok-t.ensures.target)
     ∙ member-answer i e f

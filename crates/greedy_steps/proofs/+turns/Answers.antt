@@ -6,33 +6,30 @@ use Rattle.gram_matrix.specs.Work.{Belongs}
 use Rattle.gram_matrix.specs.declared.work.Work.{Work}
 use Rattle.greedy_steps.specs.State.{order_rows, greedy_rows, greedy_passes}
 use Rattle.greedy_steps.specs.Tables.{Passable}
-use Rattle.greedy_steps.specs.Repeat.{Reducible, Round, next_rows, shorter_at, most_passes, begin, round-now, few-rows, tested, trace-falls, repeated, outcome, ended}
-use Rattle.greedy_steps.proofs.+reduce_first.Goals as goal
-use Rattle.greedy_steps.proofs.+reduce_first.Goals.{After-order, then-n-gt2, else-n-gt2}
-
-pub returns-then-n-lt2 : goal.returns-then-n-lt2
-returns-then-n-lt2 t c = λ p. outcome c.args.g.now c.args.work p.rows p.rows p.tied (sym (few-rows c.args.n c.if-n-lt2.true p.rows).0) (omega (arith, (few-rows c.args.n c.if-n-lt2.true p.rows).1))
+use Rattle.greedy_steps.specs.Repeat.{Reducible, Round, next_rows, shorter_at, most_passes, begin, round-now, few-rows, tested, trace-falls, repeated, ended}
+use Rattle.greedy_steps.proofs.+turns.Goals as goal
+use Rattle.greedy_steps.proofs.+turns.Goals.{After-order, then-n-gt2, else-n-gt2}
 
 pub loop-g-init : goal.loop-g-init
 loop-g-init t c = (c.told-g, begin)
 
 -- what is known of the rows that the tables belonged to at the start
 abbrev Begun : (t : ℕ) → After-order t → Type 0
-Begun t a = Reducible a.args.n a.args.work.passes a.args.g.now a.args.work.vectors a.args.work.u a.args.work.v
+Begun t a = Reducible a.args.n a.args.w.passes a.args.g.now a.args.w.vectors a.args.w.u a.args.w.v
 
 -- the rows that the tables belong to now, and what holds of the turn
 abbrev now : (t : ℕ) (a : After-order t) → Begun t a → List Row
 now t a p = (a.loop-g.invariant.1 p).now
 
 turn : (t : ℕ) (a : After-order t) (p : Begun t a) → Round p.kind a.args.n (a.args.n - 1) a.loop-g.w.passes (now t a p)
-turn t a p = round-now a.if-n-lt2.false a.requires.n_bound p (a.loop-g.invariant.1 p)
+turn t a p = round-now a.requires.n_bound.0 a.requires.n_bound.1 p (a.loop-g.invariant.1 p)
 
 -- what the call for one vector fewer is given
 abbrev fewer : (t : ℕ) (a : After-order t) (p : Begun t a) (g : List (List ℤ)) (w : Work) → Belongs p.kind (order_rows a.args.n (now t a p)) g w → w.passes ≡ a.loop-g.w.passes → Reducible (a.args.n - 1) w.passes g w.vectors w.u w.v
 fewer t a p g w o e = record { kind = p.kind; rows = order_rows a.args.n (now t a p); tied = o; fine = (turn t a p).fewer; few = rw e (turn t a p).fewer-room }
 
-pub reduce_first-w-requires : goal.reduce_first-w-requires
-reduce_first-w-requires t c =
+pub turns-w-requires : goal.turns-w-requires
+turns-w-requires t c =
     let a : After-order t = c.before.before in
     let p : Begun t a = c.requires.reducible in
     (search rules, (omega (arith, c.requires.n_bound), fewer t a p c.order.new.g c.order.new.w (c.order.ensures.belongs p.kind (now t a p) (c.loop-g.invariant.1 p).tied) c.order.ensures.passes))
@@ -60,7 +57,7 @@ first t q p =
     let z : q.order.new.w.passes ≡ q.loop-g.w.passes = q.order.ensures.passes in
     elim q.if-n-gt2.branch [
       | then-n-gt2 w ↦
-          let o = w.reduce_first-w.ensures (fewer t a p _ _ s z) in
+          let o = w.turns-w.ensures (fewer t a p _ _ s z) in
           (moved w.g-is w.w-is o.tied, ap (λ u. u.passes) w.w-is ∙ omega (arith, o.passes, z))
       | else-n-gt2 w ↦
           let e = few-rows (n - 1) (omega (arith, w.if-n-gt2.false)) rows in
@@ -87,7 +84,7 @@ next t q p = next_rows q.args.n (q.args.n - 1) (now t (start_of t q) p)
 
 -- they are four, so the test of step 6 is that of the numbers
 test : (t : ℕ) (q : goal.After-w-in-loop-g-1 t) (p : Begun t (start_of t q)) (g : List (List ℤ)) (w : Work) → Belongs p.kind (next t q p) g w → length g ≡ 4 → shorter_at (q.args.n - 1) (next t q p) ≡ shorter_in g (q.args.n - 1)
-test t q p g w o four = tested o (q.args.n - 1) (omega (arith, tied-length-gram o, four, q.requires.n_bound, q.if-n-lt2.false))
+test t q p g w o four = tested o (q.args.n - 1) (omega (arith, tied-length-gram o, four, q.requires.n_bound, q.requires.n_bound.0))
 
 pub loop-g-smaller : goal.loop-g-smaller
 loop-g-smaller t c =
