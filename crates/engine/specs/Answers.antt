@@ -7,7 +7,6 @@ use Rattle.lattices.specs.Answer.{padded, no_reduction, no_nearest}
 use Rattle.refusals.specs.declared.Refusal.{Refusal}
 use Rattle.refusals.specs.Number.{number_of}
 use Rattle.gram_matrix.specs.declared.work.Work.{Work}
-use Rattle.gram_matrix.specs.Work.{diagonal_of}
 use Rattle.engine.specs.declared.Reduction.{Reduction}
 use Rattle.engine.specs.declared.NearestVector.{NearestVector}
 
@@ -24,13 +23,10 @@ reduction_in (Ok a) = record {
 }
 reduction_in (Err e) = no_reduction (number_of e)
 
--- the same of a reduction that leaves its answer in lent places: the tables, and the squared lengths on the diagonal of the Gram matrix
-abbrev pub answer_of : List (List ℤ) → Work → Definition.Reduction
-answer_of g w = record { refusal = 0; place = 0; basis = w.vectors; u = w.u; v = w.v; squares = diagonal_of g; passes = w.passes }
-
-abbrev pub left_in : {T : Type 0} → Result T Refusal → List (List ℤ) → Work → Definition.Reduction
-left_in (Ok t) g w = answer_of g w
-left_in (Err e) g w = no_reduction (number_of e)
+-- the same of a reduction that hands out the squared lengths and leaves its vectors, tables and passes in a lent place
+abbrev pub lent_in : Result (List ℤ) Refusal → Work → Definition.Reduction
+lent_in (Ok l) w = record { refusal = 0; place = 0; basis = w.vectors; u = w.u; v = w.v; squares = l; passes = w.passes }
+lent_in (Err e) w = record { refusal = number_of e; place = 0; basis = w.vectors; u = w.u; v = w.v; squares = padded most_vectors []; passes = w.passes }
 
 -- R5.2, R5.4
 abbrev pub nearest_in : Result NearestVector Refusal → Definition.Nearest

@@ -13,9 +13,9 @@ ghost use Rattle.refusals.specs.Number.{refusal_in};
 ghost use Rattle.gram_matrix.specs.Formed.{formed};
 ghost use Rattle.nearest_steps.specs.Formed.{GramOf};
 ghost use Rattle.nearest_search.specs.Near.{Near};
-ghost use Rattle.engine.specs.Answers.{left_in, reduction_in, nearest_in, tenths_in};
+ghost use Rattle.engine.specs.Answers.{lent_in, reduction_in, nearest_in, tenths_in};
 ghost use Rattle.greedy_steps.specs.Repeat.{Reducible, Outcome};
-ghost use Rattle.engine.specs.Laws.Answer.{Left, finished};
+ghost use Rattle.engine.specs.Laws.Answer.{Left};
 ghost use Rattle.engine.specs.Laws.Nearest.{Answered};
 
 pub use members::membership;
@@ -60,7 +60,7 @@ fn any_over(squares: &[i64]) -> bool
 }
 
 // The first refusal that applies to d vectors of m coordinates; if none does, b holds them and g their Gram matrix, whose diagonal has their
-// squared lengths. What is found stands in lent places, as in `reduced`: handed out in a Result the arrays are copied at each `?`, which took 306
+// squared lengths. What is found stands in lent places, as in `stepped`: handed out in a Result the arrays are copied at each `?`, which took 306
 // instructions more for a reduction.
 fn begun(numbers: &[i64], d: usize, m: usize, b: &mut Basis, g: &mut Table) -> Result<(), Refusal>
     ensures value { refusal_in result ≡ first_of vector_checks (record { numbers = numbers.entry.now; d = d; m = m; target = [] }) }
@@ -113,29 +113,29 @@ fn stepped(numbers: &[i64], d: usize, m: usize, g: &mut Table, w: &mut Work) -> 
     Ok(())
 }
 
-// A reduction that leaves its answer in lent places: the tables in w, the squared lengths on the diagonal of g. On a refusal what stands there is no
-// answer.
-pub fn reduced(
-    numbers: &[i64],
-    d: usize,
-    m: usize,
-    g: &mut Table,
-    w: &mut Work,
-) -> Result<(), Refusal>
-    ensures { left_in result g.new w.new ≡ reduction_of (record { numbers = numbers.entry.now; d = d; m = m; target = [] }) }
+// A reduction that hands out the squared lengths and leaves all else in w, where a refusal leaves zeros.
+pub fn reduced(numbers: &[i64], d: usize, m: usize, w: &mut Work) -> Result<[i64; 4], Refusal>
+    ensures { lent_in result w.new ≡ reduction_of (record { numbers = numbers.entry.now; d = d; m = m; target = [] }) }
 {
-    stepped(numbers, d, m, g, w)
+    let mut g = [[0; 4]; 4];
+    match stepped(numbers, d, m, &mut g, w) {
+        Ok(()) => Ok(gram_matrix::diagonal(&g)),
+        Err(e) => {
+            *w = nothing();
+            Err(e)
+        }
+    }
 }
 
-// The answer from the finished work: the squared lengths are the diagonal of the Gram matrix.
-fn finished(g: &Table, w: &Work) -> Reduction
-    ensures { reduction_in (Ok result) ≡ finished g.now w.now }
+// The answer put together.
+fn finished(squares: [i64; 4], w: &Work) -> Reduction
+    ensures { reduction_in (Ok result) ≡ lent_in (Ok squares) w.now }
 {
     Reduction {
         vectors: packed(&w.vectors),
         u: packed(&w.u),
         v: packed(&w.v),
-        squares: gram_matrix::diagonal(g),
+        squares,
         passes: w.passes,
     }
 }
@@ -144,10 +144,9 @@ fn finished(g: &Table, w: &Work) -> Reduction
 pub fn reduce(numbers: &[i64], d: usize, m: usize) -> Result<Reduction, Refusal>
     ensures { reduction_in result ≡ reduction_of (record { numbers = numbers.entry.now; d = d; m = m; target = [] }) }
 {
-    let mut g = [[0; 4]; 4];
     let mut w = nothing();
-    reduced(numbers, d, m, &mut g, &mut w)?;
-    Ok(finished(&g, &w))
+    let squares = reduced(numbers, d, m, &mut w)?;
+    Ok(finished(squares, &w))
 }
 
 // The vector nearest to t in the lattice of the first d vectors of b, found on their Gram matrix g. n is the squared length of t.

@@ -6,7 +6,7 @@ ghost use Rattle.std.proofs.lemmas.List.Edits.{sets};
 ghost use Rattle.lattices.specs.Answer.{reduction_of, nearest_of, membership_of};
 ghost use Rattle.solutions.specs.Solution.{TenthsFor};
 ghost use Rattle.refusals.specs.Number.{number_of};
-ghost use Rattle.engine.specs.Answers.{answer_of, nearest_in};
+ghost use Rattle.engine.specs.Answers.{lent_in, nearest_in};
 ghost use Rattle.lent_numbers.specs.Layout.{reduction_count, nearest_count, head, layout, layout_nearest, tenths_in, layout_membership, written};
 ghost use Rattle.lent_engine.specs.Shape.{Shape};
 ghost use Rattle.lent_engine.specs.NearestShape.{NearestShape};
@@ -15,7 +15,7 @@ use engine::NearestVector;
 use gram_matrix::Work;
 use lent_numbers::{put_head, put_rows, put_run};
 use refusals::Refusal;
-use row_operations::{Table, WIDTH};
+use row_operations::WIDTH;
 
 // Where the parts of a reduction's answer begin, and how many numbers it takes.
 const VECTORS_AT: usize = 7;
@@ -42,20 +42,20 @@ fn put_refusal(out: &mut [i64], count: usize, e: Refusal)
 }
 
 // Writes what a reduction leaves: the passes, the squared lengths, the vectors, U and V.
-fn put_reduction(out: &mut [i64], g: &Table, w: &Work)
+fn put_reduction(out: &mut [i64], squares: &[i64; 4], w: &Work)
     requires room { reduction_count ≤ length out.old }
-    requires shape { Shape (answer_of g.now w.now) }
-    ensures { out.new ≡ sets out.old 0 (layout (answer_of g.now w.now)) }
+    requires shape { Shape (lent_in (Ok squares.now) w.now) }
+    ensures { out.new ≡ sets out.old 0 (layout (lent_in (Ok squares.now) w.now)) }
 {
     put_head(out, 0, 0, w.passes as i64);
-    put_run(out, 3, &gram_matrix::diagonal(g));
+    put_run(out, 3, squares);
     put_rows(out, VECTORS_AT, &w.vectors);
     put_rows(out, U_AT, &w.u);
     put_rows(out, V_AT, &w.v);
 }
 
 // Reduces d vectors of m coordinates each. The answer is written to the first numbers of `out`; one with too few stays as it is. It is written from
-// the lent places where the steps leave it: handed out in a Result the arrays are copied three times more.
+// the lent place where the steps leave it: handed out in a Result the arrays are copied three times more.
 pub fn reduce(numbers: &[i64], d: usize, m: usize, out: &mut [i64]) -> bool
     ensures value { result ≡ leb reduction_count (length out.old) }
     ensures out_after { out.new ≡ written out.old reduction_count (layout (reduction_of (record { numbers = numbers.entry.now; d = d; m = m; target = [] }))) }
@@ -63,10 +63,9 @@ pub fn reduce(numbers: &[i64], d: usize, m: usize, out: &mut [i64]) -> bool
     if out.len() < REDUCTION {
         return false;
     }
-    let mut g = [[0; 4]; 4];
     let mut w = engine::nothing();
-    match engine::reduced(numbers, d, m, &mut g, &mut w) {
-        Ok(()) => put_reduction(out, &g, &w),
+    match engine::reduced(numbers, d, m, &mut w) {
+        Ok(squares) => put_reduction(out, &squares, &w),
         Err(e) => put_refusal(out, REDUCTION, e),
     }
     true

@@ -1,5 +1,5 @@
 -- That the finished work is the definition's answer: what `reduce` gives.
-use Rattle.std.specs.Prelude.{Ok, Err, ◌≡◌, refl, List, [], ◌∷◌, map, ◌≢◌, ℕ, zero, suc, ◌+◌, ◌≤◌, ◌<◌, ℤ, pos, ◌*ℤ◌, length, get_or, take}
+use Rattle.std.specs.Prelude.{Ok, ◌≡◌, refl, List, [], ◌∷◌, map, ◌≢◌, ℕ, zero, suc, ◌+◌, ◌≤◌, ◌<◌, ℤ, pos, ◌*ℤ◌, length, get_or, take}
 use Rattle.std.proofs.Math.Path.{sym, ap}
 use Rattle.std.proofs.Common.{◌∙◌, subst, arith, length-take, get_or-take}
 use Rattle.std.proofs.lemmas.Simd.{map-map}
@@ -8,7 +8,6 @@ use Rattle.std.proofs.Math.Decide.{dec_lt}
 use Rattle.std.specs.Int.Signed.{lt_z_yes}
 use Rattle.std.proofs.lemmas.List.{length-map}
 use Rattle.std.proofs.Math.ListN.{get_or-eq_default}
-use Rattle.std.specs.declared.result.Result.{Result}
 use Rattle.integers.specs.Identity.{by_ring, reads}
 use Rattle.integers.specs.Size.{Within}
 use Rattle.integers.specs.FilledLaws.{length-filled}
@@ -31,8 +30,8 @@ use Rattle.gram_matrix.specs.Lose.{row-wide}
 use Rattle.nearest_steps.specs.Formed.{GramOf}
 use Rattle.gram_matrix.specs.Work.{diagonal_of}
 use Rattle.refusals.specs.declared.Refusal.{Refusal}
-use Rattle.refusals.specs.Number.{number_of, number_of-nonzero, refusal_in}
-use Rattle.engine.specs.Answers.{left_in}
+use Rattle.refusals.specs.Number.{number_of, number_of-nonzero}
+use Rattle.engine.specs.Answers.{lent_in}
 use Rattle.greedy_steps.specs.State.{blank, greedy_rows, greedy_passes}
 use Rattle.engine.specs.Laws.Few.{few-passes}
 use Rattle.greedy_steps.specs.Room.{small-rows}
@@ -48,7 +47,7 @@ pub record Array (i : Input) (d : ℕ) (b : List (List ℤ)) : Type 0 where
 
 -- a finished work and its Gram matrix as an answer
 unfoldable pub finished : List (List ℤ) → Work → Definition.Reduction
-finished g w = record { refusal = 0; place = 0; basis = w.vectors; u = w.u; v = w.v; squares = diagonal_of g; passes = w.passes }
+finished g w = lent_in (Ok (diagonal_of g)) w
 
 -- the diagonal of the Gram matrix of four vectors
 diagonal-is : {rows : List Row} {g b u v : List (List ℤ)} → Tied whole rows g b u v → length rows ≡ 4 → diagonal_of g ≡ map (λ r. N r.vector) rows
@@ -217,12 +216,6 @@ refused_with i (suc n) e h = refused-answer i n (sym e)
 
 pub refused-reduction : (i : Input) (e : Refusal) → number_of e ≡ first_of vector_checks i → no_reduction (number_of e) ≡ reduction_of i
 refused-reduction i e h = refused_with i (number_of e) h (number_of-nonzero e)
-
--- so what is refused or left is the answer
-pub left-answer : {T : Type 0} (i : Input) (r : Result T Refusal) (g : List (List ℤ)) (w : Work) → refusal_in r ≡ first_of vector_checks i → (refusal_in r ≡ 0 → Left i g w) → left_in r g w ≡ reduction_of i
-unfolding finished
-left-answer i (Ok t) g w h l = accepted-answer i (sym h) g w (l refl (sym h))
-left-answer i (Err e) g w h l = refused-reduction i e h
 
 -- the number in a reduction's answer is that of the checks
 pub refusal_is : (i : Input) → (reduction_of i).refusal ≡ first_of vector_checks i

@@ -10,7 +10,7 @@ pub returns : goal.returns
 returns c =
     answer-stored c.requires.shape c.args.out.now
     (c.put_head.ensures ∙ ap (λ n. sets c.args.out.now 0 (head 0 0 n)) (to_z_pos w64 (omega (arith, c.requires.shape.passes))))
-    (c.put_run.ensures ∙ ap (sets c.put_head.new.out 3) c.diagonal.ensures)
+    c.put_run.ensures
     c.put_rows.ensures
     c.put_rows-2.ensures
     c.put_rows-3.ensures

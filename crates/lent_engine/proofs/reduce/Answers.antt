@@ -5,6 +5,7 @@ use Rattle.std.proofs.lemmas.List.Edits.{sets}
 use Rattle.lattices.specs.Refusal.{Input}
 use Rattle.lattices.specs.Answer.{reduction_of}
 use Rattle.refusals.specs.Number.{number_of}
+use Rattle.engine.specs.Laws.Answer.{refused-reduction, refusal_is}
 use Rattle.lent_numbers.specs.Layout.{reduction_count, layout}
 use Rattle.lent_numbers.specs.Runs.{written-long}
 use Rattle.lent_engine.specs.Shape.{Shape, shape, length-layout, refused-layout}
@@ -25,5 +26,5 @@ pub returns-in-Err-clause-out_after : goal.returns-in-Err-clause-out_after
 returns-in-Err-clause-out_after c =
     let i : Input = record { numbers = c.args.numbers.now; d = c.args.d; m = c.args.m; target = [] } in
     let l = c.args.out.now in
-    c.put_refusal.ensures ∙ ap (sets l 0) (sym (refused-layout (number_of c.in-Err.e))) ∙ ap (λ a. sets l 0 (layout a)) c.in-Err.ensures
+    c.put_refusal.ensures ∙ ap (sets l 0) (sym (refused-layout (number_of c.in-Err.e))) ∙ ap (λ a. sets l 0 (layout a)) (refused-reduction i c.in-Err.e (ap (λ a. a.refusal) c.in-Err.ensures ∙ refusal_is i))
     ∙ written-long l reduction_count (layout (reduction_of i)) (length-layout (shape i)) (omega (arith, c.if-out-lt-REDUCTION.false))
