@@ -85,11 +85,16 @@ module _ (g : List (List ℤ)) (h : List ℤ) (i : ℕ) where
           let same : i ≡ j = omega (arith, e) in
           subst (λ k. Flat (nth (get_or g k []) k) (nth h k)) same (l.yes refl)
 
+  -- a place that is not level is one where more is left
+  pub steep-here : i < 4 → Level (nth (get_or g i []) i) (nth h i) false → {p : ℕ} → Some i ≡ Some p → (p < 4) × (¬ (Flat (nth (get_or g p []) p) (nth h p)))
+  steep-here k l {p} e = let same : i ≡ p = cc in subst (λ (p : ℕ). (p < 4) × (¬ (Flat (nth (get_or g p []) p) (nth h p)))) same (k, l.no refl)
+
+  -- and the first one where all before it are flat
   pub steep-at : i < 4 → AllFlat g h i → Level (nth (get_or g i []) i) (nth h i) false → Steep g h (Some i)
   steep-at k f l = record {
     flat = λ e. absurd cc;
     first = λ {p} e. let same : i ≡ p = cc in subst (λ (p : ℕ). AllFlat g h p) same f;
-    steep = λ {p} e. let same : i ≡ p = cc in subst (λ (p : ℕ). (p < 4) × (¬ (Flat (nth (get_or g p []) p) (nth h p)))) same (k, l.no refl);
+    steep = steep-here k l;
   }
 
   pub steep-none : 4 ≤ i → AllFlat g h i → Steep g h None
